@@ -1,0 +1,10 @@
+pub mod Falls
+pub mod Names
+pub mod Node
+pub mod NodeCode
+pub mod Normal
+pub mod Text
+pub mod Valid
+pub mod View
+pub mod Weight
+pub mod Words

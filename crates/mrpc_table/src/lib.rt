@@ -1,13 +1,22 @@
-// A library with one function.
+//! Tables, trees and their parts: what a proto3 schema says, and what a message has.
+//!
+//! A [`Table`] lists the messages, enums and methods of a schema; a [`Tree`] is one message, its
+//! fields by ascending number. A clause sees a list type of this crate as a plain list, and a
+//! `Tree` as the data of `specs/Node.antt`. It stands on no crate of the project. The layers above
+//! use one contract: a table and its canonical text determine each other, and `IsNormal` says
+//! which trees a message has.
 #![tactic(auto)]
 
-ghost use Rattle.std.specs.Prelude.{◌≡◌};
-ghost use Rattle.mrpc_table.specs.Echo.{echo_of};
+mod copied;
+mod memory;
+mod sequence;
+mod table;
+mod tree;
 
-// The `ensures` clause is the contract: what `echo` returns is `echo_of` of its argument, a definition
-// in `specs/Echo.antt`, which a caller's clause can cite too.
-pub fn echo(x: usize) -> usize
-    ensures { result ≡ echo_of x }
-{
-    x
-}
+pub use memory::Memory;
+pub use sequence::{Bytes, Name, Sequence};
+pub use table::{
+    ChoiceValues, Choices, Enums, Field, Fields, Kind, Label, Message, Messages, Method, Methods,
+    Names, Table,
+};
+pub use tree::{Entries, FieldValue, Numbered, Tree, Value, Values};

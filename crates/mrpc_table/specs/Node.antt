@@ -1,0 +1,40 @@
+-- A message as data: its fields in order, each a number with what the field has.
+use Rattle.std.specs.Prelude.{ℕ, List}
+
+mutual
+  pub data Node : Type 0 where
+    no_fields : Node
+    field : ℕ → Content → Node → Node
+
+  pub data Content : Type 0 where
+    one : Item → Content
+    many : Items → Content
+    pairs : Pairs → Content
+
+  pub data Item : Type 0 where
+    number : ℕ → Item
+    run : List ℕ → Item
+    node : Node → Item
+
+  pub data Items : Type 0 where
+    no_items : Items
+    item : Item → Items → Items
+
+  pub data Pairs : Type 0 where
+    no_pairs : Pairs
+    pair : Item → Item → Pairs → Pairs
+
+-- the fields, and one more at the end
+abbrev pub push_field : Node → ℕ → Content → Node
+push_field no_fields n c = field n c no_fields
+push_field (field m d t) n c = field m d (push_field t n c)
+
+-- the items, and one more at the end
+abbrev pub push_item : Items → Item → Items
+push_item no_items i = item i no_items
+push_item (item j js) i = item j (push_item js i)
+
+-- the pairs, and one more at the end
+abbrev pub push_pair : Pairs → Item → Item → Pairs
+push_pair no_pairs k v = pair k v no_pairs
+push_pair (pair l w ps) k v = pair l w (push_pair ps k v)

@@ -1,0 +1,133 @@
+-- Which trees a message has, and which of them are in normal form: numbers ascend, no default stands
+-- under implicit presence, no repeated field or map is empty, a map's keys ascend, a oneof has one
+-- member at most (Protocol Buffers, "Field Presence", "Maps", "Oneof"; the normal form is this project's own).
+use Rattle.std.specs.Prelude.{◌≡◌, ◌≢◌, ◌==◌, ℕ, ◌+◌, ◌<◌, ◌≤◌, max, List, [], All, Option, Some, None, option_map, find, slice_get, unwrap_or, cond}
+use Rattle.std.specs.Str.{IsUtf8}
+use Rattle.std.specs.Ordering.{nat_cmp}
+use Rattle.std.specs.declared.cmp.Ordering.TheVariants.{Less}
+use Rattle.std.specs.Cmp.Lexicographic.{slice_cmp}
+use Rattle.mrpc_table.specs.Node.{Node, no_fields, field, Content, one, many, pairs, Item, number, run, node, Items, no_items, item, Pairs, no_pairs, pair}
+use Rattle.mrpc_table.specs.Words.{IsWordForm, rank}
+use Rattle.mrpc_table.specs.declared.table.Kind.{Kind}
+use Rattle.mrpc_table.specs.declared.table.Kind.TheVariants.{Text, Octets, Message as OfMessage}
+use Rattle.mrpc_table.specs.declared.table.Label.{Label}
+use Rattle.mrpc_table.specs.declared.table.Label.TheVariants.{Plain, Optional, Repeated, Packed, Map, Member}
+use Rattle.mrpc_table.specs.declared.table.Field.{Field}
+use Rattle.mrpc_table.specs.declared.table.Message.{Message}
+use Rattle.mrpc_table.specs.declared.table.Table.{Table}
+
+-- the message at a place of the table, and the field of a number in a message
+abbrev pub fields_of : Table → ℕ → List Field
+fields_of T i = unwrap_or (option_map (λ m. m.fields) (slice_get T.messages i)) []
+
+abbrev pub field_at : List Field → ℕ → Option Field
+field_at fs n = find (λ f. f.number == n) fs
+
+-- a number of 0, or a run of nothing
+abbrev pub IsDefault : Item → Type 0
+IsDefault (number n) = n ≡ 0
+IsDefault (run bytes) = bytes ≡ []
+IsDefault (node t) = ⊥
+
+-- one key stands before another: as numbers of the kind, or by bytes
+abbrev pub IsBefore : Kind → Item → Item → Type 0
+IsBefore k (number m) (number n) = rank k m < rank k n
+IsBefore k (run a) (run b) = slice_cmp nat_cmp a b ≡ Less
+IsBefore k _ _ = ⊥
+
+-- the keys ascend, and no two are equal
+abbrev pub AscendFrom : Kind → Item → Pairs → Type 0
+AscendFrom k last no_pairs = Unit {0}
+AscendFrom k last (pair key value ps) = IsBefore k last key × AscendFrom k key ps
+
+abbrev pub KeysAscend : Kind → Pairs → Type 0
+KeysAscend k no_pairs = Unit {0}
+KeysAscend k (pair key value ps) = AscendFrom k key ps
+
+-- whether the field of this number is a member of the oneof at place o
+abbrev pub membership : Label → ℕ → ℕ
+membership (Member o) p = cond (o == p) 1 0
+membership _ p = 0
+
+-- how many fields of the tree are members of the oneof at place o
+abbrev pub members_in : List Field → ℕ → Node → ℕ
+members_in fs o no_fields = 0
+members_in fs o (field n c t) = unwrap_or (option_map (λ f. membership f.label o) (field_at fs n)) 0 + members_in fs o t
+
+abbrev pub OneMemberEach : List Field → Node → Type 0
+OneMemberEach fs t = (o : ℕ) → members_in fs o t ≤ 1
+
+-- one value stands under the label; under implicit presence it is no default
+abbrev pub TakesOne : Label → Item → Type 0
+TakesOne Plain i = IsDefault i → ⊥
+TakesOne Optional i = Unit {0}
+TakesOne (Member o) i = Unit {0}
+TakesOne _ i = ⊥
+
+-- a list of elements stands under the label
+abbrev pub TakesMany : Label → Type 0
+TakesMany Repeated = Unit {0}
+TakesMany Packed = Unit {0}
+TakesMany _ = ⊥
+
+-- a string is UTF-8, and bytes are any bytes
+abbrev pub IsRun : Kind → List ℕ → Type 0
+IsRun Text bytes = IsUtf8 bytes
+IsRun Octets bytes = All (λ b. b < 256) bytes
+IsRun _ bytes = ⊥
+
+abbrev mutual
+  -- fields of these, by numbers that ascend from above `last`
+  pub HasFields : Table → List Field → ℕ → Node → Type 0
+  HasFields T fs last no_fields = Unit {0}
+  HasFields T fs last (field n c t) = (last < n) × HasContent T fs n c × HasFields T fs n t
+
+  -- what the field of a number may have
+  pub HasContent : Table → List Field → ℕ → Content → Type 0
+  HasContent T fs n (one i) = (f : Field) × (field_at fs n ≡ Some f) × TakesOne f.label i × IsItem T f.kind i
+  HasContent T fs n (many is) = (f : Field) × (field_at fs n ≡ Some f) × TakesMany f.label × (is ≢ no_items) × AreItems T f.kind is
+  HasContent T fs n (pairs ps) = (f : Field) × (key : Kind) × (field_at fs n ≡ Some f) × (f.label ≡ Map key) × (ps ≢ no_pairs) × ArePairs T key f.kind ps × KeysAscend key ps
+
+  -- a value of the kind
+  pub IsItem : Table → Kind → Item → Type 0
+  IsItem T k (number n) = IsWordForm k n
+  IsItem T k (run bytes) = IsRun k bytes
+  IsItem T k (node t) = (i : ℕ) × (k ≡ OfMessage i) × HasFields T (fields_of T i) 0 t × OneMemberEach (fields_of T i) t
+
+  pub AreItems : Table → Kind → Items → Type 0
+  AreItems T k no_items = Unit {0}
+  AreItems T k (item i is) = IsItem T k i × AreItems T k is
+
+  pub ArePairs : Table → Kind → Kind → Pairs → Type 0
+  ArePairs T key k no_pairs = Unit {0}
+  ArePairs T key k (pair i j ps) = IsItem T key i × IsItem T k j × ArePairs T key k ps
+
+-- how deep messages nest, the root counting 1; a map's entry counts nothing
+abbrev mutual
+  pub depth : Node → ℕ
+  depth no_fields = 1
+  depth (field n c t) = max (content_depth c) (depth t)
+
+  pub content_depth : Content → ℕ
+  content_depth (one i) = item_depth i
+  content_depth (many is) = items_depth is
+  content_depth (pairs ps) = pairs_depth ps
+
+  pub item_depth : Item → ℕ
+  item_depth (number n) = 0
+  item_depth (run bytes) = 0
+  item_depth (node t) = 1 + depth t
+
+  pub items_depth : Items → ℕ
+  items_depth no_items = 0
+  items_depth (item i is) = max (item_depth i) (items_depth is)
+
+  pub pairs_depth : Pairs → ℕ
+  pairs_depth no_pairs = 0
+  pairs_depth (pair i j ps) = max (max (item_depth i) (item_depth j)) (pairs_depth ps)
+
+-- a tree in normal form of the message at a place of the table
+pub record IsNormal (T : Table) (msg : ℕ) (t : Node) : Type 0 where
+  pub fields : HasFields T (fields_of T msg) 0 t
+  pub oneofs : OneMemberEach (fields_of T msg) t
+  pub depth : depth t ≤ 32

@@ -1,0 +1,112 @@
+-- Which tables are valid: those that a canonical text within the limits can write.
+use Rattle.std.specs.Prelude.{◌≡◌, ◌≢◌, ◌⊎◌, ℕ, ℤ, pos, ◌+◌, ◌<◌, ◌≤◌, ◌^◌, Bool, List, [], ◌∷◌, ◌++◌, length, All, Contains, IsTrue, map, FitsSigned}
+use Rattle.std.specs.Int.{w32}
+use Rattle.std.specs.List.{AllByRecursion, count_by}
+use Rattle.std.specs.Ordering.{nat_cmp, int_cmp}
+use Rattle.std.specs.declared.cmp.Ordering.TheVariants.{Less, Equal}
+use Rattle.std.specs.Cmp.Lexicographic.{slice_cmp}
+use Rattle.mrpc_table.specs.Names.{IsName, IsFullName}
+use Rattle.mrpc_table.specs.Words.{is_numeric, is_key}
+use Rattle.mrpc_table.specs.Text.{table_text}
+use Rattle.mrpc_table.specs.declared.table.Kind.{Kind}
+use Rattle.mrpc_table.specs.declared.table.Kind.TheVariants.{Message as OfMessage, Choice}
+use Rattle.mrpc_table.specs.declared.table.Label.{Label}
+use Rattle.mrpc_table.specs.declared.table.Label.TheVariants.{Plain, Optional, Repeated, Packed, Map, Member}
+use Rattle.mrpc_table.specs.declared.table.Field.{Field}
+use Rattle.mrpc_table.specs.declared.table.Message.{Message}
+use Rattle.mrpc_table.specs.declared.table.Choices.{Choices}
+use Rattle.mrpc_table.specs.declared.table.Method.{Method}
+use Rattle.mrpc_table.specs.declared.table.Table.{Table}
+
+-- each element stands in the relation to the next
+abbrev pub Ascends : {X : Type 0} → (X → X → Type 0) → List X → Type 0
+Ascends R [] = Unit {0}
+Ascends R (x ∷ []) = Unit {0}
+Ascends R (x ∷ y ∷ xs) = R x y × Ascends R (y ∷ xs)
+
+-- no element stands twice
+abbrev pub AreDistinct : {X : Type 0} → List X → Type 0
+AreDistinct [] = Unit {0}
+AreDistinct (x ∷ xs) = (Contains xs x → ⊥) × AreDistinct xs
+
+abbrev pub IsBelow : List ℕ → List ℕ → Type 0
+IsBelow a b = slice_cmp nat_cmp a b ≡ Less
+
+-- field numbers are 1 to 536870911, without 19000 to 19999 (language guide, "Assigning Field Numbers")
+pub record IsFieldNumber (n : ℕ) : Type 0 where
+  pub positive : 0 < n
+  pub small : n < 2 ^ 29
+  pub unreserved : (n < 19000) ⊎ (20000 ≤ n)
+
+-- the message or enum that a kind names is one of the table
+abbrev pub IsKnown : Table → Kind → Type 0
+IsKnown T (OfMessage i) = i < length T.messages
+IsKnown T (Choice i) = i < length T.enums
+IsKnown T _ = Unit {0}
+
+abbrev pub IsMessageKind : Kind → Type 0
+IsMessageKind (OfMessage i) = Unit {0}
+IsMessageKind _ = ⊥
+
+-- which labels go with a kind, in a message with this many oneofs
+abbrev pub GoesWith : ℕ → Label → Kind → Type 0
+GoesWith oneofs Plain k = Unit {0}
+GoesWith oneofs Optional k = IsMessageKind k → ⊥
+GoesWith oneofs Repeated k = Unit {0}
+GoesWith oneofs Packed k = IsTrue (is_numeric k)
+GoesWith oneofs (Map key) k = IsTrue (is_key key)
+GoesWith oneofs (Member o) k = o < oneofs
+
+pub record IsField (T : Table) (oneofs : ℕ) (f : Field) : Type 0 where
+  pub number : IsFieldNumber f.number
+  pub name : IsName f.name
+  pub label : GoesWith oneofs f.label f.kind
+  pub kind : IsKnown T f.kind
+
+-- oneofs are placed in the order of their least member numbers: read by ascending number, a member is
+-- of a oneof that was met before, or of the next one
+abbrev pub OneofsFollow : ℕ → ℕ → List Field → Type 0
+OneofsFollow met all [] = met ≡ all
+OneofsFollow met all (f ∷ fs) = elim f.label [ Member o ↦ ((o < met) × OneofsFollow met all fs) ⊎ ((o ≡ met) × OneofsFollow (met + 1) all fs) | _ ↦ OneofsFollow met all fs ]
+
+pub record IsMessage (T : Table) (m : Message) : Type 0 where
+  pub name : IsFullName m.name
+  pub few : length m.fields ≤ 128
+  pub fields : All (IsField T (length m.oneofs)) m.fields
+  pub ascend : Ascends (λ f g. f.number < g.number) m.fields
+  pub names : AreDistinct (map (λ f. f.name) m.fields)
+  pub oneofs : All IsName m.oneofs
+  pub oneof_names : AreDistinct m.oneofs
+  pub oneof_order : OneofsFollow 0 (length m.oneofs) m.fields
+
+-- by ascending number, then name
+abbrev pub IsValueBelow : ℤ × List ℕ → ℤ × List ℕ → Type 0
+IsValueBelow v w = (int_cmp v.0 w.0 ≡ Less) ⊎ ((v.0 ≡ w.0) × IsBelow v.1 w.1)
+
+pub record IsEnum (e : Choices) : Type 0 where
+  pub name : IsFullName e.name
+  pub few : length e.values ≤ 1024
+  pub numbers : All (λ v. FitsSigned w32 v.0) e.values
+  pub each_name : All (λ v. IsName v.1) e.values
+  pub ascend : Ascends IsValueBelow e.values
+  pub names : AreDistinct (map (λ v. v.1) e.values)
+  pub zero : Contains (map (λ v. v.0) e.values) (pos 0)
+
+pub record IsMethod (T : Table) (m : Method) : Type 0 where
+  pub service : IsFullName m.service
+  pub name : IsName m.name
+  pub input : m.input < length T.messages
+  pub output : m.output < length T.messages
+
+pub record IsValid (T : Table) : Type 0 where
+  pub few_messages : length T.messages ≤ 256
+  pub few_enums : length T.enums ≤ 256
+  pub few_methods : length T.methods ≤ 256
+  pub enums : All IsEnum T.enums
+  pub enums_ascend : Ascends (λ e f. IsBelow e.name f.name) T.enums
+  pub messages : All (IsMessage T) T.messages
+  pub messages_ascend : Ascends (λ m n. IsBelow m.name n.name) T.messages
+  pub types : AreDistinct (map (λ e. e.name) T.enums ++ map (λ m. m.name) T.messages)
+  pub methods : All (IsMethod T) T.methods
+  pub method_names : AreDistinct {X = List ℕ × List ℕ} (map (λ m. (m.service, m.name)) T.methods)
+  pub short : length (table_text T) ≤ 65536

@@ -1,0 +1,119 @@
+//! A list that is kept in a vector. Clauses see the list, and neither room nor place.
+
+ghost use Rattle.std.specs.Prelude.{◌≡◌, ◌≤◌, ◌<◌, ◌+◌, ◌↔◌, ℕ, List, [], ◌∷◌, ◌++◌, length, IsTrue, OnOk, OnErr, IfOk};
+
+use crate::memory::Memory;
+use std::alloc::Global;
+use std::marker::Model;
+
+/// A list of items, over a vector.
+#[derive(Drop, Debug)]
+pub struct Sequence<T> {
+    items: Vec<T>,
+}
+
+impl<T> Model for Sequence<T> {
+    ghost Value = { List T };
+
+    ghost view = { λ s. s.items.items };
+}
+
+/// A list of bytes.
+pub type Bytes = Sequence<u8>;
+
+/// The bytes of a name: a letter or `_`, then letters, digits and `_`; in a full name, such names
+/// joined by dots.
+pub type Name = Sequence<u8>;
+
+impl<T> Sequence<T> {
+    /// The list without an item. It takes no memory.
+    pub fn new(alloc: Global) -> Sequence<T>
+        ensures { result ≡ [] }
+    {
+        Sequence {
+            items: Vec::new(alloc),
+        }
+    }
+
+    /// A list without an item, with room for `room` items.
+    pub fn with_room(alloc: Global, room: usize) -> Result<Sequence<T>, Memory>
+        ensures { IfOk result (λ s. s ≡ []) }
+    {
+        Ok(Sequence {
+            items: Vec::with_capacity(alloc, room)?,
+        })
+    }
+
+    /// The list that the vector has. It takes no memory.
+    pub fn from_vec(items: Vec<T>) -> Sequence<T>
+        ensures { result ≡ items.items }
+    {
+        Sequence { items }
+    }
+
+    /// The vector of the items. It takes no memory.
+    pub fn into_vec(self) -> Vec<T>
+        ensures { result.items ≡ self }
+    {
+        self.items
+    }
+
+    /// The items as a slice.
+    pub fn as_slice(&self) -> &[T]
+        ensures { result.now ≡ self.now }
+    {
+        self.items.as_slice()
+    }
+
+    /// The number of items.
+    pub fn len(&self) -> usize
+        ensures { result ≡ length self.now }
+    {
+        self.items.len()
+    }
+
+    /// Whether there is no item.
+    pub fn is_empty(&self) -> bool
+        ensures { IsTrue result ↔ (self.now ≡ []) }
+    {
+        self.items.is_empty()
+    }
+
+    /// Appends an item. Without memory the list stays, and the item is dropped.
+    pub fn push(&mut self, item: T) -> Result<(), Memory>
+    where
+        T: Drop,
+        ensures ok { OnOk result (self.new ≡ self.old ++ item ∷ []) }
+        ensures err { OnErr result (self.new ≡ self.old) }
+    {
+        self.items.push(item)?;
+        Ok(())
+    }
+}
+
+impl Sequence<u8> {
+    /// A list of the bytes of a slice.
+    pub fn from_slice(alloc: Global, bytes: &[u8]) -> Result<Sequence<u8>, Memory>
+        ensures { IfOk result (λ s. s ≡ bytes.now) }
+    {
+        Ok(Sequence {
+            items: Vec::from_slice(alloc, bytes)?,
+        })
+    }
+
+    /// An equal list.
+    pub fn copied(&self, alloc: Global) -> Result<Sequence<u8>, Memory>
+        ensures { IfOk result (λ s. s ≡ self.now) }
+    {
+        Sequence::from_slice(alloc, self.as_slice())
+    }
+
+    /// Appends the bytes of a slice. Without memory the list stays.
+    pub fn append(&mut self, bytes: &[u8]) -> Result<(), Memory>
+        ensures ok { OnOk result (self.new ≡ self.old ++ bytes.now) }
+        ensures err { OnErr result (self.new ≡ self.old) }
+    {
+        self.items.extend_from_slice(bytes)?;
+        Ok(())
+    }
+}

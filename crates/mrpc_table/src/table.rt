@@ -1,0 +1,124 @@
+//! What a schema says: messages with their fields, enums with their values, methods of services.
+//! Messages and enums are named by their place in the table, from 0.
+
+use crate::sequence::{Name, Sequence};
+
+/// The kind of a value. A `Message` or a `Choice` names a message or an enum of the table.
+#[derive(Clone, Copy, Debug, PartialEq, Eq)]
+pub enum Kind {
+    /// `int32`: a varint, sign extended to 64 bits.
+    Int32,
+    /// `int64`: a varint.
+    Int64,
+    /// `uint32`: a varint.
+    Uint32,
+    /// `uint64`: a varint.
+    Uint64,
+    /// `sint32`: a varint, ZigZag.
+    Sint32,
+    /// `sint64`: a varint, ZigZag.
+    Sint64,
+    /// `bool`: a varint, 0 or 1.
+    Bool,
+    /// `fixed32`: four bytes, little-endian.
+    Fixed32,
+    /// `fixed64`: eight bytes, little-endian.
+    Fixed64,
+    /// `sfixed32`: four bytes, little-endian.
+    Sfixed32,
+    /// `sfixed64`: eight bytes, little-endian.
+    Sfixed64,
+    /// `float`: four bytes, little-endian, whose bits are never compared.
+    Float,
+    /// `double`: eight bytes, little-endian, whose bits are never compared.
+    Double,
+    /// `string`: UTF-8 text behind its length.
+    Text,
+    /// `bytes`: bytes behind their length.
+    Octets,
+    /// A message behind its length, by its place in the table.
+    Message(u32),
+    /// An enum by its place in the table: a varint, sign extended to 64 bits.
+    Choice(u32),
+}
+
+/// How often a field stands, and how it is written.
+#[derive(Clone, Copy, Debug, PartialEq, Eq)]
+pub enum Label {
+    /// Once, with implicit presence; a message is there or not.
+    Plain,
+    /// Once, with explicit presence.
+    Optional,
+    /// Any number of times, one record for each element.
+    Repeated,
+    /// Any number of times, all elements in one record.
+    Packed,
+    /// A map with keys of this kind; the field's own kind is that of its values.
+    Map(Kind),
+    /// A member of the oneof at this place of its message.
+    Member(u32),
+}
+
+/// A field of a message.
+#[derive(Debug, Drop)]
+pub struct Field {
+    /// 1 to 536870911, and not 19000 to 19999.
+    pub number: u32,
+    pub name: Name,
+    pub kind: Kind,
+    pub label: Label,
+}
+
+/// The fields of a message, by ascending number.
+pub type Fields = Sequence<Field>;
+
+/// Names, as those of the oneofs of a message.
+pub type Names = Sequence<Name>;
+
+/// A message of the schema. Its oneofs stand in the order of their least member numbers.
+#[derive(Debug, Drop)]
+pub struct Message {
+    /// The full name.
+    pub name: Name,
+    pub fields: Fields,
+    pub oneofs: Names,
+}
+
+/// The values of an enum with their names, by ascending number, then name.
+pub type ChoiceValues = Sequence<(i32, Name)>;
+
+/// An enum of the schema.
+#[derive(Debug, Drop)]
+pub struct Choices {
+    /// The full name.
+    pub name: Name,
+    pub values: ChoiceValues,
+}
+
+/// A method of a service. Its input and output are places of messages in the table.
+#[derive(Debug, Drop)]
+pub struct Method {
+    /// The full name of its service.
+    pub service: Name,
+    pub name: Name,
+    pub input: u32,
+    pub output: u32,
+}
+
+/// Messages, by ascending full name.
+pub type Messages = Sequence<Message>;
+
+/// Enums, by ascending full name.
+pub type Enums = Sequence<Choices>;
+
+/// Methods, by their index.
+pub type Methods = Sequence<Method>;
+
+/// What a schema says. `IsValid` of `specs/Valid.antt` says when it is one that a canonical text
+/// can write.
+#[derive(Debug, Drop)]
+pub struct Table {
+    pub messages: Messages,
+    pub enums: Enums,
+    pub methods: Methods,
+}

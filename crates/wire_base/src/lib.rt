@@ -1,0 +1,2 @@
+//! Varints and records of the Protocol Buffers wire format, and the encoding of a tree.
+#![tactic(auto)]
