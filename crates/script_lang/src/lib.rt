@@ -1,0 +1,10 @@
+//! Replay scripts: the lines of a script as data, and the reader that finds them in a text or names
+//! the first line at fault.
+//!
+//! A script may be thin for now: one message of plain `uint64` fields, one method, one connection,
+//! and `store`, `submit` and `drain` lines. `specs/Thin.antt` is its grammar.
+#![tactic(auto)]
+
+mod script;
+
+pub use script::{Line, Lines, Script};
