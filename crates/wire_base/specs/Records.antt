@@ -1,0 +1,117 @@
+-- The records of a byte string (Protocol Buffers, "Encoding": "Base 128 Varints", "Message Structure"),
+-- and the first place where no record stands.
+use Rattle.std.specs.Prelude.{◌≡◌, ◌≢◌, ℕ, ◌+◌, ◌*◌, ◌/◌, ◌%◌, ◌^◌, ◌<◌, ◌≤◌, ◌⊎◌, List, [], ◌∷◌, length, drop, All, slice_range}
+use Rattle.std.specs.Int.{w32, w64, from_le_bytes}
+use Rattle.wire_base.specs.Encoding.{wire_varint, wire_i64, wire_len, wire_i32}
+use Rattle.wire_base.specs.declared.records.Payload.{Payload}
+use Rattle.wire_base.specs.declared.records.Payload.TheVariants.{Varint, I64, I32, Len}
+use Rattle.wire_base.specs.declared.records.Record.{Record}
+use Rattle.wire_base.specs.declared.fault.WireReason.{WireReason}
+use Rattle.wire_base.specs.declared.fault.WireReason.TheVariants.{Varint as NoVarint, TagRange, NumberZero, WireType, Short}
+use Rattle.wire_base.specs.declared.fault.WireFault.{WireFault}
+
+-- the top bit is set on all bytes but the last
+abbrev pub HasVarintForm : List ℕ → Type 0
+HasVarintForm [] = ⊥
+HasVarintForm (b ∷ []) = b < 128
+HasVarintForm (b ∷ c ∷ bs) = (128 ≤ b) × HasVarintForm (c ∷ bs)
+
+-- the sum of the groups of seven bits, the low group first
+abbrev pub group_sum : List ℕ → ℕ
+group_sum [] = 0
+group_sum (b ∷ bs) = b % 128 + 128 * group_sum bs
+
+-- a varint of one to ten bytes; bits above 64 are dropped
+pub record IsVarint (bytes : List ℕ) (v : ℕ) : Type 0 where
+  pub form : HasVarintForm bytes
+  pub short : length bytes ≤ 10
+  pub value : v ≡ group_sum bytes % 2 ^ 64
+
+-- a varint stands at this place, and the next place is behind it
+pub record VarintAt (bytes : List ℕ) (at v next : ℕ) : Type 0 where
+  pub within : next ≤ length bytes
+  pub spelled : IsVarint (slice_range bytes at next) v
+
+-- ten bytes with the top bit set stand at this place
+pub record TooLongAt (bytes : List ℕ) (at : ℕ) : Type 0 where
+  pub ten : at + 10 ≤ length bytes
+  pub top : All (λ b. 128 ≤ b) (slice_range bytes at (at + 10))
+
+-- the bytes end after fewer than ten bytes with the top bit set
+pub record EndsAt (bytes : List ℕ) (at : ℕ) : Type 0 where
+  pub fewer : length bytes < at + 10
+  pub top : All (λ b. 128 ≤ b) (drop at bytes)
+
+-- why no varint stands at this place
+abbrev pub NoVarintAt : List ℕ → ℕ → WireReason → Type 0
+NoVarintAt bytes at NoVarint = TooLongAt bytes at
+NoVarintAt bytes at Short = EndsAt bytes at
+NoVarintAt bytes at TagRange = ⊥
+NoVarintAt bytes at NumberZero = ⊥
+NoVarintAt bytes at WireType = ⊥
+
+-- a payload of the wire type stands at this place, and the next place is behind it
+abbrev pub PayloadAt : List ℕ → ℕ → ℕ → Payload → ℕ → Type 0
+PayloadAt bytes at wire_type (Varint v) next = (wire_type ≡ wire_varint) × VarintAt bytes at v next
+PayloadAt bytes at wire_type (I64 v) next = (wire_type ≡ wire_i64) × (next ≡ at + 8) × (next ≤ length bytes) × (v ≡ from_le_bytes w64 (slice_range bytes at next))
+PayloadAt bytes at wire_type (I32 v) next = (wire_type ≡ wire_i32) × (next ≡ at + 4) × (next ≤ length bytes) × (v ≡ from_le_bytes w32 (slice_range bytes at next))
+PayloadAt bytes at wire_type (Len start end) next = (wire_type ≡ wire_len) × (n : ℕ) × VarintAt bytes at n start × (end ≡ start + n) × (end ≤ length bytes) × (next ≡ end)
+
+-- the bytes of a payload are within the first bytes of this number
+abbrev pub IsWithin : ℕ → Payload → Type 0
+IsWithin len (Len start end) = (start ≤ end) × (end ≤ len)
+IsWithin len (Varint v) = Unit {0}
+IsWithin len (I64 v) = Unit {0}
+IsWithin len (I32 v) = Unit {0}
+
+-- a tag with a number stands at this place
+pub record TagAt (bytes : List ℕ) (at tag start : ℕ) : Type 0 where
+  pub stands : VarintAt bytes at tag start
+  pub small : tag < 2 ^ 32
+  pub numbered : tag / 8 ≢ 0
+
+-- a record stands at this place: a tag, and a payload of the tag's wire type behind it
+pub record RecordAt (bytes : List ℕ) (at : ℕ) (r : Record) : Type 0 where
+  pub tag : ℕ
+  pub start : ℕ
+  pub tagged : TagAt bytes at tag start
+  pub number : r.number ≡ tag / 8
+  pub payload : PayloadAt bytes start (tag % 8) r.payload r.next
+
+-- the records, one behind another, are the bytes from this place to the end
+abbrev pub RecordsFrom : List ℕ → ℕ → List Record → Type 0
+RecordsFrom bytes at [] = at ≡ length bytes
+RecordsFrom bytes at (r ∷ rs) = RecordAt bytes at r × RecordsFrom bytes r.next rs
+
+-- the spellings of the records, joined, are the bytes
+abbrev pub AreRecords : List ℕ → List Record → Type 0
+AreRecords bytes rs = RecordsFrom bytes 0 rs
+
+abbrev pub IsWireType : ℕ → Type 0
+IsWireType w = (w ≡ wire_varint) ⊎ (w ≡ wire_i64) ⊎ (w ≡ wire_len) ⊎ (w ≡ wire_i32)
+
+-- why no payload of the wire type stands at this place
+pub data NoPayloadAt (bytes : List ℕ) (at wire_type : ℕ) (reason : WireReason) : Type 0 where
+  no_varint : wire_type ≡ wire_varint → NoVarintAt bytes at reason → NoPayloadAt bytes at wire_type reason
+  no_length : wire_type ≡ wire_len → NoVarintAt bytes at reason → NoPayloadAt bytes at wire_type reason
+  short_i64 : wire_type ≡ wire_i64 → reason ≡ Short → length bytes < at + 8 → NoPayloadAt bytes at wire_type reason
+  short_i32 : wire_type ≡ wire_i32 → reason ≡ Short → length bytes < at + 4 → NoPayloadAt bytes at wire_type reason
+  short_len : (n start : ℕ) → wire_type ≡ wire_len → reason ≡ Short → VarintAt bytes at n start → length bytes < start + n → NoPayloadAt bytes at wire_type reason
+
+-- why no record stands at this place, and which place is at fault: that of the tag, or of the payload
+pub data FaultAt (bytes : List ℕ) (at : ℕ) (f : WireFault) : Type 0 where
+  no_tag : f.place ≡ at → NoVarintAt bytes at f.reason → FaultAt bytes at f
+  tag_range : (tag start : ℕ) → f.place ≡ at → f.reason ≡ TagRange → VarintAt bytes at tag start → 2 ^ 32 ≤ tag → FaultAt bytes at f
+  number_zero : (tag start : ℕ) → f.place ≡ at → f.reason ≡ NumberZero → VarintAt bytes at tag start → tag < 2 ^ 32 → tag / 8 ≡ 0 → FaultAt bytes at f
+  wire_type : (tag start : ℕ) → f.place ≡ at → f.reason ≡ WireType → TagAt bytes at tag start → (IsWireType (tag % 8) → ⊥) → FaultAt bytes at f
+  no_payload : (tag start : ℕ) → f.place ≡ start → TagAt bytes at tag start → NoPayloadAt bytes start (tag % 8) f.reason → FaultAt bytes at f
+
+-- records stand one behind another from this place on, and no record stands at the place behind them
+abbrev pub FaultFrom : List ℕ → ℕ → List Record → WireFault → Type 0
+FaultFrom bytes at [] f = (at < length bytes) × FaultAt bytes at f
+FaultFrom bytes at (r ∷ rs) f = RecordAt bytes at r × FaultFrom bytes r.next rs f
+
+-- the first fault of a byte string that isn't a list of records
+pub record HasFirstFault (bytes : List ℕ) (f : WireFault) : Type 0 where
+  pub before : List Record
+  pub first : FaultFrom bytes 0 before f

@@ -1,0 +1,159 @@
+//! Records: a tag, and a payload of the tag's wire type (Protocol Buffers, "Encoding", "Message
+//! Structure").
+
+ghost use Rattle.std.specs.Prelude.{◌≡◌, ℕ, ◌+◌, ◌%◌, ◌<◌, ◌≤◌, length, IfOk, IfErr};
+ghost use Rattle.wire_base.specs.Records.{RecordAt, FaultAt, PayloadAt, NoPayloadAt, TagAt, IsWireType, IsWithin};
+ghost use Rattle.wire_base.specs.declared.records.Record.{Record};
+ghost use Rattle.wire_base.specs.declared.fault.WireFault.{WireFault};
+
+use crate::fault::{WireFault, WireReason};
+use crate::varint::read_varint;
+
+/// What a record has behind its tag.
+#[derive(Clone, Copy, Debug, PartialEq, Eq)]
+pub enum Payload {
+    /// Wire type 0: the value of a varint.
+    Varint(u64),
+    /// Wire type 1: eight bytes, little-endian.
+    I64(u64),
+    /// Wire type 5: four bytes, little-endian.
+    I32(u32),
+    /// Wire type 2: the bytes from `start` to just before `end`, without their length.
+    Len { start: usize, end: usize },
+}
+
+/// A record of a byte string.
+#[derive(Clone, Copy, Debug, PartialEq, Eq)]
+pub struct Record {
+    /// The field number, 1 to 536870911.
+    pub number: u32,
+    pub payload: Payload,
+    /// The place behind the record.
+    pub next: usize,
+}
+
+/// The record at the place `at`.
+///
+/// The refusals, in this order: the tag is no varint, its value is 2^32 or more, its number is 0,
+/// its wire type is none of 0, 1, 2 and 5, and the payload isn't whole. The fault's place is the
+/// tag's first byte, and for a payload the payload's first byte, which for bytes behind a length is
+/// the first byte of the length.
+pub fn read_record(bytes: &[u8], at: usize) -> Result<Record, WireFault>
+    requires { at ≤ length bytes.now }
+    ensures found { IfOk result (λ r. RecordAt bytes.now at r) }
+    ensures fault { IfErr result (λ f. FaultAt bytes.now at f) }
+    ensures ahead { IfOk result (λ r. at < r.next) }
+    ensures within { IfOk result (λ r. r.next ≤ length bytes.now) }
+    ensures span { IfOk result (λ r. IsWithin (length bytes.now) r.payload) }
+
+    // Each record is found, and each fault is told.
+    ensures each { (r : Record) → RecordAt bytes.now at r → result ≡ Ok r }
+    ensures each_fault { (f : WireFault) → FaultAt bytes.now at f → result ≡ Err f }
+{
+    let (tag, start) = read_tag(bytes, at)?;
+    let (payload, next) = read_payload(bytes, start, tag % 8)?;
+    Ok(Record {
+        number: tag / 8,
+        payload,
+        next,
+    })
+}
+
+/// The tag at a place, and the place behind it.
+fn read_tag(bytes: &[u8], at: usize) -> Result<(u32, usize), WireFault>
+    requires { at ≤ length bytes.now }
+    ensures found { IfOk result (λ t. TagAt bytes.now at t.0 t.1) }
+    ensures known { IfOk result (λ t. IsWireType (t.0 % 8)) }
+    ensures fault { IfErr result (λ f. FaultAt bytes.now at f) }
+{
+    let (tag, start) = read_varint(bytes, at)?;
+    if tag >= 1 << 32 {
+        return Err(WireFault {
+            reason: WireReason::TagRange,
+            place: at,
+        });
+    }
+    if tag < 8 {
+        return Err(WireFault {
+            reason: WireReason::NumberZero,
+            place: at,
+        });
+    }
+    match tag % 8 {
+        0 | 1 | 2 | 5 => Ok((tag as u32, start)),
+        _ => Err(WireFault {
+            reason: WireReason::WireType,
+            place: at,
+        }),
+    }
+}
+
+/// The payload of a wire type at a place, and the place behind it.
+fn read_payload(bytes: &[u8], start: usize, wire_type: u32) -> Result<(Payload, usize), WireFault>
+    requires place { start ≤ length bytes.now }
+    requires known { IsWireType wire_type }
+    ensures found { IfOk result (λ p. PayloadAt bytes.now start wire_type p.0 p.1) }
+    ensures fault { IfErr result
+        (λ f. (f.place ≡ start) × NoPayloadAt bytes.now start wire_type f.reason) }
+{
+    match wire_type {
+        0 => varint_payload(bytes, start),
+        1 => i64_payload(bytes, start),
+        2 => len_payload(bytes, start),
+        _ => i32_payload(bytes, start),
+    }
+}
+
+fn varint_payload(bytes: &[u8], start: usize) -> Result<(Payload, usize), WireFault>
+    requires { start ≤ length bytes.now }
+    ensures found { IfOk result (λ p. PayloadAt bytes.now start 0 p.0 p.1) }
+    ensures fault { IfErr result (λ f. (f.place ≡ start) × NoPayloadAt bytes.now start 0 f.reason) }
+{
+    let (v, next) = read_varint(bytes, start)?;
+    Ok((Payload::Varint(v), next))
+}
+
+fn i64_payload(bytes: &[u8], start: usize) -> Result<(Payload, usize), WireFault>
+    requires { start ≤ length bytes.now }
+    ensures found { IfOk result (λ p. PayloadAt bytes.now start 1 p.0 p.1) }
+    ensures fault { IfErr result (λ f. (f.place ≡ start) × NoPayloadAt bytes.now start 1 f.reason) }
+{
+    match bytes[start..].first_chunk::<8>() {
+        Some(chunk) => Ok((Payload::I64(u64::from_le_bytes(*chunk)), start + 8)),
+        None => Err(WireFault {
+            reason: WireReason::Short,
+            place: start,
+        }),
+    }
+}
+
+fn i32_payload(bytes: &[u8], start: usize) -> Result<(Payload, usize), WireFault>
+    requires { start ≤ length bytes.now }
+    ensures found { IfOk result (λ p. PayloadAt bytes.now start 5 p.0 p.1) }
+    ensures fault { IfErr result (λ f. (f.place ≡ start) × NoPayloadAt bytes.now start 5 f.reason) }
+{
+    match bytes[start..].first_chunk::<4>() {
+        Some(chunk) => Ok((Payload::I32(u32::from_le_bytes(*chunk)), start + 4)),
+        None => Err(WireFault {
+            reason: WireReason::Short,
+            place: start,
+        }),
+    }
+}
+
+fn len_payload(bytes: &[u8], start: usize) -> Result<(Payload, usize), WireFault>
+    requires { start ≤ length bytes.now }
+    ensures found { IfOk result (λ p. PayloadAt bytes.now start 2 p.0 p.1) }
+    ensures fault { IfErr result (λ f. (f.place ≡ start) × NoPayloadAt bytes.now start 2 f.reason) }
+{
+    let (len, first) = read_varint(bytes, start)?;
+    if len > (bytes.len() - first) as u64 {
+        return Err(WireFault {
+            reason: WireReason::Short,
+            place: start,
+        });
+    }
+    let end = first + len as usize;
+    let payload = Payload::Len { start: first, end };
+    Ok((payload, end))
+}

@@ -1,0 +1,130 @@
+//! Varints: seven bits a byte, low group first, the top bit set on all bytes but the last
+//! (Protocol Buffers, "Encoding", "Base 128 Varints").
+
+ghost use Rattle.std.specs.Prelude.{◌≡◌, ℕ, ◌+◌, ◌<◌, ◌≤◌, ◌++◌, length, take, OnOk, OnErr, IfOk, IfErr};
+ghost use Rattle.wire_base.specs.Encoding.{varint};
+ghost use Rattle.wire_base.specs.Records.{VarintAt, NoVarintAt};
+ghost use Rattle.wire_base.specs.declared.fault.WireReason.{WireReason};
+
+use crate::fault::{WireFault, WireReason};
+use mrpc_table::{Bytes, Memory};
+use std::marker::Model;
+
+/// The most bytes that a varint has.
+pub const MAX_VARINT: usize = 10;
+
+/// The shortest varint of a number. Clauses see its bytes.
+#[derive(Debug, Drop)]
+pub struct Spelling {
+    bytes: [u8; 10],
+    len: usize,
+}
+
+impl Model for Spelling {
+    ghost use Rattle.std.specs.Prelude.{ℕ, List, ◌≤◌, take};
+
+    ghost Value = { List ℕ };
+
+    ghost view = { λ s. take s.len s.bytes };
+
+    ghost invariant = { λ s. s.len ≤ 10 };
+}
+
+impl Spelling {
+    /// The shortest varint of `v`.
+    pub fn of(v: u64) -> Spelling
+        ensures { result ≡ varint v }
+    {
+        let mut bytes = [0u8; 10];
+        let mut rest = v;
+        for place in 0..9 {
+            if rest < 128 {
+                bytes[place] = rest as u8;
+                return Spelling {
+                    bytes,
+                    len: place + 1,
+                };
+            }
+            bytes[place] = (rest % 128) as u8 + 128;
+            rest /= 128;
+        }
+        bytes[9] = rest as u8;
+        Spelling { bytes, len: 10 }
+    }
+
+    /// The bytes of the varint.
+    pub fn as_slice(&self) -> &[u8]
+        ensures { result.now ≡ self.now }
+    {
+        &self.bytes[..self.len]
+    }
+}
+
+/// Appends the shortest varint of `v`. Without memory the list stays.
+pub fn put_varint(out: &mut Bytes, v: u64) -> Result<(), Memory>
+    ensures ok { OnOk result (out.new ≡ out.old ++ varint v) }
+    ensures err { OnErr result (out.new ≡ out.old) }
+{
+    out.append(Spelling::of(v).as_slice())
+}
+
+/// How many bytes the shortest varint of `v` has, 1 to 10.
+pub fn varint_len(v: u64) -> usize
+    ensures { result ≡ length (varint v) }
+{
+    let mut rest = v;
+    for len in 1..10 {
+        if rest < 128 {
+            return len;
+        }
+        rest /= 128;
+    }
+    10
+}
+
+/// The value of the varint at the place `at`, and the place behind it.
+///
+/// Longer spellings than the shortest are read, and bits above 64 are dropped. The fault's place is
+/// `at`; its reason is `Varint` exactly where ten bytes with the top bit set stand there, and
+/// `Short` exactly where the bytes end after fewer than ten such bytes.
+pub fn read_varint(bytes: &[u8], at: usize) -> Result<(u64, usize), WireFault>
+    requires { at ≤ length bytes.now }
+    ensures found { IfOk result (λ r. VarintAt bytes.now at r.0 r.1) }
+    ensures fault { IfErr result (λ f. (f.place ≡ at) × NoVarintAt bytes.now at f.reason) }
+    ensures ahead { IfOk result (λ r. at < r.1) }
+    ensures within { IfOk result (λ r. r.1 ≤ length bytes.now) }
+
+    // Each varint is found, and each fault is told.
+    ensures each { (v next : ℕ) → VarintAt bytes.now at v next → result ≡ Ok (v, next) }
+    ensures each_fault { (reason : WireReason) → NoVarintAt bytes.now at reason
+        → result ≡ Err (record { reason = reason; place = at }) }
+{
+    match bytes.get(at) {
+        Some(&byte) if byte < 128 => Ok((u64::from(byte), at + 1)),
+        _ => read_long(bytes, at),
+    }
+}
+
+/// The same, a byte at a time.
+fn read_long(bytes: &[u8], at: usize) -> Result<(u64, usize), WireFault>
+    requires { at ≤ length bytes.now }
+    ensures found { IfOk result (λ r. VarintAt bytes.now at r.0 r.1) }
+    ensures fault { IfErr result (λ f. (f.place ≡ at) × NoVarintAt bytes.now at f.reason) }
+{
+    let end = bytes.len().min(at + MAX_VARINT);
+    let mut value = 0u64;
+    for place in at..end {
+        let byte = bytes[place];
+        let group = u64::from(byte % 128) << (7 * (place - at));
+        value = value.wrapping_add(group);
+        if byte < 128 {
+            return Ok((value, place + 1));
+        }
+    }
+    let reason = if end - at < MAX_VARINT {
+        WireReason::Short
+    } else {
+        WireReason::Varint
+    };
+    Err(WireFault { reason, place: at })
+}
