@@ -1,13 +1,27 @@
-// A library with one function.
+//! What lies outside the service, as traits: where bytes come from, where they go, and the words of a shared heap.
+//! It stands on no other crate. Each trait has an object in memory, for tests and for replays.
+//!
+//! Each trait of a device has a count of its faults, which never falls. A call answers `Failed` only where that
+//! count rose in that call, or stands at 2^64 - 1, its last value; any other answer leaves the count. So a layer
+//! above shows that it reports a fault only where there was one.
 #![tactic(auto)]
 
-ghost use Rattle.std.specs.Prelude.{◌≡◌};
-ghost use Rattle.mrpc_base.specs.Echo.{echo_of};
+mod calls;
+mod mem_sink;
+mod mem_source;
+mod plain_words;
+mod races;
+mod sink;
+mod source;
+mod stored_words;
+mod words;
 
-// The `ensures` clause is the contract: what `echo` returns is `echo_of` of its argument, a definition
-// in `specs/Echo.antt`, which a caller's clause can cite too.
-pub fn echo(x: usize) -> usize
-    ensures { result ≡ echo_of x }
-{
-    x
-}
+pub use mem_sink::MemSink;
+pub use mem_source::MemSource;
+pub use plain_words::PlainWords;
+pub use sink::{Put, Sink};
+pub use source::{Got, Source};
+pub use words::{Room, Words};
+
+#[cfg(test)]
+mod tests;

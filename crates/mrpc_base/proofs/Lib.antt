@@ -1,0 +1,9 @@
+pub mod Counts
+pub mod Due
+pub mod Known
+pub mod LastStore
+pub mod Listed
+pub mod Listing
+pub mod Order
+mod Rows
+pub mod Search

@@ -1,0 +1,8 @@
+-- The calls of a device in memory, and those that are to fail.
+use Rattle.std.specs.Prelude.{ℕ, List}
+
+-- how often a device in memory was called and failed, and the numbers of the calls that are to fail, counted from 1
+pub record CallCount : Type 0 where
+  pub failing : List ℕ
+  pub calls : ℕ
+  pub faults : ℕ

@@ -1,0 +1,10 @@
+-- Counts that rise by one and stand still at their last value.
+use Rattle.std.specs.Prelude.{◌<◌, ◌⊎◌, ℕ, ◌+◌, ◌-◌, ◌^◌, ◌≤◌, min}
+
+-- the count of a device's faults rose, or stands at its last value
+abbrev pub Rose : ℕ → ℕ → Type 0
+Rose old new = (old < new) ⊎ (2 ^ 64 - 1 ≤ new)
+
+-- a count after one more, or at its last value
+abbrev pub raised : ℕ → ℕ
+raised count = min (count + 1) (2 ^ 64 - 1)

@@ -1,0 +1,55 @@
+-- The words of a heap by the stores that were made to it, and stores that race with its reader's loads.
+use Rattle.std.specs.Prelude.{◌≡◌, ℕ, ◌==◌, nat_le, nat_lt, List, [], ◌∷◌, ◌++◌, Option, None, Some, filter, map, ⊤}
+
+-- the last of some numbers, or `otherwise` where there is none
+abbrev pub last_or : ℕ → List ℕ → ℕ
+last_or otherwise [] = otherwise
+last_or otherwise (x ∷ xs) = last_or x xs
+
+-- the value of the last store to a place in a list of stores, oldest first, or 0 where there is none;
+-- a store is a place and a value
+unfoldable pub word_after : List (ℕ × ℕ) → ℕ → ℕ
+word_after stores place = last_or 0 (map (λ store. store.1) (filter (λ store. store.0 == place) stores))
+
+-- known stores stay at the front, and more may come behind them
+abbrev pub Extends : Option (List (ℕ × ℕ)) → Option (List (ℕ × ℕ)) → Type 0
+Extends None new = ⊤
+Extends (Some xs) None = ⊥
+Extends (Some xs) (Some ys) = (more : List (ℕ × ℕ)) × (ys ≡ xs ++ more)
+
+-- a store that is made right before a load, which goes by its number in its submission, from 1
+pub record Race : Type 0 where
+  pub load : ℕ
+  pub place : ℕ
+  pub value : ℕ
+
+-- the stores of some races
+abbrev pub stores_of : List Race → List (ℕ × ℕ)
+stores_of races = map (λ race. (race.place, race.value)) races
+
+-- of some races, those of loads up to a number
+abbrev pub races_up_to : ℕ → List Race → List Race
+races_up_to number races = filter (λ race. nat_le race.load number) races
+
+-- of some races, those of loads past a number
+abbrev pub races_past : ℕ → List Race → List Race
+races_past number races = filter (λ race. nat_lt number race.load) races
+
+-- one more race: behind those of its load and of earlier loads, and before those of later loads
+abbrev pub races_with : List Race → Race → List Race
+races_with races race = races_up_to race.load races ++ race ∷ races_past race.load races
+
+-- a heap of plain words
+pub record Heap : Type 0 where
+  -- how many words it has
+  pub size : ℕ
+  -- every load and every store so far, each a place and a value, in order
+  pub loads : List (ℕ × ℕ)
+  pub stores : List (ℕ × ℕ)
+  -- how many loads there were since the last submission was finished
+  pub begun : ℕ
+  -- the races that wait, in the order in which they are made
+  pub races : List Race
+  -- for how many loads, and for how many stores, there is room
+  pub load_room : ℕ
+  pub store_room : ℕ

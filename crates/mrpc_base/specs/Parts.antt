@@ -1,0 +1,43 @@
+-- The parts of a heap of plain words: the words with their stores, the races that wait, and the room for both.
+use Rattle.std.specs.Prelude.{◌≡◌, ◌<◌, ℕ, ◌+◌, ◌≤◌, List, ◌∷◌, length, slice_index, All}
+use Rattle.mrpc_base.specs.Heap.{Race, word_after}
+
+-- the words of a heap, the stores that were made to it, and for how many more there is room
+pub record Stored : Type 0 where
+  pub size : ℕ
+  pub stores : List (ℕ × ℕ)
+  pub room : ℕ
+
+-- each word is what the stores made it
+abbrev pub StandsAfter : List (ℕ × ℕ) → List ℕ → Type 0
+StandsAfter stores words = (place : ℕ) → place < length words → slice_index words place ≡ word_after stores place
+
+-- the races that wait, in the order in which they are made, and the number of the next listing
+pub record Waiting : Type 0 where
+  pub races : List Race
+  pub listed : ℕ
+
+-- the race of an entry: a load and a number of listing, and a place and a value
+abbrev pub race_of : (ℕ × ℕ) × (ℕ × ℕ) → Race
+race_of entry = record { load = entry.0.0; place = entry.1.0; value = entry.1.1 }
+
+-- every number of listing is below the next
+abbrev pub AreListedBelow : ℕ → List ((ℕ × ℕ) × (ℕ × ℕ)) → Type 0
+AreListedBelow next entries = All (λ entry. entry.0.1 < next) entries
+
+-- the store of the first race, and the races behind it
+abbrev pub IsFirstRace : List Race → List Race → ℕ × ℕ → Type 0
+IsFirstRace old new store = (race : Race) × (old ≡ race ∷ new) × (store ≡ (race.place, race.value))
+
+-- the same of a race of a load up to a number
+abbrev pub IsFirstDue : ℕ → List Race → List Race → ℕ × ℕ → Type 0
+IsFirstDue number old new store = (race : Race) × (old ≡ race ∷ new) × (store ≡ (race.place, race.value)) × (race.load ≤ number)
+
+-- there is room for each load and each store that was promised it, the stores of waiting races among them
+pub record KeepsRoom (stored : Stored) (waiting : Waiting) (loads finished capacity load_room store_room : ℕ) : Type 0 where
+  pub begun : finished ≤ loads
+  pub for_loads : loads + load_room ≤ capacity
+  pub for_stores : length waiting.races + store_room ≤ stored.room
+  -- each race that was listed waits or is a store
+  pub listed : waiting.listed ≤ length stored.stores + length waiting.races
+  pub in_heap : All (λ race. race.place < stored.size) waiting.races

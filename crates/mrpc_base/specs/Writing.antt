@@ -1,0 +1,19 @@
+-- What a write answers, and what a sink in memory holds.
+use Rattle.std.specs.Prelude.{ℕ, List, ⊤}
+use Rattle.mrpc_base.specs.declared.sink.Put.{Put}
+use Rattle.mrpc_base.specs.declared.sink.Put.TheVariants.{Took, Failed}
+
+-- P holds of the number of bytes that a write took, if it took bytes
+abbrev pub OnTook : Put → (ℕ → Type 0) → Type 0
+OnTook (Took n) P = P n
+OnTook Failed P = ⊤
+
+-- a sink in memory
+pub record Writing : Type 0 where
+  -- the bytes that were written
+  pub written : List ℕ
+  -- the numbers of the writes that are to fail, counted from 1
+  pub failing : List ℕ
+  -- how many writes there were, and how many failed; each stands still at 2^64 - 1
+  pub calls : ℕ
+  pub faults : ℕ

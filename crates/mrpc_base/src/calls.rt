@@ -1,0 +1,73 @@
+// The calls of a device in memory: how many there were, which are to fail, and how many failed.
+ghost use Rattle.std.specs.Prelude.{◌≡◌, ◌≤◌, ◌↔◌, Contains, IsPermutation, IsTrue};
+ghost use Rattle.mrpc_base.specs.Faults.{raised};
+
+use std::marker::Model;
+
+#[derive(Debug, Drop)]
+pub(crate) struct Calls {
+    // In ascending order, so that a call is looked up by a binary search.
+    failing: Vec<u64>,
+    calls: u64,
+    faults: u64,
+}
+
+impl Model for Calls {
+    ghost use Rattle.std.specs.List.Sorted.{IsNonDecreasing};
+    ghost use Rattle.mrpc_base.specs.Calls.{CallCount};
+
+    ghost Value = { CallCount };
+
+    ghost view = { λ c. record { failing = c.failing.items; calls = c.calls; faults = c.faults } };
+
+    ghost invariant = { λ c. IsNonDecreasing c.failing.items };
+}
+
+impl Calls {
+    // No call yet. `failing` has the numbers of the calls that are to fail, in any order.
+    pub(crate) fn new(mut failing: Vec<u64>) -> Self
+        ensures failing { IsPermutation failing.items result.failing }
+        ensures calls { result.calls ≡ 0 }
+        ensures faults { result.faults ≡ 0 }
+    {
+        failing.sort_unstable();
+        Calls {
+            failing,
+            calls: 0,
+            faults: 0,
+        }
+    }
+
+    pub(crate) fn calls(&self) -> u64
+        ensures { result ≡ self.now.calls }
+    {
+        self.calls
+    }
+
+    pub(crate) fn faults(&self) -> u64
+        ensures { result ≡ self.now.faults }
+    {
+        self.faults
+    }
+
+    // Counts a call, and says whether it is to fail.
+    pub(crate) fn next(&mut self) -> bool
+        ensures calls { self.new.calls ≡ raised self.old.calls }
+        ensures fails { IsTrue result ↔ Contains self.old.failing self.new.calls }
+        ensures failing { self.new.failing ≡ self.old.failing }
+        ensures faults { self.new.faults ≡ self.old.faults }
+    {
+        self.calls = self.calls.saturating_add(1);
+        self.failing.binary_search(&self.calls).is_ok()
+    }
+
+    // Counts a call that failed.
+    pub(crate) fn fault(&mut self)
+        ensures faults { self.new.faults ≡ raised self.old.faults }
+        ensures never_falls { self.old.faults ≤ self.new.faults }
+        ensures calls { self.new.calls ≡ self.old.calls }
+        ensures failing { self.new.failing ≡ self.old.failing }
+    {
+        self.faults = self.faults.saturating_add(1);
+    }
+}

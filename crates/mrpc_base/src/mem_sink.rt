@@ -1,0 +1,97 @@
+// A sink in memory, whose writes can be made to fail.
+ghost use Rattle.std.specs.Prelude.{◌≡◌, ◌≢◌, ◌<◌, ◌≤◌, [], ◌++◌, Contains, IsPermutation, length, take};
+ghost use Rattle.mrpc_base.specs.Faults.{Rose, raised};
+ghost use Rattle.mrpc_base.specs.Writing.{OnTook};
+
+use crate::calls::Calls;
+use crate::{Put, Sink};
+use std::alloc::Global;
+use std::marker::Model;
+
+/// A sink that keeps what is written in memory. Contracts see it as a `Writing`: the bytes that were written,
+/// the numbers of failing writes that it was made with, and how many writes there were and failed.
+#[derive(Debug, Drop)]
+pub struct MemSink {
+    written: Vec<u8>,
+    calls: Calls,
+}
+
+impl Model for MemSink {
+    ghost use Rattle.mrpc_base.specs.Writing.{Writing};
+
+    ghost Value = { Writing };
+
+    ghost view = { λ s. record { written = s.written.items; failing = s.calls.failing; calls = s.calls.calls; faults = s.calls.faults } };
+}
+
+impl MemSink {
+    /// A sink to which nothing was written. The write of each number in `failing`, counted from 1, fails.
+    pub fn new(alloc: Global, failing: Vec<u64>) -> Self
+        ensures written { result.written ≡ [] }
+        // In ascending order, so that each write is looked up fast.
+        ensures failing { IsPermutation failing.items result.failing }
+        ensures calls { result.calls ≡ 0 }
+        ensures faults { result.faults ≡ 0 }
+    {
+        MemSink {
+            written: Vec::new(alloc),
+            calls: Calls::new(failing),
+        }
+    }
+
+    /// The bytes that were written.
+    pub fn written(&self) -> &[u8]
+        ensures { result.now ≡ self.now.written }
+    {
+        &self.written
+    }
+
+    /// How many writes failed; it stands still at 2^64 - 1.
+    pub fn faults(&self) -> u64
+        ensures { result ≡ self.now.faults }
+    {
+        self.calls.faults()
+    }
+
+    /// How many writes there were, with those that failed; it stands still at 2^64 - 1.
+    pub fn calls(&self) -> u64
+        ensures { result ≡ self.now.calls }
+    {
+        self.calls.calls()
+    }
+}
+
+impl Sink for MemSink {
+    ghost use Rattle.std.specs.Prelude.{Some};
+
+    ghost written = { λ s. Some s.written };
+
+    ghost faults = { λ s. s.faults };
+
+    fn write(&mut self, piece: &[u8]) -> Put
+        requires some { 0 < length piece.now }
+
+        // A write whose number is listed fails; so does one that finds no memory for its piece.
+        ensures fails { Contains self.old.failing self.new.calls → result ≡ Put.Failed }
+
+        // A piece is taken whole.
+        ensures count { OnTook result (λ n. (0 < n) × (n ≤ length piece.now)) }
+        ensures whole { OnTook result (λ n. n ≡ length piece.now) }
+        ensures appended { OnTook result (λ n. self.new.written ≡ self.old.written ++ take n piece.now) }
+        ensures kept { result ≡ Put.Failed → self.new.written ≡ self.old.written }
+
+        // What stays, and what is counted.
+        ensures failing { self.new.failing ≡ self.old.failing }
+        ensures calls { self.new.calls ≡ raised self.old.calls }
+        ensures faults { result ≡ Put.Failed → self.new.faults ≡ raised self.old.faults }
+        ensures failed { result ≡ Put.Failed → Rose self.old.faults self.new.faults }
+        ensures no_fault { result ≢ Put.Failed → self.new.faults ≡ self.old.faults }
+        ensures never_falls { self.old.faults ≤ self.new.faults }
+    {
+        if self.calls.next() || self.written.extend_from_slice(piece).is_err() {
+            self.calls.fault();
+            return Put::Failed;
+        }
+        Put::Took(piece.len())
+    }
+}

@@ -1,0 +1,150 @@
+// A source in memory, whose reads can be made short or made to fail.
+ghost use Rattle.std.specs.Prelude.{◌≡◌, ◌≢◌, ◌<◌, ◌≤◌, ◌↔◌, [], ◌++◌, All, Contains, IsPermutation, length, min, slice_get, take, drop};
+ghost use Rattle.mrpc_base.specs.Faults.{Rose, raised};
+ghost use Rattle.mrpc_base.specs.Reading.{OnBytes, OnNoBytes, given_count};
+
+use crate::calls::Calls;
+use crate::{Got, Source};
+use std::marker::Model;
+
+/// A source over bytes in memory. Contracts see it as a `Reading`: the bytes that are left, the lengths and
+/// the numbers of failing reads that it was made with, and how many reads there were and failed.
+#[derive(Debug, Drop)]
+pub struct MemSource {
+    bytes: Vec<u8>,
+    // How many bytes were given: none is moved.
+    given: usize,
+    lengths: Vec<usize>,
+    calls: Calls,
+}
+
+impl Model for MemSource {
+    ghost use Rattle.std.specs.Prelude.{◌<◌, ◌≤◌, All, drop, length};
+    ghost use Rattle.mrpc_base.specs.Reading.{Reading};
+
+    ghost Value = { Reading };
+
+    ghost view = { λ s. record { left = drop s.given s.bytes.items; lengths = s.lengths.items; failing = s.calls.failing; calls = s.calls.calls; faults = s.calls.faults } };
+
+    ghost invariant = { λ s. (s.given ≤ length s.bytes.items) × All (λ most. 0 < most) s.lengths.items };
+}
+
+// The length listed for the read after so many, if one is.
+fn listed_length(lengths: &[usize], calls: u64) -> Option<usize>
+    ensures { result ≡ slice_get lengths.now calls }
+{
+    lengths.get(calls as usize).copied()
+}
+
+// How many bytes a read gives, where `most` is the length listed for it, if one is.
+fn count_to_give(most: Option<usize>, room: usize, left: usize) -> usize
+    ensures { result ≡ given_count most room left }
+{
+    match most {
+        Some(most) => most.min(room.min(left)),
+        None => room.min(left),
+    }
+}
+
+impl MemSource {
+    /// A source that has these bytes left. The read of each number in `failing`, counted from 1, fails.
+    /// The k-th read gives at most the k-th of `lengths` bytes, each at least 1; a read past that list
+    /// gives as many as the buffer takes.
+    pub fn new(bytes: Vec<u8>, failing: Vec<u64>, lengths: Vec<usize>) -> Self
+        requires { All (λ most. 0 < most) lengths.items }
+
+        ensures left { result.left ≡ bytes.items }
+        ensures lengths { result.lengths ≡ lengths.items }
+        // In ascending order, so that each read is looked up fast.
+        ensures failing { IsPermutation failing.items result.failing }
+        ensures calls { result.calls ≡ 0 }
+        ensures faults { result.faults ≡ 0 }
+    {
+        MemSource {
+            bytes,
+            given: 0,
+            lengths,
+            calls: Calls::new(failing),
+        }
+    }
+
+    /// The bytes that are left.
+    pub fn left(&self) -> &[u8]
+        ensures { result.now ≡ self.now.left }
+    {
+        &self.bytes[self.given..]
+    }
+
+    /// How many reads failed; it stands still at 2^64 - 1.
+    pub fn faults(&self) -> u64
+        ensures { result ≡ self.now.faults }
+    {
+        self.calls.faults()
+    }
+
+    /// How many reads there were, with those that failed or found nothing; it stands still at 2^64 - 1.
+    pub fn calls(&self) -> u64
+        ensures { result ≡ self.now.calls }
+    {
+        self.calls.calls()
+    }
+
+    // Gives the next `count` bytes.
+    fn give(&mut self, buf: &mut [u8], count: usize)
+        requires room { count ≤ length buf.old }
+        requires enough { count ≤ length self.old.left }
+        ensures given { buf.new ≡ take count self.old.left ++ drop count buf.old }
+        ensures left { self.new ≡ record self.old { left = drop count self.old.left } }
+    {
+        let end = self.given + count;
+        buf[..count].copy_from_slice(&self.bytes[self.given..end]);
+        self.given = end;
+    }
+}
+
+impl Source for MemSource {
+    ghost use Rattle.std.specs.Prelude.{Some};
+
+    ghost left = { λ s. Some s.left };
+
+    ghost faults = { λ s. s.faults };
+
+    fn read(&mut self, buf: &mut [u8]) -> Got
+        requires room { 0 < length buf.old }
+
+        // A read fails exactly where its number is listed, and finds the end exactly where nothing is left.
+        ensures fails { (result ≡ Got.Failed) ↔ Contains self.old.failing self.new.calls }
+        ensures ends { (result ≡ Got.End) ↔ (self.old.left ≡ []) × (result ≢ Got.Failed) }
+        ensures exact { OnBytes result (λ n. n ≡ given_count (slice_get self.old.lengths self.old.calls) (length buf.old) (length self.old.left)) }
+
+        // The bytes that are given are the next ones.
+        ensures count { OnBytes result (λ n. (0 < n) × (n ≤ length buf.old)) }
+        ensures next { OnBytes result (λ n. self.old.left ≡ take n buf.new ++ self.new.left) }
+        ensures kept { OnNoBytes result (self.new.left ≡ self.old.left) }
+
+        // What stays, and what is counted.
+        ensures behind { OnBytes result (λ n. drop n buf.new ≡ drop n buf.old) }
+        ensures untouched { OnNoBytes result (buf.new ≡ buf.old) }
+        ensures lengths { self.new.lengths ≡ self.old.lengths }
+        ensures failing { self.new.failing ≡ self.old.failing }
+        ensures calls { self.new.calls ≡ raised self.old.calls }
+        ensures faults { result ≡ Got.Failed → self.new.faults ≡ raised self.old.faults }
+        ensures failed { result ≡ Got.Failed → Rose self.old.faults self.new.faults }
+        ensures no_fault { result ≢ Got.Failed → self.new.faults ≡ self.old.faults }
+        ensures never_falls { self.old.faults ≤ self.new.faults }
+    {
+        let before = self.calls.calls();
+        if self.calls.next() {
+            self.calls.fault();
+            return Got::Failed;
+        }
+        let left = self.bytes.len() - self.given;
+        if left == 0 {
+            return Got::End;
+        }
+        let most = listed_length(&self.lengths, before);
+        let count = count_to_give(most, buf.len(), left);
+        self.give(buf, count);
+        Got::Bytes(count)
+    }
+}

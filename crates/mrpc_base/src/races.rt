@@ -1,0 +1,92 @@
+// The races that wait for a submission's loads.
+ghost use Rattle.std.specs.Prelude.{◌≡◌, ◌<◌, ◌≤◌, ◌+◌, ◌-◌, ◌^◌, [], All, IfSome, IfNone, length};
+ghost use Rattle.mrpc_base.specs.Heap.{races_with};
+ghost use Rattle.mrpc_base.specs.Parts.{IsFirstRace, IsFirstDue};
+
+use crate::Room;
+use std::alloc::Global;
+use std::collections::BTreeMap;
+use std::marker::Model;
+
+// A store, and where it goes.
+type Store = (u64, u64);
+
+#[derive(Debug, Drop)]
+pub(crate) struct Races {
+    // By the number of the load, then by the number of the listing.
+    waiting: BTreeMap<(u64, u64), Store>,
+    // The number of the next listing.
+    listed: u64,
+}
+
+impl Model for Races {
+    ghost use Rattle.std.specs.Prelude.{map};
+    ghost use Rattle.mrpc_base.specs.Parts.{Waiting, race_of, AreListedBelow};
+
+    ghost Value = { Waiting };
+
+    ghost view = { λ r. record { races = map race_of r.waiting.entries; listed = r.listed } };
+
+    ghost invariant = { λ r. AreListedBelow r.listed r.waiting.entries };
+}
+
+impl Races {
+    // None waits, and none was listed.
+    pub(crate) fn new(alloc: Global) -> Self
+        ensures races { result.races ≡ [] }
+        ensures listed { result.listed ≡ 0 }
+    {
+        Races {
+            waiting: BTreeMap::new(alloc),
+            listed: 0,
+        }
+    }
+
+    pub(crate) fn len(&self) -> u64
+        ensures len { result ≡ length self.now.races }
+        ensures small { result < 2 ^ 63 }
+    {
+        self.waiting.len() as u64
+    }
+
+    // Lists a race behind those of its load and of earlier loads.
+    pub(crate) fn list(&mut self, load: u64, place: u64, value: u64) -> Room
+        requires { self.old.listed < 2 ^ 64 - 1 }
+        ensures made { result ≡ Room.Made → self.new.races ≡ races_with self.old.races (record { load = load; place = place; value = value }) }
+        ensures counted { result ≡ Room.Made → self.new.listed ≡ self.old.listed + 1 }
+        ensures memory { result ≡ Room.Memory → self.new ≡ self.old }
+    {
+        match self.waiting.insert((load, self.listed), (place, value)) {
+            Ok(_) => {
+                self.listed += 1;
+                Room::Made
+            }
+            Err(_) => Room::Memory,
+        }
+    }
+
+    // Takes the store of the first race that waits, if there is one.
+    pub(crate) fn take_first(&mut self) -> Option<Store>
+        ensures first { IfSome result (IsFirstRace self.old.races self.new.races) }
+        ensures none { IfNone result (self.old.races ≡ []) }
+        ensures unchanged { IfNone result (self.new.races ≡ []) }
+        ensures listed { self.new.listed ≡ self.old.listed }
+    {
+        let (_, store) = self.waiting.pop_first()?;
+        Some(store)
+    }
+
+    // Takes the store of the first race that waits, if it is of a load up to `number`.
+    pub(crate) fn take_due(&mut self, number: u64) -> Option<Store>
+        ensures first { IfSome result (IsFirstDue number self.old.races self.new.races) }
+        ensures none { IfNone result (All (λ race. number < race.load) self.old.races) }
+        ensures unchanged { IfNone result (self.new.races ≡ self.old.races) }
+        ensures listed { self.new.listed ≡ self.old.listed }
+    {
+        let (&(load, _), _) = self.waiting.first_key_value()?;
+        if load > number {
+            return None;
+        }
+        self.take_first()
+    }
+}

@@ -1,0 +1,52 @@
+ghost use Rattle.std.specs.Prelude.{◌≡◌, ◌<◌, ◌≤◌, ◌+◌, List, [], ◌∷◌, ◌++◌, ℕ, Option, IfSome};
+ghost use Rattle.mrpc_base.specs.Heap.{Extends, word_after};
+
+/// Whether room was made.
+#[derive(Clone, Copy, Debug, PartialEq, Eq)]
+pub enum Room {
+    /// There is as much room as was asked for.
+    Made,
+    /// No memory was found.
+    Memory,
+}
+
+/// The words of a heap, as one reader loads them while others may store.
+pub trait Words {
+    /// How many words the heap has.
+    ghost size: { Self → ℕ };
+
+    /// Every load so far, a place and a value, in order.
+    ghost loads: { Self → List (ℕ × ℕ) };
+
+    /// Every store so far, a place and a value, in order, where that is known.
+    ghost stores: { Self → Option (List (ℕ × ℕ)) };
+
+    /// For how many loads there is room.
+    ghost room: { Self → ℕ };
+
+    /// How many words the heap has.
+    fn words(&self) -> u64
+        ensures { result ≡ size self.now };
+
+    /// Makes room for `n` loads.
+    fn room_loads(&mut self, n: u64) -> Room
+        ensures made { result ≡ Room.Made → n ≤ room self.new }
+        ensures never_falls { room self.old ≤ room self.new }
+
+        ensures size { size self.new ≡ size self.old }
+        ensures loads { loads self.new ≡ loads self.old }
+        ensures stores { stores self.new ≡ stores self.old };
+
+    /// Loads the word at `place`, which is counted from 0. It takes no memory.
+    fn load(&mut self, place: u64) -> u64
+        requires in_heap { place < size self.old }
+        requires room { 0 < room self.old }
+
+        ensures loaded { loads self.new ≡ loads self.old ++ (place, result) ∷ [] }
+        ensures lowered { room self.old ≤ room self.new + 1 }
+        ensures size { size self.new ≡ size self.old }
+
+        // Others may store before the load, and the word is that of all the stores before it.
+        ensures grows { Extends (stores self.old) (stores self.new) }
+        ensures last { IfSome (stores self.new) (λ all. result ≡ word_after all place) };
+}
