@@ -182,3 +182,29 @@ VarintAt-byte bytes at b v within is low value =
     let one : slice_range bytes at (at + 1) ≡ b ∷ [] = slice_range-more bytes at at b (omega arith) within here ∙ ap (λ xs. xs ++ b ∷ []) none in
     let group : b ≡ (b % 128 + 128 * 0) % 2 ^ 64 = omega arith in
     VarintAt-last bytes at at b v (omega arith) (omega arith) within here low (rw none (All-nil (λ x. 128 ≤ x))) (value ∙ group ∙ sym (ap (λ xs. group_sum xs % 2 ^ 64) one))
+
+shortest : (bs : List ℕ) → HasVarintForm bs → (m n : ℕ) → n ≤ group_sum bs → length (groups m n) ≤ length bs
+shortest [] f m n h = absurd f
+shortest (b ∷ []) f m n h = omega (arith, ap length (groups-small m n (let e : n < 128 = omega arith in e)))
+shortest (b ∷ c ∷ bs) f zero n h = omega (arith, ap length (groups-last n))
+shortest (b ∷ c ∷ bs) f (suc m) n h =
+    ⊎_elim
+    (λ small. omega (arith, ap length (groups-small (suc m) n small)))
+    (λ large.
+    let fewer : n / 128 ≤ group_sum (c ∷ bs) = omega (arith, h) in
+    omega (arith, ap length (groups-large m n large), shortest (c ∷ bs) f.1 m (n / 128) fewer))
+    (cases_lt n 128)
+
+-- no varint of the number is shorter
+pub varint-shortest : (bytes : List ℕ) (v : ℕ) → IsVarint bytes v → length (varint v) ≤ length bytes
+unfolding varint
+varint-shortest bytes v is =
+    let value = is.value in
+    shortest bytes is.form 9 v (omega (arith, value))
+
+-- what was written is the shortest varint of the number
+pub IsVarint-written : (bytes : List ℕ) (v : ℕ) → v < 2 ^ 64 → bytes ≡ varint v → IsVarint bytes v
+IsVarint-written bytes v small is = rw is (IsVarint-varint v small)
+
+pub written-shortest : (written : List ℕ) (v : ℕ) → written ≡ varint v → (bytes : List ℕ) → IsVarint bytes v → length written ≤ length bytes
+written-shortest written v is bytes other = omega (arith, ap length is, varint-shortest bytes v other)

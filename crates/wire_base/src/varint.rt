@@ -1,9 +1,9 @@
 //! Varints: seven bits a byte, low group first, the top bit set on all bytes but the last
 //! (Protocol Buffers, "Encoding", "Base 128 Varints").
 
-ghost use Rattle.std.specs.Prelude.{◌≡◌, ℕ, ◌+◌, ◌<◌, ◌≤◌, ◌++◌, length, take, OnOk, OnErr, IfOk, IfErr};
+ghost use Rattle.std.specs.Prelude.{◌≡◌, ℕ, ◌+◌, ◌<◌, ◌≤◌, List, ◌++◌, length, take, OnOk, OnErr, IfOk, IfErr};
 ghost use Rattle.wire_base.specs.Encoding.{varint};
-ghost use Rattle.wire_base.specs.Records.{VarintAt, NoVarintAt};
+ghost use Rattle.wire_base.specs.Records.{IsVarint, VarintAt, NoVarintAt};
 ghost use Rattle.wire_base.specs.declared.fault.WireReason.{WireReason};
 
 use crate::fault::{WireFault, WireReason};
@@ -33,7 +33,9 @@ impl Model for Spelling {
 impl Spelling {
     /// The shortest varint of `v`.
     pub fn of(v: u64) -> Spelling
-        ensures { result ≡ varint v }
+        ensures value { result ≡ varint v }
+        ensures read { IsVarint result v }
+        ensures shortest { (bytes : List ℕ) → IsVarint bytes v → length result ≤ length bytes }
     {
         let mut bytes = [0u8; 10];
         let mut rest = v;
