@@ -1,0 +1,152 @@
+-- What a feed keeps as a part of the stream, and how it changes.
+use Rattle.std.proofs.Common.{◌≡◌, ℕ, ◌+◌, ◌<◌, ◌^◌, List, [], ◌∷◌, ◌++◌, length, Option, Some, None, refl, sym, ap, subst, ◌∙◌, arith, length-append, append_assoc}
+use Rattle.std.specs.Prelude.{All}
+use Rattle.std.proofs.lemmas.List.{append-nil}
+use Rattle.std.proofs.lemmas.List.Elements.{All-append, All-nil, All-head, All-tail}
+use Rattle.std.proofs.lemmas.List.Concat.{flat_map-append}
+use Rattle.frame_transport.specs.Frames.{IsFrame, bytes_of, joined, StandFrom, IsPartial, fault_at, Splits, Ends}
+use Rattle.frame_transport.specs.Feed.{Fed, Gives, GoesOn, StopsAt}
+use Rattle.frame_transport.specs.Kept.{IsKept}
+use Rattle.frame_transport.specs.Parts.{Advances}
+use Rattle.frame_transport.specs.declared.advance.Advance.{Advance}
+use Rattle.frame_transport.specs.declared.format.Frame.{Frame}
+use Rattle.frame_transport.specs.declared.fault.FeedFault.{FeedFault}
+use Rattle.frame_transport.proofs.FaultFacts.{fault_at-append}
+use Rattle.frame_transport.proofs.Splitting.{StandFrom-append, length-joined, splits_behind, length-bytes_of, partial_of_nothing, ends_once}
+
+-- what a clause sees of what is kept
+abbrev pub seen : ℕ → List Frame → List ℕ → ℕ → Fed
+seen taken waiting begun behind = record { place = taken; bytes = joined waiting ++ begun; behind = behind }
+
+pub kept_nothing : IsKept 0 [] 0 [] 0
+kept_nothing = record { each = All-nil IsFrame; places = tt; ends = refl; partial = partial_of_nothing; room = omega arith }
+
+pub kept_ends : (taken : ℕ) (waiting : List Frame) (end : ℕ) (begun : List ℕ) (behind : ℕ) (fault : Option FeedFault)
+    → IsKept taken waiting end begun behind → fault_at end begun ≡ fault → Ends taken (joined waiting ++ begun) fault
+kept_ends taken waiting end begun behind fault k h = record {
+  frames = waiting;
+  rest = begun;
+  splits = record { whole = refl; each = k.each; places = k.places; partial = k.partial };
+  first = ap (λ (p : ℕ). fault_at p begun) (sym k.ends) ∙ h;
+}
+
+partial_front : (xs ys : List ℕ) → IsPartial (xs ++ ys) → IsPartial xs
+partial_front xs ys h f more is e = h f (more ++ ys) is (ap (λ (bs : List ℕ). bs ++ ys) e ∙ append_assoc (bytes_of f) more ys)
+
+-- the bytes that are kept now, and those that aren't, are those from before with the piece
+advanced_bytes : (end : ℕ) (begun piece : List ℕ) (old new : List Frame) (now_begun : List ℕ) (a : Advance) (adv : Advances end begun piece old new now_begun a)
+    → (joined old ++ begun) ++ piece ≡ (joined new ++ now_begun) ++ adv.dropped
+advanced_bytes end begun piece old new now_begun a adv =
+    append_assoc (joined old) begun piece ∙ ap (λ (bs : List ℕ). joined old ++ bs) adv.splits.whole
+    ∙ sym (append_assoc (joined old) (joined adv.frames) (now_begun ++ adv.dropped))
+    ∙ ap (λ (bs : List ℕ). bs ++ (now_begun ++ adv.dropped)) (sym (flat_map-append bytes_of old adv.frames) ∙ ap joined (sym adv.added))
+    ∙ sym (append_assoc (joined new) now_begun adv.dropped)
+
+pub kept_advanced : (taken : ℕ) (waiting : List Frame) (end : ℕ) (begun : List ℕ) (behind : ℕ) (piece : List ℕ) (new : List Frame) (now_begun : List ℕ) (a : Advance)
+    → IsKept taken waiting end begun behind → taken + length (joined waiting ++ begun) + behind + length piece < 2 ^ 63
+    → Advances end begun piece waiting new now_begun a → IsKept taken new a.end now_begun (behind + a.dropped)
+kept_advanced taken waiting end begun behind piece new now_begun a k room adv =
+    let places : StandFrom end adv.frames = adv.splits.places in
+    let all : length (joined new) ≡ length (joined waiting) + length (joined adv.frames) = ap (λ (fs : List Frame). length (joined fs)) adv.added ∙ length-joined waiting adv.frames in
+    let whole : length begun + length piece ≡ length (joined adv.frames) + (length now_begun + length adv.dropped) =
+    sym (length-append begun piece) ∙ ap length adv.splits.whole ∙ length-append (joined adv.frames) (now_begun ++ adv.dropped) ∙ ap (λ (n : ℕ). length (joined adv.frames) + n) (length-append now_begun adv.dropped) in
+    let before : length (joined waiting ++ begun) ≡ length (joined waiting) + length begun = length-append (joined waiting) begun in
+    record {
+      each = subst (All IsFrame) (sym adv.added) (All-append IsFrame waiting adv.frames k.each adv.splits.each);
+      places = subst (StandFrom taken) (sym adv.added) (StandFrom-append taken waiting adv.frames k.places (subst (λ (p : ℕ). StandFrom p adv.frames) k.ends places));
+      ends = omega (arith, k.ends, adv.behind);
+      partial = partial_front now_begun adv.dropped adv.splits.partial;
+      room = omega (arith, k.ends, adv.behind, adv.count);
+    }
+
+-- a fault that was found stands behind the whole stream with the piece
+fault_of_all : (fault : Option FeedFault) (place : ℕ) (xs ys : List ℕ) → fault_at place xs ≡ fault → (fault ≡ None → ys ≡ []) → fault_at place (xs ++ ys) ≡ fault
+fault_of_all None place xs ys h clean = ap (fault_at place) (ap (λ (bs : List ℕ). xs ++ bs) (clean refl) ∙ append-nil xs) ∙ h
+fault_of_all (Some fault) place xs ys h clean = fault_at-append place xs ys fault h
+
+pub ends_advanced : (taken : ℕ) (waiting : List Frame) (end : ℕ) (begun : List ℕ) (behind : ℕ) (piece : List ℕ) (new : List Frame) (now_begun : List ℕ) (a : Advance)
+    → IsKept taken waiting end begun behind → Advances end begun piece waiting new now_begun a → Ends taken ((joined waiting ++ begun) ++ piece) a.fault
+ends_advanced taken waiting end begun behind piece new now_begun a k adv =
+    let behind_all = splits_behind taken waiting adv.frames (begun ++ piece) (now_begun ++ adv.dropped) k.each k.places
+    (subst (λ (p : ℕ). Splits p (begun ++ piece) adv.frames (now_begun ++ adv.dropped)) k.ends adv.splits) in
+    let place : taken + length (joined (waiting ++ adv.frames)) ≡ a.end = omega (arith, k.ends, adv.behind, length-joined waiting adv.frames) in
+    record {
+      frames = waiting ++ adv.frames;
+      rest = now_begun ++ adv.dropped;
+      splits = subst (λ (bs : List ℕ). Splits taken bs (waiting ++ adv.frames) (now_begun ++ adv.dropped)) (sym (append_assoc (joined waiting) begun piece)) behind_all;
+      first = ap (λ (p : ℕ). fault_at p (now_begun ++ adv.dropped)) place ∙ fault_of_all a.fault a.end now_begun adv.dropped adv.first adv.clean;
+    }
+
+pub goes_on : (taken : ℕ) (waiting : List Frame) (end : ℕ) (begun : List ℕ) (behind : ℕ) (piece : List ℕ) (new : List Frame) (now_begun : List ℕ) (a : Advance)
+    → Advances end begun piece waiting new now_begun a → a.fault ≡ None
+    → GoesOn (seen taken waiting begun behind) piece (seen taken new now_begun (behind + a.dropped))
+goes_on taken waiting end begun behind piece new now_begun a adv none =
+    let nothing : adv.dropped ≡ [] = adv.clean none in
+    let zero_dropped : length adv.dropped ≡ 0 = ap length nothing in
+    record {
+      place = refl;
+      bytes = sym (advanced_bytes end begun piece waiting new now_begun a adv ∙ ap (λ (bs : List ℕ). (joined new ++ now_begun) ++ bs) nothing ∙ append-nil (joined new ++ now_begun));
+      behind = omega (arith, adv.count);
+    }
+
+pub stops : (taken : ℕ) (waiting : List Frame) (end : ℕ) (begun : List ℕ) (behind : ℕ) (piece : List ℕ) (new : List Frame) (now_begun : List ℕ) (a : Advance) (fault : FeedFault)
+    → IsKept taken new a.end now_begun (behind + a.dropped) → Advances end begun piece waiting new now_begun a → a.fault ≡ Some fault
+    → StopsAt (seen taken waiting begun behind) piece fault (seen taken new now_begun (behind + a.dropped))
+stops taken waiting end begun behind piece new now_begun a fault k adv some = record {
+  place = refl;
+  kept = kept_ends taken new a.end now_begun (behind + a.dropped) (Some fault) k (adv.first ∙ some);
+  dropped = adv.dropped;
+  stream = advanced_bytes end begun piece waiting new now_begun a adv;
+  behind = omega (arith, adv.count);
+}
+
+-- a feed that has stopped drops the piece
+pub stopped : (taken : ℕ) (waiting : List Frame) (end : ℕ) (begun : List ℕ) (behind : ℕ) (piece : List ℕ) (fault : FeedFault)
+    → IsKept taken waiting end begun behind → fault_at end begun ≡ Some fault
+    → StopsAt (seen taken waiting begun behind) piece fault (seen taken waiting begun (behind + length piece))
+stopped taken waiting end begun behind piece fault k h = record {
+  place = refl;
+  kept = kept_ends taken waiting end begun behind (Some fault) k h;
+  dropped = piece;
+  stream = refl;
+  behind = refl;
+}
+
+-- there is no other fault than the one that was found
+pub same_fault : (taken : ℕ) (waiting : List Frame) (end : ℕ) (begun : List ℕ) (behind : ℕ) (found : Option FeedFault) (fault : FeedFault)
+    → IsKept taken waiting end begun behind → fault_at end begun ≡ found → Ends taken (joined waiting ++ begun) (Some fault) → found ≡ Some fault
+same_fault taken waiting end begun behind found fault k h e = ends_once taken (joined waiting ++ begun) found (Some fault) (kept_ends taken waiting end begun behind found k h) e
+
+-- the first frame is taken
+pub kept_next : (taken : ℕ) (f : Frame) (waiting : List Frame) (end : ℕ) (begun : List ℕ) (behind size : ℕ)
+    → IsKept taken (f ∷ waiting) end begun behind → size ≡ length f.payload → IsKept (taken + (16 + size)) waiting end begun behind
+kept_next taken f waiting end begun behind size k e =
+    let len = length-bytes_of f in
+    let place : taken + length (bytes_of f) ≡ taken + (16 + size) = omega arith in
+    record {
+      each = All-tail IsFrame f waiting k.each;
+      places = subst (λ (p : ℕ). StandFrom p waiting) place k.places.1;
+      ends = omega (arith, k.ends, length-append (bytes_of f) (joined waiting));
+      partial = k.partial;
+      room = k.room;
+    }
+
+pub gives : (taken : ℕ) (f : Frame) (waiting : List Frame) (end : ℕ) (begun : List ℕ) (behind size : ℕ)
+    → IsKept taken (f ∷ waiting) end begun behind → size ≡ length f.payload
+    → Gives (seen taken (f ∷ waiting) begun behind) f (seen (taken + (16 + size)) waiting begun behind)
+gives taken f waiting end begun behind size k e =
+    let len = length-bytes_of f in
+    record {
+      frame = All-head IsFrame f waiting k.each;
+      first = append_assoc (bytes_of f) (joined waiting) begun;
+      place = k.places.0;
+      left = omega arith;
+      behind = refl;
+    }
+
+-- where no fault was found, the stream has none
+pub no_fault_before : (taken : ℕ) (waiting : List Frame) (end : ℕ) (begun : List ℕ) (behind : ℕ) (fault : FeedFault)
+    → IsKept taken waiting end begun behind → fault_at end begun ≡ None → Ends taken (joined waiting ++ begun) (Some fault) → ⊥
+no_fault_before taken waiting end begun behind fault k h e =
+    let both : None ≡ Some fault = same_fault taken waiting end begun behind None fault k h e in
+    cc

@@ -1,0 +1,179 @@
+-- A stream has one front: a whole frame, a fault or the beginning of a frame. So it splits in one way.
+use Rattle.std.proofs.Common.{◌≡◌, ℕ, ◌+◌, ◌<◌, ◌≤◌, ◌^◌, List, [], ◌∷◌, ◌++◌, length, take, drop, slice_index, Option, Some, None, refl, sym, ap, subst, ◌∙◌, arith, length-append, append_assoc}
+use Rattle.std.proofs.lemmas.List.{take_at, drop_at, length-drop, length-take, take-append-drop, drop-drop}
+use Rattle.std.proofs.lemmas.List.Elements.{All-append, All-head, All-tail}
+use Rattle.std.proofs.lemmas.List.Concat.{flat_map-append}
+use Rattle.std.specs.Prelude.{All}
+use Rattle.byteorder.specs.Endian.{big_number}
+use Rattle.byteorder.specs.Numbers.{big_from-lt}
+use Rattle.frame_transport.specs.Bytes.{header_bytes}
+use Rattle.frame_transport.specs.Frames.{IsFrame, bytes_of, joined, StandFrom, IsPartial, length_in, fault_at, Splits, Ends, SplitsOnce, FaultStays}
+use Rattle.frame_transport.specs.declared.format.Frame.{Frame}
+use Rattle.frame_transport.specs.declared.fault.FeedFault.{FeedFault}
+use Rattle.frame_transport.proofs.HeaderBytes.{length-header_bytes, length_in-header, kind-header, version-header, method-header, conn-header, number-header, drop-header, AreBytes, AreBytes-drop, read_header}
+use Rattle.frame_transport.proofs.FaultFacts.{fault_at-none, no_fault, fault_at-append}
+
+pub length-bytes_of : (f : Frame) → length (bytes_of f) ≡ 16 + length f.payload
+length-bytes_of f =
+    omega (arith, length-append (header_bytes (length f.payload) f.kind f.method f.conn f.number) f.payload, length-header_bytes (length f.payload) f.kind f.method f.conn f.number)
+
+-- a frame with more behind it is its header with the payload and more behind that
+in_front : (f : Frame) (more : List ℕ) → bytes_of f ++ more ≡ header_bytes (length f.payload) f.kind f.method f.conn f.number ++ (f.payload ++ more)
+in_front f more = append_assoc (header_bytes (length f.payload) f.kind f.method f.conn f.number) f.payload more
+
+fits : (f : Frame) → IsFrame f → length f.payload < 2 ^ 32
+fits f h = omega (arith, h.short)
+
+pub length_in-frame : (f : Frame) (more : List ℕ) → IsFrame f → length_in (bytes_of f ++ more) ≡ length f.payload
+length_in-frame f more h = ap length_in (in_front f more) ∙ length_in-header (length f.payload) f.kind f.method f.conn f.number (f.payload ++ more) (fits f h)
+
+kind-frame : (f : Frame) (more : List ℕ) → slice_index (bytes_of f ++ more) 4 ≡ f.kind
+kind-frame f more = ap (λ (bs : List ℕ). slice_index bs 4) (in_front f more) ∙ kind-header (length f.payload) f.kind f.method f.conn f.number (f.payload ++ more)
+
+version-frame : (f : Frame) (more : List ℕ) → slice_index (bytes_of f ++ more) 5 ≡ 1
+version-frame f more = ap (λ (bs : List ℕ). slice_index bs 5) (in_front f more) ∙ version-header (length f.payload) f.kind f.method f.conn f.number (f.payload ++ more)
+
+method-frame : (f : Frame) (more : List ℕ) → IsFrame f → big_number 2 (drop 6 (bytes_of f ++ more)) ≡ f.method
+method-frame f more h = ap (λ (bs : List ℕ). big_number 2 (drop 6 bs)) (in_front f more) ∙ method-header (length f.payload) f.kind f.method f.conn f.number (f.payload ++ more) h.method
+
+conn-frame : (f : Frame) (more : List ℕ) → IsFrame f → big_number 4 (drop 8 (bytes_of f ++ more)) ≡ f.conn
+conn-frame f more h = ap (λ (bs : List ℕ). big_number 4 (drop 8 bs)) (in_front f more) ∙ conn-header (length f.payload) f.kind f.method f.conn f.number (f.payload ++ more) h.conn
+
+number-frame : (f : Frame) (more : List ℕ) → IsFrame f → big_number 4 (drop 12 (bytes_of f ++ more)) ≡ f.number
+number-frame f more h = ap (λ (bs : List ℕ). big_number 4 (drop 12 bs)) (in_front f more) ∙ number-header (length f.payload) f.kind f.method f.conn f.number (f.payload ++ more) h.number
+
+drop-frame : (f : Frame) (more : List ℕ) → drop 16 (bytes_of f ++ more) ≡ f.payload ++ more
+drop-frame f more = ap (drop 16) (in_front f more) ∙ drop-header (length f.payload) f.kind f.method f.conn f.number (f.payload ++ more)
+
+-- a frame has no fault
+pub fault_at-frame : (place : ℕ) (f : Frame) (more : List ℕ) → IsFrame f → fault_at place (bytes_of f ++ more) ≡ None
+fault_at-frame place f more h =
+    let size = length_in-frame f more h in
+    let kind = kind-frame f more in
+    let version = version-frame f more in
+    fault_at-none place (bytes_of f ++ more) (omega (arith, h.short)) (omega (arith, h.least)) (omega (arith, h.greatest)) version
+
+-- fewer bytes than the length in front of them asks for
+pub partial_of_short : (bs : List ℕ) → length bs < 16 + length_in bs → IsPartial bs
+partial_of_short bs short f more h e =
+    let size : length_in bs ≡ length f.payload = ap length_in e ∙ length_in-frame f more h in
+    let whole : length bs ≡ length (bytes_of f) + length more = ap length e ∙ length-append (bytes_of f) more in
+    omega (arith, length-bytes_of f)
+
+-- bytes with a fault
+pub partial_of_fault : (place : ℕ) (bs : List ℕ) (fault : FeedFault) → fault_at place bs ≡ Some fault → IsPartial bs
+partial_of_fault place bs fault found f more h e =
+    let none : fault_at place bs ≡ None = ap (fault_at place) e ∙ fault_at-frame place f more h in
+    let both : Some fault ≡ None = sym found ∙ none in
+    cc
+
+pub partial_of_nothing : IsPartial []
+partial_of_nothing = partial_of_short [] (omega arith)
+
+-- the frame whose numbers are read at the front of the bytes
+abbrev pub frame_at : ℕ → List ℕ → Frame
+frame_at place bs = record {
+  kind = slice_index bs 4;
+  method = big_number 2 (drop 6 bs);
+  conn = big_number 4 (drop 8 bs);
+  number = big_number 4 (drop 12 bs);
+  payload = take (length_in bs) (drop 16 bs);
+  place = place;
+}
+
+-- two frames at the front of the same bytes, at one place, are one
+pub frame_unique : (f g : Frame) (a b : List ℕ) → IsFrame f → IsFrame g → bytes_of f ++ a ≡ bytes_of g ++ b → f.place ≡ g.place → (f ≡ g) × (a ≡ b)
+frame_unique f g a b hf hg e p =
+    let size : length f.payload ≡ length g.payload = sym (length_in-frame f a hf) ∙ ap length_in e ∙ length_in-frame g b hg in
+    let kind : f.kind ≡ g.kind = sym (kind-frame f a) ∙ ap (λ (bs : List ℕ). slice_index bs 4) e ∙ kind-frame g b in
+    let method : f.method ≡ g.method = sym (method-frame f a hf) ∙ ap (λ (bs : List ℕ). big_number 2 (drop 6 bs)) e ∙ method-frame g b hg in
+    let conn : f.conn ≡ g.conn = sym (conn-frame f a hf) ∙ ap (λ (bs : List ℕ). big_number 4 (drop 8 bs)) e ∙ conn-frame g b hg in
+    let number : f.number ≡ g.number = sym (number-frame f a hf) ∙ ap (λ (bs : List ℕ). big_number 4 (drop 12 bs)) e ∙ number-frame g b hg in
+    let rest : f.payload ++ a ≡ g.payload ++ b = sym (drop-frame f a) ∙ ap (drop 16) e ∙ drop-frame g b in
+    let payload : f.payload ≡ g.payload = sym (take_at f.payload a (length f.payload) refl) ∙ ap (take (length f.payload)) rest ∙ take_at g.payload b (length f.payload) (sym size) in
+    let behind : a ≡ b = sym (drop_at f.payload a (length f.payload) refl) ∙ ap (drop (length f.payload)) rest ∙ drop_at g.payload b (length f.payload) (sym size) in
+    ((λ i. record { kind = kind i; method = method i; conn = conn i; number = number i; payload = payload i; place = p i }), behind)
+
+-- where the fields have no fault and all bytes are there, a whole frame stands at the front
+pub frame_at_front : (place : ℕ) (bs : List ℕ) → AreBytes bs → fault_at place bs ≡ None → 16 + length_in bs ≤ length bs
+    → IsFrame (frame_at place bs) × (bs ≡ bytes_of (frame_at place bs) ++ drop (16 + length_in bs) bs)
+frame_at_front place bs b none enough =
+    let facts = no_fault place bs (omega arith) none in
+    let payload_len : length (take (length_in bs) (drop 16 bs)) ≡ length_in bs = omega (arith, length-take {A = ℕ}, length-drop {A = ℕ}) in
+    let header = read_header bs (omega arith) b facts.3 in
+    let cut : take (length_in bs) (drop 16 bs) ++ drop (16 + length_in bs) bs ≡ drop 16 bs =
+    ap (λ (ys : List ℕ). take (length_in bs) (drop 16 bs) ++ ys) (sym (drop-drop (length_in bs) 16 bs)) ∙ take-append-drop (length_in bs) (drop 16 bs) in
+    let method : big_number 2 (drop 6 bs) < 256 ^ 2 = big_from-lt 0 2 (drop 6 bs) (AreBytes-drop 6 bs b) in
+    let conn : big_number 4 (drop 8 bs) < 256 ^ 4 = big_from-lt 0 4 (drop 8 bs) (AreBytes-drop 8 bs b) in
+    let number : big_number 4 (drop 12 bs) < 256 ^ 4 = big_from-lt 0 4 (drop 12 bs) (AreBytes-drop 12 bs b) in (
+      record { least = facts.1; greatest = facts.2; short = omega (arith, facts.0); method = method; conn = conn; number = number },
+      sym header
+          ∙ (λ i. header_bytes (sym payload_len i) (slice_index bs 4) (big_number 2 (drop 6 bs)) (big_number 4 (drop 8 bs)) (big_number 4 (drop 12 bs)) ++ sym cut i)
+          ∙ sym (in_front (frame_at place bs) (drop (16 + length_in bs) bs)),
+    )
+
+once : (place : ℕ) (stream : List ℕ) (fs gs : List Frame) (rest more : List ℕ)
+    → stream ≡ joined fs ++ rest → All IsFrame fs → StandFrom place fs → IsPartial rest
+    → stream ≡ joined gs ++ more → All IsFrame gs → StandFrom place gs → IsPartial more
+    → (fs ≡ gs) × (rest ≡ more)
+once place stream [] [] rest more e a p q e' a' p' q' = (refl, sym e ∙ e')
+once place stream [] (g ∷ gs) rest more e a p q e' a' p' q' =
+    absurd (q g (joined gs ++ more) (All-head IsFrame g gs a') (sym e ∙ e' ∙ append_assoc (bytes_of g) (joined gs) more))
+once place stream (f ∷ fs) [] rest more e a p q e' a' p' q' =
+    absurd (q' f (joined fs ++ rest) (All-head IsFrame f fs a) (sym e' ∙ e ∙ append_assoc (bytes_of f) (joined fs) rest))
+once place stream (f ∷ fs) (g ∷ gs) rest more e a p q e' a' p' q' =
+    let here : bytes_of f ++ (joined fs ++ rest) ≡ bytes_of g ++ (joined gs ++ more) =
+    sym (append_assoc (bytes_of f) (joined fs) rest) ∙ sym e ∙ e' ∙ append_assoc (bytes_of g) (joined gs) more in
+    let same = frame_unique f g (joined fs ++ rest) (joined gs ++ more) (All-head IsFrame f fs a) (All-head IsFrame g gs a') here (p.0 ∙ sym p'.0) in
+    let next : StandFrom (place + length (bytes_of f)) gs = subst (λ (h : Frame). StandFrom (place + length (bytes_of h)) gs) (sym same.0) p'.1 in
+    let others = once (place + length (bytes_of f)) (joined fs ++ rest) fs gs rest more
+    refl (All-tail IsFrame f fs a) p.1 q same.1 (All-tail IsFrame g gs a') next q' in
+    ((λ i. same.0 i ∷ others.0 i), others.1)
+
+pub splits_once : SplitsOnce
+splits_once place stream frames others rest more a b =
+    once place stream frames others rest more a.whole a.each a.places a.partial b.whole b.each b.places b.partial
+
+pub fault_stays : FaultStays
+fault_stays place stream more frames rest fault s first =
+    let later = fault_at-append (place + length (joined frames)) rest more fault first in (
+      record {
+        whole = ap (λ (bs : List ℕ). bs ++ more) s.whole ∙ append_assoc (joined frames) rest more;
+        each = s.each;
+        places = s.places;
+        partial = partial_of_fault (place + length (joined frames)) (rest ++ more) fault later;
+      },
+      later,
+    )
+
+-- a stream ends in one way
+pub ends_once : (place : ℕ) (stream : List ℕ) (a b : Option FeedFault) → Ends place stream a → Ends place stream b → a ≡ b
+ends_once place stream a b x y =
+    let same = splits_once place stream x.frames y.frames x.rest y.rest x.splits y.splits in
+    sym x.first ∙ (λ i. fault_at (place + length (joined (same.0 i))) (same.1 i)) ∙ y.first
+
+-- a fault that the stream has stays the first one
+pub ends_stays : (place : ℕ) (stream more : List ℕ) (fault : FeedFault) → Ends place stream (Some fault) → Ends place (stream ++ more) (Some fault)
+ends_stays place stream more fault x =
+    let later = fault_stays place stream more x.frames x.rest fault x.splits x.first in
+    record { frames = x.frames; rest = x.rest ++ more; splits = later.0; first = later.1 }
+
+-- frames stand behind others
+pub StandFrom-append : (place : ℕ) (fs gs : List Frame) → StandFrom place fs → StandFrom (place + length (joined fs)) gs → StandFrom place (fs ++ gs)
+StandFrom-append place [] gs a b = let e : place + length (joined []) ≡ place = omega arith in subst (λ (p : ℕ). StandFrom p gs) e b
+StandFrom-append place (f ∷ fs) gs a b =
+    let e : place + length (joined (f ∷ fs)) ≡ place + length (bytes_of f) + length (joined fs) = omega (arith, length-append (bytes_of f) (joined fs)) in
+    (a.0, StandFrom-append (place + length (bytes_of f)) fs gs a.1 (subst (λ (p : ℕ). StandFrom p gs) e b))
+
+pub length-joined : (fs gs : List Frame) → length (joined (fs ++ gs)) ≡ length (joined fs) + length (joined gs)
+length-joined fs gs = ap length (flat_map-append bytes_of fs gs) ∙ length-append (joined fs) (joined gs)
+
+-- frames in front of a stream that splits
+pub splits_behind : (place : ℕ) (fs gs : List Frame) (stream rest : List ℕ) → All IsFrame fs → StandFrom place fs
+    → Splits (place + length (joined fs)) stream gs rest → Splits place (joined fs ++ stream) (fs ++ gs) rest
+splits_behind place fs gs stream rest each places s = record {
+  whole = ap (λ (bs : List ℕ). joined fs ++ bs) s.whole ∙ sym (append_assoc (joined fs) (joined gs) rest) ∙ ap (λ (bs : List ℕ). bs ++ rest) (sym (flat_map-append bytes_of fs gs));
+  each = All-append IsFrame fs gs each s.each;
+  places = StandFrom-append place fs gs places s.places;
+  partial = s.partial;
+}

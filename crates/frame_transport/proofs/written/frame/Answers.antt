@@ -1,0 +1,8 @@
+use Rattle.std.proofs.Common.{refl}
+use Rattle.frame_transport.proofs.written.frame.Goals as goal
+use Rattle.frame_transport.specs.Bytes.{header_bytes}
+
+pub returns : goal.returns
+unfolding header_bytes
+returns c =
+    rw (c.in_ok-append-2.ensures.ok, c.in_ok-append.ensures.ok, c.in_ok-bytes.ensures, c.write_u32-3.ensures, c.write_u32-2.ensures, c.write_u16.ensures, c.write_u32.ensures) refl

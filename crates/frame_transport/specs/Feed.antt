@@ -1,0 +1,37 @@
+-- What a feed stands for.
+use Rattle.std.specs.Prelude.{◌≡◌, ℕ, ◌+◌, List, ◌++◌, length, Some}
+use Rattle.frame_transport.specs.Frames.{IsFrame, bytes_of, Ends}
+use Rattle.frame_transport.specs.declared.format.Frame.{Frame}
+use Rattle.frame_transport.specs.declared.fault.FeedFault.{FeedFault}
+
+-- the part of a stream that was fed and lies in no frame taken
+pub record Fed : Type 0 where
+  pub place : ℕ  -- the place in the stream of its first byte
+  pub bytes : List ℕ  -- its bytes, up to the first fault or further
+  pub behind : ℕ  -- how many bytes came behind these: they lie behind a fault and are not kept
+
+-- how many bytes were fed
+abbrev pub total : Fed → ℕ
+total fed = fed.place + length fed.bytes + fed.behind
+
+-- old gave its first frame, and new is what is left
+pub record Gives (old : Fed) (f : Frame) (new : Fed) : Type 0 where
+  pub frame : IsFrame f
+  pub first : old.bytes ≡ bytes_of f ++ new.bytes
+  pub place : f.place ≡ old.place
+  pub left : new.place ≡ old.place + length (bytes_of f)
+  pub behind : new.behind ≡ old.behind
+
+-- new is old with this piece, up to the fault or further
+pub record StopsAt (old : Fed) (piece : List ℕ) (fault : FeedFault) (new : Fed) : Type 0 where
+  pub place : new.place ≡ old.place
+  pub kept : Ends old.place new.bytes (Some fault)
+  pub dropped : List ℕ
+  pub stream : old.bytes ++ piece ≡ new.bytes ++ dropped
+  pub behind : new.behind ≡ old.behind + length dropped
+
+-- new is old with this piece behind it
+pub record GoesOn (old : Fed) (piece : List ℕ) (new : Fed) : Type 0 where
+  pub place : new.place ≡ old.place
+  pub bytes : new.bytes ≡ old.bytes ++ piece
+  pub behind : new.behind ≡ old.behind

@@ -1,0 +1,5 @@
+pub mod Bytes
+pub mod Feed
+pub mod Frames
+pub mod Kept
+pub mod Parts

@@ -1,0 +1,78 @@
+-- What the parts of a feed do: the numbers of a header, the front of a stream that comes in two
+-- parts, and its split.
+use Rattle.std.specs.Prelude.{◌≡◌, ℕ, ◌+◌, ◌-◌, ◌<◌, ◌≤◌, List, [], ◌∷◌, ◌++◌, length, take, drop, slice_index, Option, Some, None}
+use Rattle.byteorder.specs.Endian.{big_number}
+use Rattle.frame_transport.specs.Frames.{IsFrame, bytes_of, joined, IsPartial, Splits, length_in, fault_at}
+use Rattle.frame_transport.specs.declared.format.Frame.{Frame}
+use Rattle.frame_transport.specs.declared.fault.FeedFault.{FeedFault}
+use Rattle.frame_transport.specs.declared.header.Header.{Header}
+use Rattle.frame_transport.specs.declared.beginning.Beginning.{Beginning}
+use Rattle.frame_transport.specs.declared.beginning.Beginning.TheVariants.{Fault as BadField, Short, Clear}
+use Rattle.frame_transport.specs.declared.advance.Advance.{Advance}
+use Rattle.frame_transport.specs.declared.front.Front.{Front}
+use Rattle.frame_transport.specs.declared.front.Front.TheVariants.{Whole, Partial, Fault}
+
+-- the numbers of the header at the front
+pub record IsHeaderOf (bytes : List ℕ) (h : Header) : Type 0 where
+  pub size : h.length ≡ length_in bytes
+  pub kind : h.kind ≡ slice_index bytes 4
+  pub method : h.method ≡ big_number 2 (drop 6 bytes)
+  pub conn : h.conn ≡ big_number 4 (drop 8 bytes)
+  pub number : h.number ≡ big_number 4 (drop 12 bytes)
+
+-- the header at the front of two parts has no fault, and the first part ends in its frame
+pub record IsClear (place : ℕ) (begun piece : List ℕ) (h : Header) : Type 0 where
+  pub clean : fault_at place (take 16 (begun ++ piece)) ≡ None
+  pub long : 16 ≤ length (take 16 (begun ++ piece))
+  pub header : IsHeaderOf (take 16 (begun ++ piece)) h
+  pub small : h.length ≤ 262144
+  pub longer : length begun < 16 + h.length
+
+-- begun begins this frame and piece ends it
+pub record EndsFrame (place : ℕ) (begun piece : List ℕ) (f : Frame) : Type 0 where
+  pub frame : IsFrame f
+  pub stands : f.place ≡ place
+  pub longer : length begun < 16 + length f.payload
+  pub within : 16 + length f.payload ≤ length begun + length piece
+  pub bytes : begun ++ piece ≡ bytes_of f ++ drop (16 + length f.payload - length begun) piece
+
+-- no whole frame stands at the front, and this fault, or none so far
+pub record HasNoFrame (place : ℕ) (stream : List ℕ) (fault : Option FeedFault) : Type 0 where
+  pub partial : IsPartial stream
+  pub first : fault_at place stream ≡ fault
+
+-- how two parts begin
+abbrev pub Begins : ℕ → List ℕ → List ℕ → Beginning → Type 0
+Begins place begun piece (BadField e) = HasNoFrame place (begun ++ piece) (Some e)
+Begins place begun piece Short = HasNoFrame place (begun ++ piece) None
+Begins place begun piece (Clear h) = IsClear place begun piece h
+
+-- what stands at the front of two parts
+abbrev pub IsFront : ℕ → List ℕ → List ℕ → Front → Type 0
+IsFront place begun piece (Whole f) = EndsFrame place begun piece f
+IsFront place begun piece Partial = HasNoFrame place (begun ++ piece) None
+IsFront place begun piece (Fault e) = HasNoFrame place (begun ++ piece) (Some e)
+
+-- what has come behind these frames: what had come belongs to the first of them
+abbrev pub begun_behind : List Frame → List ℕ → List ℕ → List ℕ
+begun_behind [] begun left = begun ++ left
+begun_behind (f ∷ fs) begun left = left
+
+-- the two parts split into these frames and what is left of the piece
+pub record SplitsParts (place : ℕ) (begun piece : List ℕ) (frames : List Frame) (end : ℕ) (left : List ℕ) (fault : Option FeedFault) : Type 0 where
+  pub splits : Splits place (begun ++ piece) frames (begun_behind frames begun left)
+  pub behind : end ≡ place + length (joined frames)
+  pub first : fault_at end (begun_behind frames begun left) ≡ fault
+  pub fewer : length left ≤ length piece
+
+-- The frames that a piece ends came behind those that were kept, and what follows them is kept up
+-- to a fault or further.
+pub record Advances (end : ℕ) (begun piece : List ℕ) (old new : List Frame) (now_begun : List ℕ) (a : Advance) : Type 0 where
+  pub frames : List Frame
+  pub added : new ≡ old ++ frames
+  pub dropped : List ℕ
+  pub splits : Splits end (begun ++ piece) frames (now_begun ++ dropped)
+  pub behind : a.end ≡ end + length (joined frames)
+  pub first : fault_at a.end now_begun ≡ a.fault
+  pub count : length dropped ≡ a.dropped
+  pub clean : a.fault ≡ None → dropped ≡ []

@@ -1,0 +1,36 @@
+//! The header at the front of bytes that come in two parts.
+
+ghost use Rattle.std.specs.Prelude.{◌<◌, ◌^◌, ◌++◌};
+ghost use Rattle.frame_transport.specs.Frames.{IsPartial};
+ghost use Rattle.frame_transport.specs.Parts.{Begins};
+
+use crate::fault::FeedFault;
+use crate::header::{Header, HeaderPart, fault_in, read_header};
+
+/// How a stream begins.
+#[derive(Drop)]
+pub(crate) enum Beginning {
+    /// A field has a fault.
+    Fault(FeedFault),
+    /// The header isn't whole yet, and has no fault so far.
+    Short,
+    /// A header without a fault.
+    Clear(Header),
+}
+
+/// Reads the header at the front of `begun` and then `piece`, the first byte at this place.
+pub(crate) fn read_beginning(place: u64, begun: &[u8], piece: &[u8]) -> Beginning
+    requires partial { IsPartial begun.now }
+    requires room { place < 2 ^ 63 }
+    ensures { Begins place begun.now piece.now result }
+{
+    let part = HeaderPart::of(begun, piece);
+    let bytes = part.bytes();
+    if let Some(fault) = fault_in(place, bytes) {
+        return Beginning::Fault(fault);
+    }
+    match read_header(bytes) {
+        None => Beginning::Short,
+        Some(header) => Beginning::Clear(header),
+    }
+}

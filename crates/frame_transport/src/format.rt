@@ -1,0 +1,32 @@
+//! The parts of a frame.
+
+use mrpc_table::Bytes;
+
+/// The bytes of a frame in front of its payload.
+pub const HEADER_LEN: usize = 16;
+
+/// The most bytes that a payload has.
+pub const MAX_PAYLOAD: usize = 262144;
+
+/// The only version of the format.
+pub const VERSION: u8 = 1;
+
+/// Kinds are 1, a request, 2, a reply, and 3, a hello.
+pub const LARGEST_KIND: u8 = 3;
+
+/// A frame that came on a stream.
+#[derive(Debug, Drop)]
+pub struct Frame {
+    /// 1 for a request, 2 for a reply, 3 for a hello.
+    pub kind: u8,
+    /// The method's index; 0 in a hello.
+    pub method: u16,
+    /// The sender's connection.
+    pub conn: u32,
+    /// The sequence number of a request, the answered number of a reply, 0 in a hello.
+    pub number: u32,
+    /// The payload, at most 262144 bytes.
+    pub payload: Bytes,
+    /// The place of the frame's first byte in its stream, from 0.
+    pub place: u64,
+}

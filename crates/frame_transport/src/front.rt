@@ -1,0 +1,63 @@
+//! What stands at the front of bytes that come in two parts.
+
+ghost use Rattle.std.specs.Prelude.{◌≡◌, ◌+◌, ◌<◌, ◌≤◌, ◌^◌, ◌++◌, length, take, drop, IfOk};
+ghost use Rattle.frame_transport.specs.Frames.{IsPartial};
+ghost use Rattle.frame_transport.specs.Parts.{IsFront};
+
+use crate::beginning::{Beginning, read_beginning};
+use crate::fault::FeedFault;
+use crate::format::{Frame, HEADER_LEN};
+use mrpc_table::{Bytes, Memory};
+use std::alloc::Global;
+
+/// What stands at the front of a stream.
+#[derive(Drop)]
+pub(crate) enum Front {
+    Whole(Frame),
+    Partial,
+    Fault(FeedFault),
+}
+
+/// What stands at the front of `begun` and then `piece`, the first byte at this place.
+pub(crate) fn front_of(
+    alloc: Global,
+    place: u64,
+    begun: &[u8],
+    piece: &[u8],
+) -> Result<Front, Memory>
+    requires partial { IsPartial begun.now }
+    requires room { place < 2 ^ 63 }
+    ensures { IfOk result (IsFront place begun.now piece.now) }
+{
+    let header = match read_beginning(place, begun, piece) {
+        Beginning::Fault(fault) => return Ok(Front::Fault(fault)),
+        Beginning::Short => return Ok(Front::Partial),
+        Beginning::Clear(header) => header,
+    };
+    if piece.len() < HEADER_LEN + header.length - begun.len() {
+        return Ok(Front::Partial);
+    }
+    let payload = payload_of(alloc, begun, piece, header.length)?;
+    Ok(Front::Whole(Frame {
+        kind: header.kind,
+        method: header.method,
+        conn: header.conn,
+        number: header.number,
+        payload,
+        place,
+    }))
+}
+
+/// The payload of this length of the frame that `begun` begins and `piece` ends.
+fn payload_of(alloc: Global, begun: &[u8], piece: &[u8], size: usize) -> Result<Bytes, Memory>
+    requires short { size ≤ 262144 }
+    requires begun { length begun.now < 16 + size }
+    requires within { 16 + size ≤ length begun.now + length piece.now }
+    ensures { IfOk result (λ payload. payload ≡ take size (drop 16 (begun.now ++ piece.now))) }
+{
+    let begin = begun.len().min(HEADER_LEN);
+    let mut payload = Bytes::with_room(alloc, size)?;
+    payload.append(&begun[begin..])?;
+    payload.append(&piece[HEADER_LEN - begin..HEADER_LEN + size - begun.len()])?;
+    Ok(payload)
+}

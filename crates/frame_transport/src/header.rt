@@ -1,0 +1,111 @@
+//! The header of a frame as far as it has come.
+
+ghost use Rattle.std.specs.Prelude.{◌≡◌, ◌<◌, ◌^◌, ◌++◌, ◌↔◌, length, take, IsNone, IfSome};
+ghost use Rattle.frame_transport.specs.Frames.{fault_at};
+ghost use Rattle.frame_transport.specs.Parts.{IsHeaderOf};
+
+use crate::fault::FeedFault;
+use crate::format::{HEADER_LEN, LARGEST_KIND, MAX_PAYLOAD, VERSION};
+use byteorder::{BigEndian, ByteOrder};
+use std::marker::Model;
+
+/// The first bytes of two that stand one behind the other: a header, or what has come of it.
+#[derive(Drop)]
+pub(crate) struct HeaderPart {
+    bytes: [u8; HEADER_LEN],
+    len: usize,
+}
+
+/// The numbers of a whole header without a fault.
+#[derive(Drop)]
+pub(crate) struct Header {
+    pub kind: u8,
+    pub method: u16,
+    pub conn: u32,
+    pub number: u32,
+    pub length: usize,
+}
+
+impl Model for HeaderPart {
+    ghost use Rattle.std.specs.Prelude.{ℕ, List, take, ◌≤◌};
+
+    ghost Value = { List ℕ };
+
+    ghost view = { λ b. take b.len b.bytes };
+
+    ghost invariant = { λ b. b.len ≤ 16 };
+}
+
+impl HeaderPart {
+    /// The first 16 bytes of `begun` and then `piece`, or all where there are fewer.
+    pub fn of(begun: &[u8], piece: &[u8]) -> HeaderPart
+        ensures { result ≡ take 16 (begun.now ++ piece.now) }
+    {
+        let mut bytes = [0; HEADER_LEN];
+        let old = begun.len().min(HEADER_LEN);
+        bytes[..old].copy_from_slice(&begun[..old]);
+        let new = piece.len().min(HEADER_LEN - old);
+        bytes[old..old + new].copy_from_slice(&piece[..new]);
+        HeaderPart {
+            bytes,
+            len: old + new,
+        }
+    }
+
+    pub fn bytes(&self) -> &[u8]
+        ensures { result.now ≡ self.now }
+    {
+        &self.bytes[..self.len]
+    }
+}
+
+/// The first fault of bytes that stand at this place. Each field is judged as soon as it is there,
+/// in the order of their bytes.
+#[tactic(auto, unfolding(crate::specs::Frames::fault_at, crate::specs::Frames::length_in))]
+pub(crate) fn fault_in(place: u64, bytes: &[u8]) -> Option<FeedFault>
+    requires { place < 2 ^ 63 }
+    ensures { result ≡ fault_at place bytes.now }
+{
+    if bytes.len() < 4 {
+        return None;
+    }
+    let value = BigEndian::read_u32(bytes);
+    if value as usize > MAX_PAYLOAD {
+        return Some(FeedFault::TooLong { place, value });
+    }
+    if bytes.len() < 5 {
+        return None;
+    }
+    let kind = bytes[4];
+    if kind < 1 || kind > LARGEST_KIND {
+        return Some(FeedFault::Kind {
+            place: place + 4,
+            value: kind,
+        });
+    }
+    if bytes.len() < 6 || bytes[5] == VERSION {
+        return None;
+    }
+    Some(FeedFault::Version {
+        place: place + 5,
+        value: bytes[5],
+    })
+}
+
+/// The numbers in a header.
+#[tactic(auto, unfolding(crate::specs::Frames::length_in))]
+pub(crate) fn read_header(bytes: &[u8]) -> Option<Header>
+    ensures none { IsNone result ↔ (length bytes.now < 16) }
+    ensures some { IfSome result (IsHeaderOf bytes.now) }
+{
+    if bytes.len() < HEADER_LEN {
+        return None;
+    }
+    Some(Header {
+        kind: bytes[4],
+        method: BigEndian::read_u16(&bytes[6..]),
+        conn: BigEndian::read_u32(&bytes[8..]),
+        number: BigEndian::read_u32(&bytes[12..]),
+        length: BigEndian::read_u32(bytes) as usize,
+    })
+}

@@ -1,0 +1,29 @@
+//! Frames: how calls and replies stand on a byte stream, and how they're found in it however it is cut.
+//!
+//! [`frame`] writes the bytes of a frame, and a [`Feed`] takes a stream in any pieces and gives its
+//! frames. The format is this project's own: a header of 16 bytes (the payload's length, the kind,
+//! the version, the method, the connection and the number, each number big-endian) and then the
+//! payload. It stands on `mrpc_table` for lists of bytes and on `byteorder` for the header's
+//! numbers. The layer above uses one contract: the frames that a feed gives are those of the
+//! stream that it was fed, in order and each once, with the stream's first fault behind them.
+#![tactic(auto)]
+
+mod advance;
+mod beginning;
+mod fault;
+mod feed;
+mod format;
+mod front;
+mod header;
+mod laws;
+mod split;
+mod written;
+
+pub use fault::FeedFault;
+pub use feed::Feed;
+pub use format::{Frame, HEADER_LEN, LARGEST_KIND, MAX_PAYLOAD, VERSION};
+pub use laws::one_split;
+pub use written::frame;
+
+#[cfg(test)]
+mod tests;

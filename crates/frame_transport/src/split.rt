@@ -1,0 +1,69 @@
+//! The whole frames at the front of a stream.
+
+ghost use Rattle.std.specs.Prelude.{◌≡◌, ◌+◌, ◌<◌, ◌≤◌, ◌^◌, length, IfOk};
+ghost use Rattle.frame_transport.specs.Frames.{IsPartial};
+ghost use Rattle.frame_transport.specs.Parts.{SplitsParts};
+
+use crate::fault::FeedFault;
+use crate::format::{Frame, HEADER_LEN};
+use crate::front::{Front, front_of};
+use mrpc_table::Memory;
+use std::alloc::Global;
+use std::collections::VecDeque;
+
+/// The frames that a piece ends, and what follows them.
+#[derive(Drop)]
+pub(crate) struct Found<'a> {
+    /// The frames, in order.
+    pub frames: VecDeque<Frame>,
+    /// The place behind them.
+    pub end: u64,
+    /// The bytes of the piece that lie in none of them.
+    pub left: &'a [u8],
+    /// The fault that stands behind them.
+    pub fault: Option<FeedFault>,
+}
+
+/// Splits `begun` and then `piece`, the first byte at this place.
+pub(crate) fn split<'a>(
+    alloc: Global,
+    place: u64,
+    begun: &[u8],
+    piece: &'a [u8],
+) -> Result<Found<'a>, Memory>
+    requires partial { IsPartial begun.now }
+    requires room { place + length begun.now + length piece.now < 2 ^ 63 }
+    ensures { IfOk result (λ found. SplitsParts place begun.now piece.now found.frames.items found.end found.left.now found.fault) }
+{
+    let mut frames = VecDeque::new(alloc);
+    let mut ahead = begun;
+    let mut end = place;
+    let mut left = piece;
+    'frames: loop {
+        match front_of(alloc, end, ahead, left)? {
+            Front::Whole(frame) => {
+                let size = HEADER_LEN + frame.payload.len();
+                left = &left[size - ahead.len()..];
+                ahead = &begun[..0];
+                end += size as u64;
+                frames.push_back(frame)?;
+            }
+            Front::Partial => {
+                return Ok(Found {
+                    frames,
+                    end,
+                    left,
+                    fault: None,
+                });
+            }
+            Front::Fault(fault) => {
+                return Ok(Found {
+                    frames,
+                    end,
+                    left,
+                    fault: Some(fault),
+                });
+            }
+        }
+    }
+}
