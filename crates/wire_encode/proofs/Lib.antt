@@ -1,0 +1,5 @@
+pub mod FieldPlaces
+pub mod Parts
+pub mod SmallTable
+pub mod Standing
+pub mod Weights

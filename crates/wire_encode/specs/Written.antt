@@ -1,0 +1,34 @@
+-- Bytes that are written from the end of a buffer to its front, and lengths that fit 64 bits.
+use Rattle.std.specs.Prelude.{◌≡◌, ℕ, ◌+◌, ◌-◌, ◌^◌, ◌<◌, min, List, ◌++◌, length, drop}
+use Rattle.mrpc_table.specs.Valid.{Ascends}
+use Rattle.mrpc_table.specs.Normal.{fields_of}
+use Rattle.mrpc_table.specs.Node.{Item}
+use Rattle.mrpc_table.specs.declared.table.Field.{Field}
+use Rattle.mrpc_table.specs.declared.table.Kind.{Kind}
+use Rattle.mrpc_table.specs.declared.table.Table.{Table}
+use Rattle.wire_base.specs.Encoding.{tag, delimited, wire_len, wire_type_of, item_bytes}
+
+-- the bytes stand right before `end`, from `start` on, and what stood behind them is as before
+pub record StandBefore (old new : List ℕ) (end start : ℕ) (bytes : List ℕ) : Type 0 where
+  pub place : start + length bytes ≡ end
+  pub written : drop start new ≡ bytes ++ drop end old
+
+-- the record of one value
+abbrev pub record_bytes : Table → ℕ → Kind → Item → List ℕ
+record_bytes T n k i = tag n (wire_type_of k) ++ item_bytes T k i
+
+-- the record of one entry
+abbrev pub entry_bytes : Table → ℕ → Kind → Kind → Item → Item → List ℕ
+entry_bytes T n key k i j = tag n wire_len ++ delimited (record_bytes T 1 key i ++ record_bytes T 2 k j)
+
+-- a length, or the largest number of 64 bits where it is larger
+abbrev pub capped : ℕ → ℕ
+capped n = min n (2 ^ 64 - 1)
+
+-- fields by ascending number
+abbrev pub FieldsAscend : List Field → Type 0
+FieldsAscend fs = Ascends (λ f g. f.number < g.number) fs
+
+-- the fields of each message of the table
+pub record AllAscend (T : Table) : Type 0 where
+  pub each : (i : ℕ) → FieldsAscend (fields_of T i)

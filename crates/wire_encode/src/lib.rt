@@ -1,0 +1,62 @@
+//! The encoding of a message: a tree as Protocol Buffers bytes.
+//!
+//! The format is that of the Protocol Buffers encoding guide; fields are written by ascending number,
+//! map entries by ascending key, varints in their shortest form. `encoding` of `wire_base` says which
+//! bytes those are. The length is computed first, then the tree is written from its end to its front
+//! into a buffer of that length, so that the length of a message is known when it is written; the
+//! time is in proportion to the output. It stands on `mrpc_table` and `wire_base`.
+#![tactic(auto)]
+
+ghost use Rattle.std.specs.Prelude.{◌≡◌, ◌<◌, length, IfOk};
+ghost use Rattle.mrpc_table.specs.Valid.{IsValid};
+ghost use Rattle.mrpc_table.specs.Normal.{IsNormal};
+ghost use Rattle.wire_base.specs.Encoding.{encoding, fields_bytes};
+ghost use Rattle.wire_encode.specs.Written.{capped, AllAscend, FieldsAscend};
+
+mod look_up;
+mod size;
+#[cfg(test)]
+mod tests;
+mod write;
+
+use crate::look_up::fields_of;
+use crate::size::message_len;
+use crate::write::write_message;
+use mrpc_table::{Bytes, Field, Memory, Table, Tree};
+use std::alloc::Global;
+
+/// The encoding of a normal tree of the message at the place `msg` of the table.
+///
+/// `Memory` comes only where no memory was found; there is no other refusal. Messages are written by
+/// recursion, which a normal tree keeps to 32 calls deep.
+pub fn encode(alloc: Global, tree: &Tree, table: &Table, msg: u32) -> Result<Bytes, Memory>
+    requires valid { IsValid table.now }
+    requires known { msg < length table.now.messages }
+    requires normal { IsNormal table.now msg tree.now }
+    ensures { IfOk result (λ bytes. bytes ≡ encoding table.now msg tree.now) }
+{
+    encoded(alloc, tree, table, fields_of(table, msg))
+}
+
+/// The length in bytes of the encoding of a normal tree of the message at the place `msg` of the
+/// table, or 2^64 - 1 where it is larger. It takes no memory.
+pub fn encoded_len(tree: &Tree, table: &Table, msg: u32) -> u64
+    requires valid { IsValid table.now }
+    requires known { msg < length table.now.messages }
+    requires normal { IsNormal table.now msg tree.now }
+    ensures { result ≡ capped (length (encoding table.now msg tree.now)) }
+{
+    message_len(tree, table, fields_of(table, msg))
+}
+
+/// The encoding of any tree as a message with these fields.
+fn encoded(alloc: Global, tree: &Tree, table: &Table, fields: &[Field]) -> Result<Bytes, Memory>
+    requires all { AllAscend table.now }
+    requires ascend { FieldsAscend fields.now }
+    ensures { IfOk result (λ bytes. bytes ≡ fields_bytes table.now fields.now tree.now) }
+{
+    let len = message_len(tree, table, fields) as usize;
+    let mut out = vec![in alloc; 0u8; len]?;
+    write_message(&mut out, len, tree, table, fields);
+    Ok(Bytes::from_vec(out))
+}
