@@ -1,0 +1,4 @@
+pub mod Forgotten
+pub mod Placed
+pub mod Plain
+pub mod Roles

@@ -1,0 +1,134 @@
+-- How a message lies in a heap of words: what each loaded word is for, and which words are loaded behind it.
+use Rattle.std.specs.Prelude.{ℕ, zero, suc, ◌+◌, ◌-◌, ◌*◌, ◌/◌, Bool, true, false, List, [], ◌∷◌, ◌++◌, length, filter, slice_get, option_map, unwrap_or, if◌then◌else◌, ◌==◌, nat_le}
+use Rattle.std.specs.Int.{w64, to_le_bytes}
+use Rattle.mrpc_table.specs.Normal.{fields_of, field_at}
+use Rattle.mrpc_table.specs.declared.table.Kind.{Kind}
+use Rattle.mrpc_table.specs.declared.table.Kind.TheVariants.{Text, Octets, Message as OfMessage, Uint64}
+use Rattle.mrpc_table.specs.declared.table.Label.{Label}
+use Rattle.mrpc_table.specs.declared.table.Label.TheVariants.{Optional, Repeated, Packed, Map, Member}
+use Rattle.mrpc_table.specs.declared.table.Field.{Field}
+use Rattle.mrpc_table.specs.declared.table.Table.{Table}
+
+-- what a word is for. A depth is that of a message whose address stands there or further on
+pub data Role : Type 0 where
+  -- a number of the kind
+  value : Kind → Role
+  -- 0, or 1 where the number follows
+  presence : Kind → Role
+  -- the length of a run, which has an address where it isn't 0
+  run_length : Kind → Role
+  -- 0 where the run is absent, else its length plus 1
+  run_presence : Kind → Role
+  -- the address of a run of so many bytes
+  run_address : Kind → (bytes : ℕ) → Role
+  -- a word of a run: so many bytes are left with it, and those came before
+  run_word : Kind → (left : ℕ) → (before : List ℕ) → Role
+  -- the address of a message; 0 is one that is absent, unless it must be there
+  link : (message depth : ℕ) → (needed : Bool) → Role
+  -- the number of elements, and their address
+  count : Kind → (depth : ℕ) → Role
+  elements_address : Kind → (elements depth : ℕ) → Role
+  -- the number of entries of a map, and their address
+  entry_count : (key kind : Kind) → (depth : ℕ) → Role
+  entries_address : (key kind : Kind) → (entries depth : ℕ) → Role
+  -- the number of the member that a oneof has, or 0
+  case_word : List Field → (oneof depth : ℕ) → Role
+
+-- a word of this role is expected at this place
+abbrev pub Expected : Type 0
+Expected = List (Role × ℕ)
+
+-- the first word of a plain slot
+abbrev pub plain_role : Kind → ℕ → Bool → Role
+plain_role Text depth needed = run_length Text
+plain_role Octets depth needed = run_length Octets
+plain_role (OfMessage m) depth needed = link m depth needed
+plain_role k depth needed = value k
+
+abbrev pub optional_role : Kind → Role
+optional_role Text = run_presence Text
+optional_role Octets = run_presence Octets
+optional_role k = presence k
+
+-- the first word of a field's slot
+abbrev pub slot_role : Label → Kind → ℕ → Role
+slot_role Optional k depth = optional_role k
+slot_role Repeated k depth = count k depth
+slot_role Packed k depth = count k depth
+slot_role (Map key) k depth = entry_count key k depth
+slot_role _ k depth = plain_role k depth false
+
+-- the fields with a slot of their own, and those that aren't members of a oneof
+abbrev pub is_member : Label → Bool
+is_member (Member o) = true
+is_member _ = false
+
+abbrev pub has_own_slot : Field → Bool
+has_own_slot f = if is_member f.label then false else true
+
+abbrev pub own_slots : List Field → List Field
+own_slots fs = filter has_own_slot fs
+
+-- the number of oneofs of the message at a place
+abbrev pub oneofs_of : Table → ℕ → ℕ
+oneofs_of T m = unwrap_or (option_map (λ d. length d.oneofs) (slice_get T.messages m)) 0
+
+-- slots of two words by ascending number, from a place on
+abbrev pub slots_from : List Field → ℕ → ℕ → Expected
+slots_from [] depth at = []
+slots_from (f ∷ fs) depth at = (slot_role f.label f.kind depth, at) ∷ slots_from fs depth (at + 2)
+
+-- slots of three words for so many oneofs, the first of the given place
+abbrev pub cases_from : ℕ → List Field → ℕ → ℕ → ℕ → Expected
+cases_from zero fs oneof depth at = []
+cases_from (suc more) fs oneof depth at = (case_word fs oneof depth, at) ∷ cases_from more fs (oneof + 1) depth (at + 3)
+
+-- the words of a node: the slots of its fields, and then those of its oneofs
+abbrev pub node_words : Table → ℕ → ℕ → ℕ → Expected
+node_words T m depth at =
+    slots_from (own_slots (fields_of T m)) depth at ++ cases_from (oneofs_of T m) (fields_of T m) 0 depth (at + 2 * length (own_slots (fields_of T m)))
+
+abbrev pub size_words : Table → ℕ → ℕ
+size_words T m = 2 * length (own_slots (fields_of T m)) + 3 * oneofs_of T m
+
+-- how many words an element takes
+abbrev pub element_words : Kind → ℕ
+element_words Text = 2
+element_words Octets = 2
+element_words k = 1
+
+abbrev pub elements_from : ℕ → Kind → ℕ → ℕ → Expected
+elements_from zero k depth at = []
+elements_from (suc more) k depth at = (plain_role k depth true, at) ∷ elements_from more k depth (at + element_words k)
+
+-- an entry is the key and the value, each as a plain slot
+abbrev pub entries_from : ℕ → Kind → Kind → ℕ → ℕ → Expected
+entries_from zero key k depth at = []
+entries_from (suc more) key k depth at = (plain_role key depth true, at) ∷ (plain_role k depth true, at + 2) ∷ entries_from more key k depth (at + 4)
+
+-- the eight bytes of a word, byte 0 in its low bits
+abbrev pub word_bytes : ℕ → List ℕ
+word_bytes v = to_le_bytes w64 v
+
+-- the words of a run of so many bytes
+abbrev pub run_words : ℕ → ℕ
+run_words bytes = (bytes + 7) / 8
+
+-- the kind of the member of this number
+abbrev pub member_kind : List Field → ℕ → Kind
+member_kind fs n = unwrap_or (option_map (λ f. f.kind) (field_at fs n)) Uint64
+
+-- the words that are loaded right behind a word of a role, at a place, with a value
+abbrev pub behind : Table → Role → ℕ → ℕ → Expected
+behind T (value k) p v = []
+behind T (presence k) p v = if v == 0 then [] else (value k, p + 1) ∷ []
+behind T (run_length k) p v = if v == 0 then [] else (run_address k v, p + 1) ∷ []
+behind T (run_presence k) p v = if nat_le v 1 then [] else (run_address k (v - 1), p + 1) ∷ []
+behind T (run_address k bytes) p v = (run_word k bytes [], v) ∷ []
+behind T (run_word k left before) p v = if nat_le left 8 then [] else (run_word k (left - 8) (before ++ word_bytes v), p + 1) ∷ []
+behind T (link m depth needed) p v = if v == 0 then [] else node_words T m (depth + 1) v
+behind T (count k depth) p v = if v == 0 then [] else (elements_address k v depth, p + 1) ∷ []
+behind T (elements_address k elements depth) p v = elements_from elements k depth v
+behind T (entry_count key k depth) p v = if v == 0 then [] else (entries_address key k v depth, p + 1) ∷ []
+behind T (entries_address key k entries depth) p v = entries_from entries key k depth v
+behind T (case_word fs oneof depth) p v = if v == 0 then [] else (plain_role (member_kind fs v) depth true, p + 1) ∷ []

@@ -1,0 +1,24 @@
+//! Why a graph is refused.
+
+/// What is wrong with the last word that was loaded of a graph.
+#[derive(Clone, Copy, Debug, PartialEq, Eq)]
+pub enum Reason {
+    /// An address whose span doesn't lie in the heap.
+    Address,
+    /// A presence word that is neither 0 nor 1.
+    Presence,
+    /// A case word that is neither 0 nor the number of a member.
+    Case,
+    /// A length or a count whose span has more words than a heap may.
+    Length,
+    /// A string whose bytes aren't UTF-8, at its last word.
+    Utf8,
+    /// A word that isn't a word form of its kind, or a spare byte of a run that isn't 0.
+    Narrow,
+    /// The address of a message that would be the 33rd in depth.
+    Depth,
+    /// A further load is needed, and as many as the limit were made.
+    Loads,
+    /// The table has no such method.
+    NoMethod,
+}
