@@ -1,0 +1,4 @@
+pub mod Draining
+mod Rows
+pub mod Standing
+pub mod Texts

@@ -1,0 +1,76 @@
+-- The audit text of a history, a line for each happening, and the frames that it handed over.
+use Rattle.std.specs.Prelude.{ℕ, ◌+◌, ◌==◌, List, [], ◌∷◌, ◌++◌, codes, length, find, option_map, unwrap_or, if◌then◌else◌, Option}
+use Rattle.std.specs.List.{flat_map}
+use Rattle.std.specs.Fmt.{decimal}
+use Rattle.hex.specs.Hex.{encode_lower}
+use Rattle.mrpc_table.specs.Text.{line}
+use Rattle.mrpc_table.specs.declared.table.Table.{Table}
+use Rattle.wire_base.specs.Encoding.{encoding}
+use Rattle.frame_transport.specs.Bytes.{frame_bytes}
+use Rattle.call_ledger.specs.declared.happening.Happening.{Happening}
+use Rattle.call_ledger.specs.declared.happening.Happening.TheVariants.{Took, Sent}
+use Rattle.call_ledger.specs.declared.happening.TookCopy.{TookCopy}
+use Rattle.call_ledger.specs.declared.happening.TookCopy.TheVariants.{Copy}
+use Rattle.call_ledger.specs.Calls.{Call, History, calls_on, message_of, standing}
+
+-- bytes in lower-case hexadecimal digits, `-` where there is none
+abbrev pub hex_word : List ℕ → List ℕ
+hex_word [] = codes "-"
+hex_word (b ∷ bytes) = encode_lower (b ∷ bytes)
+
+-- the encoding of a call's copy
+abbrev pub payload : Table → Call → List ℕ
+payload T c = encoding T (message_of T c) c.tree
+
+abbrev pub copy_payload : Table → ℕ → TookCopy → List ℕ
+copy_payload T message (Copy tree) = encoding T message tree
+
+-- the sending of a call on a connection
+abbrev pub sending : Table → ℕ → Call → Happening
+sending T conn c = Sent conn c.seq (16 + length (payload T c))
+
+abbrev pub took_line : Table → Call → List ℕ
+took_line T c =
+    line (codes "took" ∷ decimal c.conn ∷ decimal c.seq ∷ decimal c.method ∷ decimal c.number ∷ decimal c.addr ∷ decimal c.after ∷ decimal c.count ∷ codes "copy" ∷ hex_word (payload T c) ∷ [])
+
+-- the same line from its numbers, each behind a space, and the copy's encoding
+abbrev pub took_text : List ℕ → List ℕ → List ℕ
+took_text numbers bytes = codes "took" ++ (flat_map (λ n. 32 ∷ decimal n) numbers ++ (codes " copy" ++ (32 ∷ (hex_word bytes ++ 10 ∷ []))))
+
+abbrev pub sent_line : ℕ → ℕ → ℕ → List ℕ
+sent_line conn seq bytes = line (codes "sent" ∷ decimal conn ∷ decimal seq ∷ decimal bytes ∷ [])
+
+abbrev pub audit_line : Table → Happening → List ℕ
+audit_line T (Took conn seq method number addr after count (Copy tree)) = took_line T (record { conn = conn; seq = seq; method = method; number = number; addr = addr; after = after; count = count; tree = tree })
+audit_line T (Sent conn seq bytes) = sent_line conn seq bytes
+
+abbrev pub audit : Table → History → List ℕ
+audit T h = flat_map (audit_line T) h
+
+-- the frame of a call: kind 1 with its own number for a request, kind 2 with the answered number for a reply
+abbrev pub frame_of : Table → Call → List ℕ
+frame_of T c = frame_bytes (if c.number == 0 then 1 else 2) c.method c.conn (if c.number == 0 then c.seq else c.number) (payload T c)
+
+-- the call of a number on a connection
+abbrev pub call_of : ℕ → ℕ → History → Option Call
+call_of conn seq h = find (λ c. c.seq == seq) (calls_on conn h)
+
+-- the frame that a happening hands over, behind a history: that of the call that is sent
+abbrev pub sent_frame : Table → History → Happening → List ℕ
+sent_frame T before (Sent conn seq bytes) = unwrap_or (option_map (frame_of T) (call_of conn seq before)) []
+sent_frame T before _ = []
+
+abbrev pub frames_behind : Table → History → History → List ℕ
+frames_behind T before [] = []
+frames_behind T before (x ∷ h) = sent_frame T before x ++ frames_behind T (before ++ x ∷ []) h
+
+-- the frames of a history, one for each sending, in order
+abbrev pub frames : Table → History → List ℕ
+frames T h = frames_behind T [] h
+
+-- a standing call that waits for transport, behind an empty chain
+abbrev pub stands_line : ℕ → ℕ → List ℕ
+stands_line conn seq = line (codes "stands" ∷ decimal conn ∷ decimal seq ∷ codes "0" ∷ codes "-" ∷ [])
+
+abbrev pub stands : ℕ → History → List ℕ
+stands conn h = flat_map (λ c. stands_line c.conn c.seq) (standing conn h)

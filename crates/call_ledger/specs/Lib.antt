@@ -1,0 +1,4 @@
+pub mod Audit
+pub mod Calls
+pub mod Fits
+pub mod Legal

@@ -1,0 +1,39 @@
+//! What can happen on a connection.
+
+use mrpc_table::Tree;
+
+/// What the service took of a call's arguments.
+#[derive(Debug, Drop)]
+pub enum TookCopy {
+    /// A private copy.
+    Copy { tree: Tree },
+}
+
+/// One thing that happened on a connection.
+#[derive(Debug, Drop)]
+pub enum Happening {
+    /// A call was accepted.
+    Took {
+        /// The connection, 1 to 16.
+        conn: u32,
+        /// The number of the call among those accepted on its connection, from 1.
+        seq: u32,
+        /// The index of its method.
+        method: u16,
+        /// 0 of a request, or the number of the request that it answers.
+        number: u32,
+        /// Where its message stands in the heap.
+        addr: u64,
+        /// How many stores had been made on that heap before it.
+        after: u64,
+        /// How many words were loaded for it.
+        count: u64,
+        copy: TookCopy,
+    },
+    /// A call's frame was handed over; its length is that of header and payload.
+    Sent {
+        conn: u32,
+        seq: u32,
+        bytes: u64,
+    },
+}
