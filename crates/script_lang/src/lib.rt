@@ -5,6 +5,16 @@
 //! and `store`, `submit` and `drain` lines. `specs/Thin.antt` is its grammar.
 #![tactic(auto)]
 
+mod fault;
+mod form;
+mod reading;
 mod script;
+mod stage;
+mod word;
 
+pub use fault::{ScriptFault, ScriptReason};
+pub use reading::{one_answer, read_script};
 pub use script::{Line, Lines, Script};
+
+#[cfg(test)]
+mod tests;
