@@ -1,0 +1,9 @@
+pub mod Endings
+pub mod Faults
+pub mod KnownBytes
+pub mod Sendings
+pub mod Short
+pub mod Submissions
+pub mod ThinTables
+pub mod Tracking
+pub mod Values

@@ -1,0 +1,5 @@
+pub mod Command
+pub mod Copying
+pub mod Reading
+pub mod Replay
+pub mod Writing

@@ -1,0 +1,21 @@
+//! The top call of mRPC: it takes the words of a command line, an input, an output and a wire, and
+//! answers an exit status.
+//!
+//! It stands on all crates below it, by their public contracts. Its one contract for the program is
+//! that of [`run_command`]: at status 0 a history follows the script that was read, the history is
+//! legal and spelled by its loads, and its audit, the calls that stand and its frames were written.
+#![tactic(auto)]
+
+mod command;
+mod copying;
+mod reading;
+mod replay;
+mod writing;
+
+pub use command::{
+    DONE, FAULTY_INPUT, INPUT_FAILED, NO_COMMAND, NO_MEMORY, OUTPUT_FAILED, WIRE_FAILED,
+    run_command,
+};
+
+#[cfg(test)]
+mod tests;
