@@ -1,0 +1,62 @@
+// The words of the command line.
+ghost use Rattle.std.specs.Prelude.{◌≡◌, ◌<◌, length, IfSome, IsSome};
+
+use std::env;
+use std::env::Env;
+use std::io::ErrorKind;
+
+const HELP: &str = "\
+mrpc replay < SCRIPT
+
+replay    reads a script from standard input, writes its audit on standard output
+          and the frames that were sent into the file mrpc.wire of the current folder
+
+mrpc --help       prints this text
+mrpc --version    prints the version
+
+Status: 0 done, 1 a faulty command line, 2 a fault of the input, 3 want of memory,
+4 a read failed, 5 a write on standard output failed, 6 a write to mrpc.wire failed.
+";
+
+const VERSION: &str = "mrpc 0.1.0\n";
+
+/// Why the words couldn't be read.
+#[derive(Clone, Copy, Debug, PartialEq, Eq)]
+pub(crate) enum WordsFault {
+    /// A word isn't UTF-8.
+    NotText,
+    /// No memory was found.
+    Memory,
+}
+
+/// The words after the program's name.
+pub(crate) fn words<R: Env + AllocGlobal>(rt: &R) -> Result<Vec<String>, WordsFault> {
+    let mut args = match env::args(rt) {
+        Ok(args) => args,
+        Err(error) if error.kind() == ErrorKind::InvalidData => return Err(WordsFault::NotText),
+        Err(_) => return Err(WordsFault::Memory),
+    };
+    let _name = args.next();
+    let mut words = Vec::new(rt.alloc());
+    for word in args {
+        if words.push(word).is_err() {
+            return Err(WordsFault::Memory);
+        }
+    }
+    Ok(words)
+}
+
+/// The text that `--help` or `--version` prints, where the command line is that word alone.
+pub(crate) fn told_alone(words: &[String]) -> Option<&'static str>
+    ensures alone { IsSome result → length words.now ≡ 1 }
+    ensures text { IfSome result (λ text. 0 < length text.now) }
+{
+    let [word] = words else {
+        return None;
+    };
+    match word.as_str() {
+        "--help" => Some(HELP),
+        "--version" => Some(VERSION),
+        _ => None,
+    }
+}

@@ -1,0 +1,93 @@
+// The three objects over a reader and writers that fail, and over a file of the system.
+ghost use Rattle.std.specs.Prelude.{◌≤◌, IfOk};
+
+use super::*;
+use mrpc_base::{Got, Put, Sink, Source};
+use std::io::{ErrorKind, Read, Write};
+use std::test::Fail;
+use std::{fs, io};
+
+// A device that answers its calls by a list: a count, or a failure.
+#[derive(Drop)]
+struct Device {
+    answers: [Option<usize>; 3],
+    calls: usize,
+}
+
+impl Device {
+    fn new(answers: [Option<usize>; 3]) -> Self {
+        Device { answers, calls: 0 }
+    }
+
+    // The next answer, at most `most`; past the list the count is 0.
+    fn next(&mut self, most: usize) -> io::Result<usize>
+        ensures { IfOk result (λ n. n ≤ most) }
+    {
+        let answer = self.answers.get(self.calls).copied().unwrap_or(Some(0));
+        self.calls = self.calls.saturating_add(1);
+        match answer {
+            Some(n) => Ok(n.min(most)),
+            None => Err(io::Error::from(ErrorKind::BrokenPipe)),
+        }
+    }
+}
+
+impl Read for Device {
+    fn read(&mut self, buf: &mut [u8]) -> io::Result<usize> {
+        let n = self.next(buf.len())?;
+        for byte in &mut buf[..n] {
+            *byte = b'x';
+        }
+        Ok(n)
+    }
+}
+
+impl Write for Device {
+    fn write(&mut self, buf: &[u8]) -> io::Result<usize> {
+        self.next(buf.len())
+    }
+
+    fn flush(&mut self) -> io::Result<()> {
+        Ok(())
+    }
+}
+
+#[test]
+fn reads_are_answered_and_their_failures_counted(rt: HostRuntime) {
+    let mut source = StandardInput::new(Device::new([Some(9), None, Some(1)]));
+    let mut buf = [0; 4];
+    let first = source.read(&mut buf);
+    assert_eq!(rt; (first, buf), (Got::Bytes(4), *b"xxxx"));
+    let later = [
+        source.read(&mut buf),
+        source.read(&mut buf),
+        source.read(&mut buf),
+    ];
+    assert_eq!(rt; later, [Got::Failed, Got::Bytes(1), Got::End]);
+}
+
+#[test]
+fn a_writer_that_takes_nothing_has_failed(rt: HostRuntime) {
+    let mut sink = StandardOutput::new(Device::new([Some(2), None, Some(0)]));
+    let puts = [sink.write(b"abc"), sink.write(b"c"), sink.write(b"c")];
+    assert_eq!(rt; puts, [Put::Took(2), Put::Failed, Put::Failed]);
+    let mut whole = StandardOutput::new(Device::new([Some(1), Some(2), Some(1)]));
+    assert!(rt; write_text("text", &mut whole));
+    let mut cut = StandardOutput::new(Device::new([Some(1), Some(2), None]));
+    assert!(rt; !write_text("text", &mut cut));
+}
+
+#[test]
+fn the_file_is_made_at_the_first_write(rt: HostRuntime) -> Result<(), Fail> {
+    let mut wire = FileSink::new(rt);
+    assert_eq!(rt; wire.write(b"ab"), Put::Took(2));
+    assert_eq!(rt; wire.write(b"c"), Put::Took(1));
+    let bytes = fs::read(&rt, "mrpc.wire")?;
+    assert_eq!(rt; bytes.as_slice(), b"abc".as_slice());
+    let mut again = FileSink::new(rt);
+    assert_eq!(rt; again.write(b"d"), Put::Took(1));
+    let bytes = fs::read(&rt, "mrpc.wire")?;
+    assert_eq!(rt; bytes.as_slice(), b"d".as_slice());
+    fs::remove_file(&rt, "mrpc.wire")?;
+    Ok(())
+}
