@@ -13,17 +13,11 @@ mod writing;
 
 use command_line::{WordsFault, told_alone, words};
 use file_sink::FileSink;
+use mrpc_top::{DONE, NO_COMMAND, NO_MEMORY, OUTPUT_FAILED, run_command};
 use standard_input::StandardInput;
 use standard_output::StandardOutput;
 use std::process::ExitCode;
 use writing::write_text;
-
-/// The exit statuses that come before the top call is made; the others are its answers.
-const FAULTY_COMMAND_LINE: u8 = 1;
-
-const NO_MEMORY: u8 = 3;
-
-const OUTPUT_FAILED: u8 = 5;
 
 fn main(rt: HostRuntime) -> ExitCode {
     ExitCode::from(exit_status(rt))
@@ -33,20 +27,20 @@ fn main(rt: HostRuntime) -> ExitCode {
 fn exit_status(rt: HostRuntime) -> u8 {
     let words = match words(&rt) {
         Ok(words) => words,
-        Err(WordsFault::NotText) => return FAULTY_COMMAND_LINE,
+        Err(WordsFault::NotText) => return NO_COMMAND,
         Err(WordsFault::Memory) => return NO_MEMORY,
     };
     let mut out = StandardOutput::new(rt.stdout());
     if let Some(text) = told_alone(&words) {
         return if write_text(text, &mut out) {
-            0
+            DONE
         } else {
             OUTPUT_FAILED
         };
     }
     let mut input = StandardInput::new(rt.stdin());
     let mut wire = FileSink::new(rt);
-    mrpc_top::run_command(rt.alloc(), &words, &mut input, &mut out, &mut wire)
+    run_command(rt.alloc(), &words, &mut input, &mut out, &mut wire)
 }
 
 #[cfg(test)]
