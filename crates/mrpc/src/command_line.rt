@@ -1,5 +1,6 @@
 // The words of the command line.
-ghost use Rattle.std.specs.Prelude.{◌≡◌, ◌<◌, length, IfSome, IsSome};
+ghost use Rattle.std.specs.Prelude.{◌≡◌, ◌↔◌, IsSome};
+ghost use Rattle.mrpc.specs.CommandLine.{Asks, AsksAlone};
 
 use std::env;
 use std::env::Env;
@@ -48,15 +49,23 @@ pub(crate) fn words<R: Env + AllocGlobal>(rt: &R) -> Result<Vec<String>, WordsFa
 
 /// The text that `--help` or `--version` prints, where the command line is that word alone.
 pub(crate) fn told_alone(words: &[String]) -> Option<&'static str>
-    ensures alone { IsSome result → length words.now ≡ 1 }
-    ensures text { IfSome result (λ text. 0 < length text.now) }
+    ensures asked { IsSome result ↔ AsksAlone words.now }
 {
-    let [word] = words else {
-        return None;
-    };
-    match word.as_str() {
-        "--help" => Some(HELP),
-        "--version" => Some(VERSION),
+    match words {
+        [word] => told(word.as_str()),
         _ => None,
+    }
+}
+
+// The text that the word asks for.
+fn told(word: &str) -> Option<&'static str>
+    ensures { IsSome result ↔ Asks word.now }
+{
+    if word == "--help" {
+        Some(HELP)
+    } else if word == "--version" {
+        Some(VERSION)
+    } else {
+        None
     }
 }
