@@ -1,0 +1,15 @@
+pub mod Adding
+pub mod Contents
+pub mod Elements
+pub mod Faulty
+pub mod FieldPlaces
+pub mod Gathering
+pub mod MapEntries
+pub mod Merging
+pub mod Oneofs
+pub mod Only
+pub mod Reading
+pub mod Rows
+pub mod SmallTable
+pub mod Sorting
+pub mod Unique

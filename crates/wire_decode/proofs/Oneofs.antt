@@ -1,0 +1,124 @@
+-- Which records of a oneof count.
+use Rattle.std.proofs.Common.{◌≡◌, ◌≢◌, ◌==◌, ◌&&◌, ◌||◌, ℕ, zero, suc, List, [], ◌∷◌, ◌++◌, get_or, Option, Some, None, Bool, true, false, not, cond, refl, ap, sym, subst, ◌∙◌, arith, ⊎_elim}
+use Rattle.std.proofs.lemmas.Bool.Decides.{nat_tests, eqb_tells}
+use Rattle.std.specs.Option.{option_and_then, is_some}
+use Rattle.std.specs.Prelude.{reverse}
+use Rattle.std.proofs.lemmas.List.{reverse-append}
+use Rattle.mrpc_table.specs.Node.{Node, no_fields, field, Content, push_field}
+use Rattle.mrpc_table.specs.Normal.{field_at}
+use Rattle.mrpc_table.specs.View.{content_of, node_of}
+use Rattle.mrpc_table.specs.declared.tree.FieldValue.{FieldValue}
+use Rattle.mrpc_table.specs.declared.table.Field.{Field}
+use Rattle.wire_decode.specs.Merged.{oneof_of, oneof_at, is_same, are_rivals, is_overtaken, counted}
+use Rattle.wire_decode.specs.declared.oneof.Behind.{Behind}
+use Rattle.wire_decode.specs.declared.oneof.Behind.TheVariants.{Nothing, Only, Several}
+use Rattle.wire_decode.specs.Behind.{overtakes, IsInFront, IsNoted, Tell, HasNoMember, IsCounted}
+
+and-false : (b : Bool) → (b && false) ≡ false
+and-false true = refl
+and-false false = refl
+
+and-true : (b : Bool) → (b && true) ≡ b
+and-true true = refl
+and-true false = refl
+
+or-false : (b : Bool) → (b || false) ≡ b
+or-false true = refl
+or-false false = refl
+
+or-true : (b : Bool) → (b || true) ≡ true
+or-true true = refl
+or-true false = refl
+
+pub front-nothing : (m : ℕ) → IsInFront Nothing m (Only m)
+front-nothing m n = sym (or-false (not (m == n)))
+
+pub front-same : (k m : ℕ) → k ≡ m → IsInFront (Only k) m (Only m)
+front-same k m e n = grind (arith, nat_tests)
+
+pub front-several : (k m : ℕ) → k ≢ m → IsInFront (Only k) m Several
+front-several k m e n = grind (arith, nat_tests)
+
+pub front-more : (m : ℕ) → IsInFront Several m Several
+front-more m n = sym (or-true (not (m == n)))
+
+-- a place that is made for a oneof has nothing
+pub get_or-grown : (bs : List Behind) (p : ℕ) → get_or (bs ++ Nothing ∷ []) p Nothing ≡ get_or bs p Nothing
+get_or-grown [] zero = refl
+get_or-grown [] (suc p) = refl
+get_or-grown (b ∷ bs) zero = refl
+get_or-grown (b ∷ bs) (suc p) = get_or-grown bs p
+
+-- of no oneof, of none's rivals
+rivals-none : (fs : List Field) (n m : ℕ) → oneof_at fs n ≡ None → are_rivals fs n m ≡ false
+rivals-none fs n m e = ap (λ o. not (m == n) && is_same o (oneof_at fs m)) e ∙ and-false (not (m == n))
+
+overtaken-none : (fs : List Field) (n : ℕ) (t : Node) → oneof_at fs n ≡ None → is_overtaken fs n t ≡ false
+overtaken-none fs n no_fields e = refl
+overtaken-none fs n (field m c t) e = ap (λ b. b || is_overtaken fs n t) (rivals-none fs n m e) ∙ overtaken-none fs n t e
+
+rivals-other : (fs : List Field) (n m p : ℕ) → oneof_at fs n ≡ Some p → oneof_at fs m ≡ None → are_rivals fs n m ≡ false
+rivals-other fs n m p e f = ap (λ o. not (m == n) && is_same o (oneof_at fs m)) e ∙ ap (λ o. not (m == n) && is_same (Some p) o) f ∙ and-false (not (m == n))
+
+rivals-both : (fs : List Field) (n m p o : ℕ) → oneof_at fs n ≡ Some p → oneof_at fs m ≡ Some o → are_rivals fs n m ≡ (not (m == n) && (p == o))
+rivals-both fs n m p o e f = ap (λ x. not (m == n) && is_same x (oneof_at fs m)) e ∙ ap (λ x. not (m == n) && is_same (Some p) x) f
+
+pub counted-other : (fs : List Field) (bs : List Behind) (n : ℕ) → oneof_at fs n ≡ None → IsCounted fs bs n bs true
+counted-other fs bs n e = record {
+  counts = λ t h. sym (ap not (overtaken-none fs n t e));
+  tells = λ t c h k p at. h k p at ∙ sym (ap (λ b. b || is_overtaken fs k t) (rivals-other fs k n p at e));
+}
+
+pub counted-member : (fs : List Field) (old new : List Behind) (n o : ℕ) (b : Bool) → oneof_at fs n ≡ Some o → IsNoted old o n new → b ≡ not (overtakes (get_or old o Nothing) n) → IsCounted fs old n new b
+counted-member fs old new n o b e noted is = record {
+  counts = λ t h. is ∙ ap not (h n o e);
+  tells = λ t c h k p at.
+      let rivals = rivals-both fs k n p o at e in
+      ⊎_elim
+      (λ s. let P : ℕ → Type 0 = λ x. oneof_at fs k ≡ Some x → overtakes (get_or new x Nothing) k ≡ (not (n == k) || is_overtaken fs k t) in
+      let here : P o = λ at_o. noted.here k ∙ ap (λ x. not (n == k) || x) (h k o at_o) in
+      (subst P (sym s.1) here) at ∙ sym (ap (λ x. x || is_overtaken fs k t) (rivals ∙ ap (λ x. not (n == k) && x) s.0 ∙ and-true (not (n == k)))))
+      (λ s. ap (λ x. overtakes x k) (noted.others p s.1) ∙ h k p at ∙ sym (ap (λ x. x || is_overtaken fs k t) (rivals ∙ ap (λ x. not (n == k) && x) s.0 ∙ and-false (not (n == k)))))
+      (eqb_tells p o);
+}
+
+pub tell-none : (fs : List Field) → Tell fs [] no_fields
+tell-none fs n o e = refl
+
+pub counted-kept : (fs : List Field) (n : ℕ) (c : Content) (t : Node) → true ≡ not (is_overtaken fs n t) → counted fs (field n c t) ≡ field n c (counted fs t)
+counted-kept fs n c t h = ap (λ b. cond b (counted fs t) (field n c (counted fs t))) (is-false (is_overtaken fs n t) h)
+  where
+    is-false : (b : Bool) → true ≡ not b → b ≡ false
+    is-false true h = h
+    is-false false h = refl
+
+pub counted-dropped : (fs : List Field) (n : ℕ) (c : Content) (t : Node) → false ≡ not (is_overtaken fs n t) → counted fs (field n c t) ≡ counted fs t
+counted-dropped fs n c t h = ap (λ b. cond b (counted fs t) (field n c (counted fs t))) (is-true (is_overtaken fs n t) h)
+  where
+    is-true : (b : Bool) → false ≡ not b → b ≡ true
+    is-true true h = refl
+    is-true false h = h
+
+pub counted-all : (fs : List Field) (t : Node) → HasNoMember fs t → t ≡ counted fs t
+counted-all fs no_fields h = refl
+counted-all fs (field n c t) h = ap (field n c) (counted-all fs t h.1) ∙ sym (counted-kept fs n c t (sym (ap not (overtaken-none fs n t h.0))))
+
+pub member-pushed : (fs : List Field) (n : ℕ) (c : Content) (t : Node) → oneof_at fs n ≡ None → HasNoMember fs t → HasNoMember fs (push_field t n c)
+member-pushed fs n c no_fields e h = (e, tt)
+member-pushed fs n c (field m d t) e h = (h.0, member-pushed fs n c t e h.1)
+
+pub oneof-found : (fs : List Field) (n : ℕ) (f : Field) → field_at fs n ≡ Some f → oneof_at fs n ≡ oneof_of f.label
+oneof-found fs n f e = ap (option_and_then (λ f. oneof_of f.label)) e
+
+pub oneof-absent : (fs : List Field) (n : ℕ) → field_at fs n ≡ None → oneof_at fs n ≡ None
+oneof-absent fs n e = ap (option_and_then (λ f. oneof_of f.label)) e
+
+pub none-of : (o : Option ℕ) → is_some o ≡ false → o ≡ None
+none-of None h = refl
+none-of (Some n) h = absurd (cc)
+
+pub kept-more : (fs : List Field) (kept new : List (ℕ × FieldValue)) (b : Bool) (x : ℕ × FieldValue) (done : Node) → new ≡ cond b (kept ++ x ∷ []) kept → b ≡ not (is_overtaken fs x.0 done) → node_of (reverse kept) ≡ counted fs done → node_of (reverse new) ≡ counted fs (field x.0 (content_of x.1) done)
+kept-more fs kept new true x done e h k =
+    ap (λ xs. node_of (reverse xs)) e ∙ ap node_of (reverse-append kept (x ∷ [])) ∙ ap (field x.0 (content_of x.1)) k ∙ sym (counted-kept fs x.0 (content_of x.1) done h)
+kept-more fs kept new false x done e h k =
+    ap (λ xs. node_of (reverse xs)) e ∙ k ∙ sym (counted-dropped fs x.0 (content_of x.1) done h)

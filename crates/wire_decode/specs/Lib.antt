@@ -1,0 +1,10 @@
+pub mod Ascending
+pub mod Behind
+pub mod Entries
+pub mod Faults
+pub mod Gathered
+pub mod Means
+pub mod Merged
+pub mod Parts
+pub mod Reads
+pub mod Words

@@ -1,0 +1,174 @@
+-- The message that the contents of records, in the order of the bytes, stand for: each field has its value from
+-- the records of its number alone (Protocol Buffers, "Encoding": "Last One Wins", "Oneofs", "Maps").
+use Rattle.std.specs.Prelude.{◌==◌, ◌||◌, ◌&&◌, ℕ, zero, suc, Bool, true, false, not, List, [], ◌∷◌, ◌++◌, map, Option, Some, None, option_and_then, unwrap_or, if◌then◌else◌}
+use Rattle.std.specs.Ordering.{nat_cmp}
+use Rattle.std.specs.declared.cmp.Ordering.{Ordering}
+use Rattle.std.specs.declared.cmp.Ordering.TheVariants.{Less, Equal, Greater}
+use Rattle.std.specs.Cmp.Lexicographic.{slice_cmp}
+use Rattle.mrpc_table.specs.Node.{Node, no_fields, field, Content, one, many, pairs, Item, number, run, node, Items, no_items, item, Pairs, no_pairs, pair}
+use Rattle.mrpc_table.specs.Normal.{fields_of, field_at}
+use Rattle.mrpc_table.specs.Words.{rank}
+use Rattle.mrpc_table.specs.declared.table.Kind.{Kind}
+use Rattle.mrpc_table.specs.declared.table.Kind.TheVariants.{Text, Octets, Message as OfMessage}
+use Rattle.mrpc_table.specs.declared.table.Label.{Label}
+use Rattle.mrpc_table.specs.declared.table.Label.TheVariants.{Plain, Optional, Repeated, Packed, Map, Member}
+use Rattle.mrpc_table.specs.declared.table.Field.{Field}
+use Rattle.mrpc_table.specs.declared.table.Table.{Table}
+
+-- the contents of the records of one number, in order
+abbrev pub contents_of : ℕ → Node → List Content
+contents_of n no_fields = []
+contents_of n (field m c t) = if m == n then c ∷ contents_of n t else contents_of n t
+
+abbrev pub items_in : Items → List Item
+items_in no_items = []
+items_in (item i is) = i ∷ items_in is
+
+abbrev pub items_from : List Item → Items
+items_from [] = no_items
+items_from (i ∷ is) = item i (items_from is)
+
+-- the values in contents, those of packed pieces included
+abbrev pub values_in : List Content → List Item
+values_in [] = []
+values_in (one i ∷ cs) = i ∷ values_in cs
+values_in (many is ∷ cs) = items_in is ++ values_in cs
+values_in (pairs ps ∷ cs) = values_in cs
+
+-- the values of contents of one value each
+abbrev pub singles_in : List Content → List Item
+singles_in [] = []
+singles_in (one i ∷ cs) = i ∷ singles_in cs
+singles_in (many is ∷ cs) = singles_in cs
+singles_in (pairs ps ∷ cs) = singles_in cs
+
+abbrev pub join_fields : Node → Node → Node
+join_fields no_fields u = u
+join_fields (field n c t) u = field n c (join_fields t u)
+
+-- the records of several payloads, as if the payloads were one
+abbrev pub joined : List Item → Node
+joined [] = no_fields
+joined (number n ∷ is) = joined is
+joined (run bytes ∷ is) = joined is
+joined (node t ∷ is) = join_fields t (joined is)
+
+abbrev pub last_value : List Item → Option Item
+last_value [] = None
+last_value (i ∷ []) = Some i
+last_value (i ∷ j ∷ is) = last_value (j ∷ is)
+
+abbrev pub is_default : Item → Bool
+is_default (number n) = n == 0
+is_default (run []) = true
+is_default (run (b ∷ bs)) = false
+is_default (node t) = false
+
+abbrev pub default_of : Kind → Item
+default_of Text = run []
+default_of Octets = run []
+default_of (OfMessage i) = node no_fields
+default_of _ = number 0
+
+-- the value of a singular field: the last one, or the message of all records joined
+abbrev pub singular : (ℕ → Node → Node) → Kind → List Item → Option Item
+singular inner (OfMessage i) [] = None
+singular inner (OfMessage i) (v ∷ vs) = Some (node (inner i (joined (v ∷ vs))))
+singular inner _ vs = last_value vs
+
+-- an element of a repeated field: a message by itself
+abbrev pub element : (ℕ → Node → Node) → Kind → Item → Item
+element inner (OfMessage i) v = node (inner i (joined (v ∷ [])))
+element inner _ v = v
+
+-- the key or the value of an entry, by its number; where it is missing, the default
+abbrev pub part : (ℕ → Node → Node) → ℕ → Kind → Node → Item
+part inner n k t = unwrap_or (singular inner k (singles_in (contents_of n t))) (default_of k)
+
+abbrev pub entry : (ℕ → Node → Node) → Kind → Kind → Item → Item × Item
+entry inner key k v = (part inner 1 key (joined (v ∷ [])), part inner 2 k (joined (v ∷ [])))
+
+-- keys as numbers of their kind, or by bytes
+abbrev pub key_code : Kind → Item → List ℕ
+key_code k (number n) = 0 ∷ rank k n ∷ []
+key_code k (run bytes) = 1 ∷ bytes
+key_code k (node t) = 2 ∷ []
+
+abbrev pub key_cmp : Kind → Item → Item → Ordering
+key_cmp k i j = slice_cmp nat_cmp (key_code k i) (key_code k j)
+
+-- a pair at its key's place in ascending order; a key that is there stays as it is
+abbrev pub with_pair : Kind → Item → Item → Pairs → Pairs
+with_pair key k v no_pairs = pair k v no_pairs
+with_pair key k v (pair l w ps) = elim (key_cmp key k l) [ Less ↦ pair k v (pair l w ps) | Equal ↦ pair l w ps | Greater ↦ pair l w (with_pair key k v ps) ]
+
+-- each key once, by ascending key, with the value of its last entry
+abbrev pub last_of_each : Kind → List (Item × Item) → Pairs
+last_of_each key [] = no_pairs
+last_of_each key (e ∷ es) = with_pair key e.0 e.1 (last_of_each key es)
+
+-- what a field has, from the contents of its records; under implicit presence a default is nothing
+abbrev pub present : Option Item → Option Content
+present None = None
+present (Some i) = Some (one i)
+
+abbrev pub present_if_set : Option Item → Option Content
+present_if_set None = None
+present_if_set (Some i) = if is_default i then None else Some (one i)
+
+abbrev pub some_items : List Item → Option Content
+some_items [] = None
+some_items (i ∷ is) = Some (many (items_from (i ∷ is)))
+
+abbrev pub some_pairs : Pairs → Option Content
+some_pairs no_pairs = None
+some_pairs (pair k v ps) = Some (pairs (pair k v ps))
+
+abbrev pub field_content : (ℕ → Node → Node) → Label → Kind → List Content → Option Content
+field_content inner Plain k cs = present_if_set (singular inner k (singles_in cs))
+field_content inner Optional k cs = present (singular inner k (singles_in cs))
+field_content inner (Member o) k cs = present (singular inner k (singles_in cs))
+field_content inner Repeated k cs = some_items (map (element inner k) (values_in cs))
+field_content inner Packed k cs = some_items (map (element inner k) (values_in cs))
+field_content inner (Map key) k cs = some_pairs (last_of_each key (map (entry inner key k) (values_in cs)))
+
+-- the oneof that a field is a member of
+abbrev pub oneof_of : Label → Option ℕ
+oneof_of (Member o) = Some o
+oneof_of _ = None
+
+abbrev pub oneof_at : List Field → ℕ → Option ℕ
+oneof_at fs n = option_and_then (λ f. oneof_of f.label) (field_at fs n)
+
+abbrev pub is_same : Option ℕ → Option ℕ → Bool
+is_same (Some o) (Some p) = o == p
+is_same _ _ = false
+
+-- two numbers are of different members of one oneof
+abbrev pub are_rivals : List Field → ℕ → ℕ → Bool
+are_rivals fs n m = not (m == n) && is_same (oneof_at fs n) (oneof_at fs m)
+
+-- a record of another member of the same oneof stands behind
+abbrev pub is_overtaken : List Field → ℕ → Node → Bool
+is_overtaken fs n no_fields = false
+is_overtaken fs n (field m c t) = are_rivals fs n m || is_overtaken fs n t
+
+-- the records that count: of a oneof, the longest run of its last member's records at the end of the oneof's
+-- records, which are those behind which no other member's record stands
+abbrev pub counted : List Field → Node → Node
+counted fs no_fields = no_fields
+counted fs (field n c t) = if is_overtaken fs n t then counted fs t else field n c (counted fs t)
+
+abbrev pub with_content : ℕ → Option Content → Node → Node
+with_content n None t = t
+with_content n (Some c) t = field n c t
+
+-- the fields by ascending number, each with what its records give
+abbrev pub with_fields : (ℕ → Node → Node) → Node → List Field → Node
+with_fields inner raw [] = no_fields
+with_fields inner raw (f ∷ fs) = with_content f.number (field_content inner f.label f.kind (contents_of f.number raw)) (with_fields inner raw fs)
+
+-- the message of what its records have, where no more messages than this stand in one another
+unfoldable pub merged : Table → ℕ → ℕ → Node → Node
+merged T zero i raw = no_fields
+merged T (suc depth) i raw = with_fields (merged T depth) (counted (fields_of T i) raw) (fields_of T i)

@@ -1,0 +1,47 @@
+-- What the readers of one payload find.
+use Rattle.std.specs.Prelude.{◌≡◌, ℕ, suc, ◌⊎◌, List}
+use Rattle.mrpc_table.specs.Node.{Node, Content, one, many, node}
+use Rattle.mrpc_table.specs.Normal.{fields_of}
+use Rattle.mrpc_table.specs.declared.table.Kind.{Kind}
+use Rattle.mrpc_table.specs.declared.table.Table.{Table}
+use Rattle.wire_decode.specs.Words.{AreElements}
+use Rattle.wire_decode.specs.Reads.{Reads, HasRoom, entry_fields, numbers}
+use Rattle.wire_decode.specs.Faults.{Faults}
+use Rattle.wire_decode.specs.declared.fault.DecodeReason.{DecodeReason}
+use Rattle.wire_decode.specs.declared.fault.DecodeReason.TheVariants.{Depth}
+
+-- the bytes from a place on are a packed piece
+pub record IsPiece (k : Kind) (bytes : List ℕ) (at : ℕ) (c : Content) : Type 0 where
+  pub words : List ℕ
+  pub whole : AreElements k bytes at words
+  pub content : c ≡ many (numbers words)
+
+abbrev pub NoPiece : Kind → List ℕ → ℕ → Type 0
+NoPiece k bytes at = (ws : List ℕ) → AreElements k bytes at ws → ⊥
+
+abbrev pub IsFixedOrVarint : ℕ → Type 0
+IsFixedOrVarint w = (w ≡ 0) ⊎ (w ≡ 1) ⊎ (w ≡ 5)
+
+-- the bytes from a place on are an entry
+pub record IsEntry (T : Table) (room : ℕ) (key k : Kind) (bytes : List ℕ) (at : ℕ) (c : Content) : Type 0 where
+  pub raw : Node
+  pub reads : Reads T room (entry_fields key k) bytes at raw
+  pub has_room : HasRoom room k
+  pub content : c ≡ one (node raw)
+
+-- the first fault of an entry
+pub data NoEntry (T : Table) (room : ℕ) (key k : Kind) (bytes : List ℕ) (at : ℕ) (reason : DecodeReason) (place : ℕ) : Type 0 where
+  entry_fault : Faults T room (entry_fields key k) bytes at reason place → NoEntry T room key k bytes at reason place
+  entry_room : (t : Node) → Reads T room (entry_fields key k) bytes at t → (HasRoom room k → ⊥) → reason ≡ Depth → place ≡ at → NoEntry T room key k bytes at reason place
+
+-- the bytes from a place on are a message inside another one
+pub record IsInner (T : Table) (room i : ℕ) (bytes : List ℕ) (at : ℕ) (c : Content) : Type 0 where
+  pub inside : ℕ
+  pub raw : Node
+  pub has_room : room ≡ suc inside
+  pub reads : Reads T inside (fields_of T i) bytes at raw
+  pub content : c ≡ one (node raw)
+
+pub data NoInner (T : Table) (room i : ℕ) (bytes : List ℕ) (at : ℕ) (reason : DecodeReason) (place : ℕ) : Type 0 where
+  inner_fault : (inside : ℕ) → room ≡ suc inside → Faults T inside (fields_of T i) bytes at reason place → NoInner T room i bytes at reason place
+  inner_room : room ≡ 0 → reason ≡ Depth → place ≡ at → NoInner T room i bytes at reason place

@@ -1,0 +1,57 @@
+-- What stands in the records of a message, each read by itself: the contents of the records of known fields in
+-- the order of the bytes, with what the messages in them have. Records of other numbers, and of known
+-- numbers with another wire type, are skipped (Protocol Buffers, "Encoding").
+use Rattle.std.specs.Prelude.{◌≡◌, ℕ, suc, ◌<◌, Bool, true, false, List, [], ◌∷◌, length, take, Some, option_map, unwrap_or, slice_range}
+use Rattle.std.specs.Str.{IsUtf8}
+use Rattle.mrpc_table.specs.Node.{Node, no_fields, field, Content, one, many, number, run, node, Items, no_items, item}
+use Rattle.mrpc_table.specs.Normal.{fields_of, field_at}
+use Rattle.mrpc_table.specs.Words.{is_numeric}
+use Rattle.mrpc_table.specs.declared.table.Kind.{Kind}
+use Rattle.mrpc_table.specs.declared.table.Kind.TheVariants.{Text, Octets, Message as OfMessage}
+use Rattle.mrpc_table.specs.declared.table.Label.{Label}
+use Rattle.mrpc_table.specs.declared.table.Label.TheVariants.{Optional, Map}
+use Rattle.mrpc_table.specs.declared.table.Field.{Field}
+use Rattle.mrpc_table.specs.declared.table.Table.{Table}
+use Rattle.wire_base.specs.Encoding.{wire_type_of}
+use Rattle.wire_base.specs.Records.{RecordAt}
+use Rattle.wire_base.specs.declared.records.Record.{Record}
+use Rattle.wire_base.specs.declared.records.Payload.{Payload}
+use Rattle.wire_base.specs.declared.records.Payload.TheVariants.{Len}
+use Rattle.wire_decode.specs.Words.{word_of, number_in, payload_type, is_map, may_be_packed, suits, AreElements}
+
+-- whether a record is of a field of the message and of the field's own wire type
+abbrev pub is_known : List Field → Record → Bool
+is_known fs r = unwrap_or (option_map (λ f. suits f.label f.kind r.payload) (field_at fs r.number)) false
+
+abbrev pub numbers : List ℕ → Items
+numbers [] = no_items
+numbers (w ∷ ws) = item (number w) (numbers ws)
+
+-- an entry of a map is a message with the key as field 1 and the value as field 2
+abbrev pub entry_fields : Kind → Kind → List Field
+entry_fields key k = record { number = 1; name = []; kind = key; label = Optional } ∷ record { number = 2; name = []; kind = k; label = Optional } ∷ []
+
+abbrev pub is_message : Kind → Bool
+is_message (OfMessage i) = true
+is_message _ = false
+
+-- the message of a map's value may stand as deep as its entry, or its default could
+abbrev pub HasRoom : ℕ → Kind → Type 0
+HasRoom room k = is_message k ≡ true → 0 < room
+
+mutual
+  -- The records are the bytes from a place to their end, and t has the contents of the known ones in order.
+  -- So many messages may still stand in one another inside.
+  pub data Reads (T : Table) : ℕ → List Field → List ℕ → ℕ → Node → Type 0 where
+    read_end : {room : ℕ} {fs : List Field} {bytes : List ℕ} {at : ℕ} {t : Node} → at ≡ length bytes → t ≡ no_fields → Reads T room fs bytes at t
+    read_other : {room : ℕ} {fs : List Field} {bytes : List ℕ} {at : ℕ} {t : Node} (r : Record) → RecordAt bytes at r → is_known fs r ≡ false → Reads T room fs bytes r.next t → Reads T room fs bytes at t
+    read_known : {room : ℕ} {fs : List Field} {bytes : List ℕ} {at : ℕ} {t : Node} (r : Record) (f : Field) (c : Content) (rest : Node) → RecordAt bytes at r → field_at fs r.number ≡ Some f → Holds T room f.label f.kind bytes r.payload c → t ≡ field r.number c rest → Reads T room fs bytes r.next rest → Reads T room fs bytes at t
+
+  -- what a record of a field has: a number, the elements of a packed piece, text, bytes, a message, or an entry
+  pub data Holds (T : Table) : ℕ → Label → Kind → List ℕ → Payload → Content → Type 0 where
+    holds_number : {room : ℕ} {label : Label} {k : Kind} {bytes : List ℕ} {p : Payload} {c : Content} → is_map label ≡ false → is_numeric k ≡ true → payload_type p ≡ wire_type_of k → c ≡ one (number (word_of k (number_in p))) → Holds T room label k bytes p c
+    holds_piece : {room : ℕ} {label : Label} {k : Kind} {bytes : List ℕ} {p : Payload} {c : Content} (start end : ℕ) (ws : List ℕ) → may_be_packed label k ≡ true → p ≡ Len start end → AreElements k (take end bytes) start ws → c ≡ many (numbers ws) → Holds T room label k bytes p c
+    holds_text : {room : ℕ} {label : Label} {k : Kind} {bytes : List ℕ} {p : Payload} {c : Content} (start end : ℕ) → is_map label ≡ false → k ≡ Text → p ≡ Len start end → IsUtf8 (slice_range bytes start end) → c ≡ one (run (slice_range bytes start end)) → Holds T room label k bytes p c
+    holds_octets : {room : ℕ} {label : Label} {k : Kind} {bytes : List ℕ} {p : Payload} {c : Content} (start end : ℕ) → is_map label ≡ false → k ≡ Octets → p ≡ Len start end → c ≡ one (run (slice_range bytes start end)) → Holds T room label k bytes p c
+    holds_message : {room : ℕ} {label : Label} {k : Kind} {bytes : List ℕ} {p : Payload} {c : Content} (inside i start end : ℕ) (t : Node) → is_map label ≡ false → k ≡ OfMessage i → p ≡ Len start end → room ≡ suc inside → Reads T inside (fields_of T i) (take end bytes) start t → c ≡ one (node t) → Holds T room label k bytes p c
+    holds_entry : {room : ℕ} {label : Label} {k : Kind} {bytes : List ℕ} {p : Payload} {c : Content} (key : Kind) (start end : ℕ) (t : Node) → label ≡ Map key → p ≡ Len start end → Reads T room (entry_fields key k) (take end bytes) start t → HasRoom room k → c ≡ one (node t) → Holds T room label k bytes p c

@@ -1,0 +1,70 @@
+//! The decoder: the message that Protocol Buffers bytes mean, or the first fault in them.
+//!
+//! The format is that of the Protocol Buffers encoding guide. Bytes are read in one pass into the
+//! contents of their records, in order; then each field has its value from its own records, and the
+//! tree comes with its fields by ascending number. Both take time in proportion to the bytes, but for
+//! sorting the entries of maps. `specs/Means.antt` says what bytes mean, `specs/Faults.antt` which
+//! fault is the first one. It stands on `mrpc_table` and `wire_base`. The layers above use one
+//! contract: the answer is the meaning, or the first fault exactly where there is no meaning.
+#![tactic(auto)]
+
+ghost use Rattle.std.specs.Prelude.{◌≡◌, ◌<◌, length, IfOk, IfErr, MatchResult};
+ghost use Rattle.mrpc_table.specs.Valid.{IsValid};
+ghost use Rattle.mrpc_table.specs.Node.{Node};
+ghost use Rattle.wire_decode.specs.Ascending.{AllAscend};
+ghost use Rattle.wire_decode.specs.Means.{Means};
+ghost use Rattle.wire_decode.specs.Faults.{IsFirstFault, FaultsAs};
+
+mod fault;
+mod gather;
+mod laws;
+mod look_up;
+mod map;
+mod merge;
+mod number;
+mod oneof;
+mod read;
+#[cfg(test)]
+mod tests;
+
+use crate::look_up::fields_of;
+use crate::merge::merged;
+use crate::read::read_message;
+pub use fault::{DecodeFault, DecodeReason};
+pub use laws::{meaning_or_fault, one_meaning};
+use mrpc_table::{Table, Tree};
+use std::alloc::Global;
+
+/// How many messages may stand in one another, the outermost counting 1.
+const MAX_DEPTH: u32 = 32;
+
+/// The message at the place `msg` of the table that the bytes mean.
+///
+/// `At` comes exactly where the bytes mean no message, with their first fault: records are read in
+/// order, and the payload of a known field is read where it stands. `Memory` comes only where no
+/// memory was found.
+pub fn decode(alloc: Global, bytes: &[u8], table: &Table, msg: u32) -> Result<Tree, DecodeFault>
+    requires valid { IsValid table.now }
+    requires known { msg < length table.now.messages }
+    ensures means { IfOk result (λ t. Means table.now msg bytes.now t) }
+    ensures fault { IfErr result (FaultsAs (IsFirstFault table.now msg bytes.now)) }
+
+    // Bytes that have a meaning are read, unless no memory was found.
+    ensures only { (t : Node) → Means table.now msg bytes.now t
+        → MatchResult result (λ u. u ≡ t) (λ f. f ≡ DecodeFault.Memory) }
+{
+    decoded(alloc, bytes, table, msg)
+}
+
+/// The same for any table whose fields stand in order.
+fn decoded(alloc: Global, bytes: &[u8], table: &Table, msg: u32) -> Result<Tree, DecodeFault>
+    requires { AllAscend table.now }
+    ensures means { IfOk result (λ t. Means table.now msg bytes.now t) }
+    ensures fault { IfErr result (FaultsAs (IsFirstFault table.now msg bytes.now)) }
+    ensures only { (t : Node) → Means table.now msg bytes.now t
+        → MatchResult result (λ u. u ≡ t) (λ f. f ≡ DecodeFault.Memory) }
+{
+    let fields = fields_of(table, msg);
+    let raw = read_message(alloc, bytes, 0, table, fields, MAX_DEPTH - 1)?;
+    Ok(merged(alloc, raw, table, msg, MAX_DEPTH)?)
+}

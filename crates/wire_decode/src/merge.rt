@@ -1,0 +1,474 @@
+//! Merging: the message that the contents of records stand for. Each field has its value from its
+//! own records, and fields, entries and oneofs come in the normal form of a tree.
+
+ghost use Rattle.std.specs.Prelude.{◌≡◌, ℕ, ◌<◌, length, IfOk, IsTrue, Some, true, map, option_map, List, [], ◌∷◌, ◌++◌, OnOk};
+ghost use Rattle.mrpc_table.specs.View.{item_of, content_of, node_of, pairs_of};
+ghost use Rattle.wire_decode.specs.Merged.{contents_of, join_fields, with_content, merged, field_content, singular, element, entry, last_of_each, some_items, some_pairs, present, present_if_set, is_default, joined, default_of, singles_in};
+ghost use Rattle.wire_decode.specs.Gathered.{MeansAll, finish_at, NeverFallFrom, IsGathered, form_of, finished_of, items_of_entry, entry_of, part_of, IsWith};
+ghost use Rattle.mrpc_table.specs.Normal.{field_at};
+ghost use Rattle.mrpc_table.specs.declared.table.Field.{Field};
+ghost use Rattle.wire_decode.specs.Ascending.{AllAscend, FieldsAscend};
+ghost use Rattle.mrpc_table.specs.Node.{Item, field, no_fields};
+
+use crate::gather::{Form, add, form_of, joined_value, values_of};
+use crate::look_up::{fields_of, find_field};
+use crate::map::last_of_each;
+use crate::number::is_message;
+use crate::oneof::counted;
+use mrpc_table::{
+    Bytes, Entries, Field, FieldValue, Kind, Label, Memory, Numbered, Table, Tree, Value, Values,
+};
+use std::alloc::Global;
+
+/// The message at a place of the table that the contents stand for, where at most `depth` messages
+/// stand in one another.
+#[cycle(merge)]
+pub fn merged(
+    alloc: Global,
+    raw: Numbered,
+    table: &Table,
+    place: u32,
+    depth: u32,
+) -> Result<Tree, Memory>
+    requires { AllAscend table.now }
+    ensures { IfOk result (λ t. t ≡ merged table.now depth place (node_of raw.items)) }
+{
+    if depth == 0 {
+        return Ok(Tree {
+            fields: Vec::new(alloc),
+        });
+    }
+    let fields = fields_of(table, place);
+    let raw = by_number(counted(alloc, raw, fields)?)?;
+    let held = gathered(alloc, raw, fields)?;
+    let fields = finished(alloc, held, table, fields, depth - 1)?;
+    Ok(Tree { fields })
+}
+
+/// The contents by ascending number, those of one number in their order.
+fn by_number(raw: Numbered) -> Result<Numbered, Memory>
+    ensures sorted { IfOk result (λ parts. NeverFallFrom 0 (node_of parts.items)) }
+    ensures same { IfOk result
+        (λ parts. (n : ℕ) → contents_of n (node_of parts.items) ≡ contents_of n (node_of raw.items)) }
+{
+    if ascends(&raw) {
+        return Ok(raw);
+    }
+    let mut parts = raw;
+    parts.sort_by_key(|part| part.0)?;
+    Ok(parts)
+}
+
+/// Whether no number is below the one before it.
+fn ascends(raw: &Numbered) -> bool
+    ensures { IsTrue result → NeverFallFrom 0 (node_of raw.now.items) }
+{
+    let mut last = 0;
+    for part in raw {
+        if part.0 < last {
+            return false;
+        }
+        last = part.0;
+    }
+    true
+}
+
+/// The contents of each number in one.
+fn gathered(alloc: Global, raw: Numbered, fields: &[Field]) -> Result<Numbered, Memory>
+    requires ascend { FieldsAscend fields.now }
+    requires sorted { NeverFallFrom 0 (node_of raw.items) }
+    ensures { IfOk result (λ held. IsGathered fields.now (node_of raw.items) (node_of held.items)) }
+{
+    let mut held = Vec::with_capacity(alloc, raw.len().min(fields.len()))?;
+    let mut hint = 0;
+    for (number, content) in raw {
+        let (form, place) = form_at(fields, number, hint);
+        hint = place;
+        add(alloc, &mut held, number, content, form)?;
+    }
+    Ok(held)
+}
+
+/// How the contents of the field of a number become one, and its place.
+fn form_at(fields: &[Field], number: u32, hint: usize) -> (Form, usize)
+    requires { FieldsAscend fields.now }
+    ensures { (f : Field) → field_at fields.now number ≡ Some f → result.0 ≡ form_of f.label f.kind }
+{
+    match find_field(fields, number, hint) {
+        Some(place) => {
+            let field = &fields[place];
+            (form_of(field.label, field.kind), place)
+        }
+        None => (Form::Last, hint),
+    }
+}
+
+/// What each field has, from its contents in one.
+#[cycle(merge)]
+fn finished(
+    alloc: Global,
+    held: Numbered,
+    table: &Table,
+    fields: &[Field],
+    depth: u32,
+) -> Result<Numbered, Memory>
+    requires all { AllAscend table.now }
+    requires ascend { FieldsAscend fields.now }
+    ensures { IfOk result
+        (λ whole. node_of whole.items
+        ≡ finished_of (merged table.now depth) fields.now (node_of held.items)) }
+{
+    let mut whole = Vec::with_capacity(alloc, held.len())?;
+    let mut hint = 0;
+    for (number, content) in held {
+        let (done, place) = finish(alloc, content, table, fields, number, hint, depth)?;
+        hint = place;
+        push_content(&mut whole, number, done)?;
+    }
+    Ok(whole)
+}
+
+/// What the field of a number has, and the field's place.
+#[cycle(merge)]
+fn finish(
+    alloc: Global,
+    content: FieldValue,
+    table: &Table,
+    fields: &[Field],
+    number: u32,
+    hint: usize,
+    depth: u32,
+) -> Result<(Option<FieldValue>, usize), Memory>
+    requires all { AllAscend table.now }
+    requires ascend { FieldsAscend fields.now }
+    ensures { IfOk result
+        (λ r. option_map content_of r.0
+        ≡ finish_at (merged table.now depth) fields.now number (content_of content)) }
+{
+    match find_field(fields, number, hint) {
+        Some(place) => {
+            let field = &fields[place];
+            let (label, kind) = (field.label, field.kind);
+            let done = field_content(alloc, content, table, label, kind, depth)?;
+            Ok((done, place))
+        }
+        None => Ok((None, hint)),
+    }
+}
+
+/// Appends what a field has, if it has something.
+fn push_content(
+    whole: &mut Numbered,
+    number: u32,
+    content: Option<FieldValue>,
+) -> Result<(), Memory>
+    ensures { OnOk result
+        (node_of whole.new.items
+        ≡ join_fields (node_of whole.old.items)
+        (with_content number (option_map content_of content) no_fields)) }
+{
+    match content {
+        Some(content) => {
+            whole.push((number, content))?;
+            Ok(())
+        }
+        None => Ok(()),
+    }
+}
+
+/// What a field has, or nothing.
+#[cycle(merge)]
+fn field_content(
+    alloc: Global,
+    held: FieldValue,
+    table: &Table,
+    label: Label,
+    kind: Kind,
+    depth: u32,
+) -> Result<Option<FieldValue>, Memory>
+    requires { AllAscend table.now }
+    ensures { IfOk result
+        (λ o. option_map content_of o
+        ≡ field_content (merged table.now depth) label kind (content_of held ∷ [])) }
+{
+    match label {
+        Label::Repeated | Label::Packed => {
+            let values = elements(alloc, values_of(alloc, held)?, table, kind, depth)?;
+            Ok(many(values))
+        }
+        Label::Map(key) => {
+            let entries = entries(alloc, values_of(alloc, held)?, table, key, kind, depth)?;
+            Ok(pairs(entries))
+        }
+        Label::Plain => {
+            let value = singular(alloc, held, table, kind, depth)?;
+            Ok(present_if_set(value))
+        }
+        Label::Optional | Label::Member(_) => {
+            let value = singular(alloc, held, table, kind, depth)?;
+            Ok(present(value))
+        }
+    }
+}
+
+/// The elements of a repeated field, if there is one.
+fn many(values: Values) -> Option<FieldValue>
+    ensures { option_map content_of result ≡ some_items (map item_of values.items) }
+{
+    if values.is_empty() {
+        None
+    } else {
+        Some(FieldValue::Many(values))
+    }
+}
+
+/// The entries of a map, if there is one.
+fn pairs(entries: Entries) -> Option<FieldValue>
+    ensures { option_map content_of result ≡ some_pairs (pairs_of entries.items) }
+{
+    if entries.is_empty() {
+        None
+    } else {
+        Some(FieldValue::Pairs(entries))
+    }
+}
+
+/// The value of a field with explicit presence.
+fn present(value: Option<Value>) -> Option<FieldValue>
+    ensures { option_map content_of result ≡ present (option_map item_of value) }
+{
+    match value {
+        Some(value) => Some(FieldValue::One(value)),
+        None => None,
+    }
+}
+
+/// The value of a field with implicit presence: a default is nothing.
+fn present_if_set(value: Option<Value>) -> Option<FieldValue>
+    ensures { option_map content_of result ≡ present_if_set (option_map item_of value) }
+{
+    match value {
+        Some(value) => {
+            if is_default(&value) {
+                None
+            } else {
+                Some(FieldValue::One(value))
+            }
+        }
+        None => None,
+    }
+}
+
+/// Whether a value is a number of 0, or a run of nothing.
+fn is_default(value: &Value) -> bool
+    ensures { result ≡ is_default (item_of value.now) }
+{
+    match value {
+        Value::Number(n) => *n == 0,
+        Value::Run(bytes) => bytes.is_empty(),
+        Value::Node(_) => false,
+    }
+}
+
+/// The value of a singular field.
+#[cycle(merge)]
+fn singular(
+    alloc: Global,
+    held: FieldValue,
+    table: &Table,
+    kind: Kind,
+    depth: u32,
+) -> Result<Option<Value>, Memory>
+    requires { AllAscend table.now }
+    ensures { IfOk result
+        (λ o. option_map item_of o
+        ≡ singular (merged table.now depth) kind (singles_in (content_of held ∷ []))) }
+{
+    match held {
+        FieldValue::One(value) => Ok(Some(element(alloc, value, table, kind, depth)?)),
+        _ => Ok(None),
+    }
+}
+
+/// A value, where a message is merged.
+#[cycle(merge)]
+fn element(
+    alloc: Global,
+    value: Value,
+    table: &Table,
+    kind: Kind,
+    depth: u32,
+) -> Result<Value, Memory>
+    requires { AllAscend table.now }
+    ensures { IfOk result (λ v. item_of v ≡ element (merged table.now depth) kind (item_of value)) }
+{
+    match kind {
+        Kind::Message(place) => {
+            let tree = merged(alloc, fields_in(alloc, value), table, place, depth)?;
+            Ok(Value::Node(tree))
+        }
+        _ => Ok(value),
+    }
+}
+
+/// The fields of a message.
+fn fields_in(alloc: Global, value: Value) -> Numbered
+    ensures { node_of result.items ≡ joined (item_of value ∷ []) }
+{
+    match value {
+        Value::Node(tree) => tree.fields,
+        _ => Vec::new(alloc),
+    }
+}
+
+/// The elements of a repeated field.
+#[cycle(merge)]
+fn elements(
+    alloc: Global,
+    values: Values,
+    table: &Table,
+    kind: Kind,
+    depth: u32,
+) -> Result<Values, Memory>
+    requires { AllAscend table.now }
+    ensures { IfOk result
+        (λ vs. map item_of vs.items
+        ≡ map (element (merged table.now depth) kind) (map item_of values.items)) }
+{
+    if !is_message(kind) {
+        return Ok(values);
+    }
+    let mut elements = Vec::with_capacity(alloc, values.len())?;
+    for value in values {
+        elements.push(element(alloc, value, table, kind, depth)?)?;
+    }
+    Ok(elements)
+}
+
+/// The entries of a map.
+#[cycle(merge)]
+fn entries(
+    alloc: Global,
+    values: Values,
+    table: &Table,
+    key: Kind,
+    kind: Kind,
+    depth: u32,
+) -> Result<Entries, Memory>
+    requires { AllAscend table.now }
+    ensures { IfOk result
+        (λ ps. pairs_of ps.items
+        ≡ last_of_each key (map (entry (merged table.now depth) key kind) (map item_of values.items))) }
+{
+    let mut entries = Vec::with_capacity(alloc, values.len())?;
+    for value in values {
+        let raw = fields_in(alloc, value);
+        entries.push(entry(alloc, raw, table, key, kind, depth)?)?;
+    }
+    last_of_each(alloc, entries, key)
+}
+
+/// The key and the value of an entry.
+#[cycle(merge)]
+fn entry(
+    alloc: Global,
+    raw: Numbered,
+    table: &Table,
+    key: Kind,
+    kind: Kind,
+    depth: u32,
+) -> Result<(Value, Value), Memory>
+    requires { AllAscend table.now }
+    ensures { IfOk result
+        (λ e. items_of_entry e ≡ entry_of (merged table.now depth) key kind (node_of raw.items)) }
+{
+    let mut keys = None;
+    let mut values = None;
+    for (number, content) in raw {
+        let (some_key, some_value) = noted(keys, values, number, content, key, kind)?;
+        keys = some_key;
+        values = some_value;
+    }
+    let key = part(alloc, keys, table, key, depth)?;
+    let value = part(alloc, values, table, kind, depth)?;
+    Ok((key, value))
+}
+
+/// The keys and the values of an entry, each in one, with one content more.
+fn noted(
+    keys: Option<Value>,
+    values: Option<Value>,
+    number: u32,
+    content: FieldValue,
+    key: Kind,
+    kind: Kind,
+) -> Result<(Option<Value>, Option<Value>), Memory>
+    ensures key { IfOk result
+        (λ r. (is : List Item) → MeansAll key is (option_map item_of keys)
+        → MeansAll key
+        (is ++ singles_in (contents_of 1 (field number (content_of content) no_fields)))
+        (option_map item_of r.0)) }
+    ensures value { IfOk result
+        (λ r. (is : List Item) → MeansAll kind is (option_map item_of values)
+        → MeansAll kind
+        (is ++ singles_in (contents_of 2 (field number (content_of content) no_fields)))
+        (option_map item_of r.1)) }
+{
+    match content {
+        FieldValue::One(value) => {
+            if number == 1 {
+                let whole = with(keys, value, key)?;
+                Ok((Some(whole), values))
+            } else if number == 2 {
+                let whole = with(values, value, kind)?;
+                Ok((keys, Some(whole)))
+            } else {
+                Ok((keys, values))
+            }
+        }
+        _other => Ok((keys, values)),
+    }
+}
+
+/// The values of a singular field in one, and one more.
+fn with(before: Option<Value>, value: Value, kind: Kind) -> Result<Value, Memory>
+    ensures { IfOk result
+        (λ v. IsWith kind (option_map item_of before) (item_of value) (item_of v)) }
+{
+    match before {
+        Some(before) => joined_value(before, value, is_message(kind)),
+        None => Ok(value),
+    }
+}
+
+/// A part of an entry; where it is missing, the default.
+#[cycle(merge)]
+fn part(
+    alloc: Global,
+    found: Option<Value>,
+    table: &Table,
+    kind: Kind,
+    depth: u32,
+) -> Result<Value, Memory>
+    requires { AllAscend table.now }
+    ensures { IfOk result
+        (λ v. item_of v ≡ part_of (merged table.now depth) kind (option_map item_of found)) }
+{
+    match found {
+        Some(value) => element(alloc, value, table, kind, depth),
+        None => Ok(default_of(alloc, kind)),
+    }
+}
+
+/// The default of a kind.
+fn default_of(alloc: Global, kind: Kind) -> Value
+    ensures { item_of result ≡ default_of kind }
+{
+    match kind {
+        Kind::Text | Kind::Octets => Value::Run(Bytes::new(alloc)),
+        Kind::Message(_) => Value::Node(Tree {
+            fields: Vec::new(alloc),
+        }),
+        _ => Value::Number(0),
+    }
+}

@@ -1,0 +1,100 @@
+//! Numbers: the word form of what a record or a packed piece has.
+
+ghost use Rattle.std.specs.Prelude.{◌≡◌, ℕ, ◌%◌, ◌^◌};
+ghost use Rattle.mrpc_table.specs.Words.{is_numeric};
+ghost use Rattle.wire_base.specs.Encoding.{wire_type_of};
+ghost use Rattle.wire_decode.specs.Reads.{is_message};
+ghost use Rattle.wire_decode.specs.Words.{word_of, sign_extended, unzigzag_of, is_map, is_list, own_type, payload_type, number_in, suits, may_be_packed};
+
+use mrpc_table::{Kind, Label};
+use wire_base::Payload;
+
+/// The word of a number that was read.
+pub fn word_of(kind: Kind, v: u64) -> u64
+    ensures { result ≡ word_of kind v }
+{
+    match kind {
+        Kind::Int32 | Kind::Choice(_) | Kind::Sfixed32 => sign_extended(low(v)),
+        Kind::Uint32 => u64::from(low(v)),
+        Kind::Sint32 => unzigzag(u64::from(low(v))),
+        Kind::Sint64 => unzigzag(v),
+        Kind::Bool => u64::from(v != 0),
+        _ => v,
+    }
+}
+
+/// The low 32 bits.
+fn low(v: u64) -> u32
+    ensures { result ≡ v % 2 ^ 32 }
+{
+    (v % (1 << 32)) as u32
+}
+
+/// A word of 32 bits in two's complement as one of 64 bits.
+fn sign_extended(v: u32) -> u64
+    ensures { result ≡ sign_extended v }
+{
+    if v < 1 << 31 {
+        u64::from(v)
+    } else {
+        u64::from(v) + 0xffff_ffff_0000_0000
+    }
+}
+
+/// The word whose ZigZag number is `v`.
+fn unzigzag(v: u64) -> u64
+    ensures { result ≡ unzigzag_of v }
+{
+    let half = v / 2;
+    if v % 2 == 0 { half } else { u64::MAX - half }
+}
+
+/// Whether a value of the kind is a number.
+pub fn is_numeric(kind: Kind) -> bool
+    ensures { result ≡ is_numeric kind }
+{
+    !matches!(kind, Kind::Text | Kind::Octets | Kind::Message(_))
+}
+
+/// Whether a value of the kind is a message.
+pub fn is_message(kind: Kind) -> bool
+    ensures { result ≡ is_message kind }
+{
+    matches!(kind, Kind::Message(_))
+}
+
+/// Whether a field of this label has any number of elements.
+pub fn is_list(label: Label) -> bool
+    ensures { result ≡ is_list label }
+{
+    matches!(label, Label::Repeated | Label::Packed)
+}
+
+/// The wire type of a value of the kind.
+pub fn wire_type_of(kind: Kind) -> u8
+    ensures { result ≡ wire_type_of kind }
+{
+    match kind {
+        Kind::Fixed64 | Kind::Sfixed64 | Kind::Double => 1,
+        Kind::Text | Kind::Octets | Kind::Message(_) => 2,
+        Kind::Fixed32 | Kind::Sfixed32 | Kind::Float => 5,
+        _ => 0,
+    }
+}
+
+/// Whether a field is read from a payload of this wire type.
+pub fn suits(label: Label, kind: Kind, payload: Payload) -> bool
+    ensures { result ≡ suits label kind payload }
+{
+    let found = match payload {
+        Payload::Varint(_) => 0,
+        Payload::I64(_) => 1,
+        Payload::Len { .. } => 2,
+        Payload::I32(_) => 5,
+    };
+    let own = match label {
+        Label::Map(_) => 2,
+        _ => wire_type_of(kind),
+    };
+    found == own || (found == 2 && is_list(label) && is_numeric(kind))
+}

@@ -1,0 +1,156 @@
+//! Oneofs: of the records of a oneof, the longest run of its last member's records at the end counts.
+
+ghost use Rattle.std.specs.Prelude.{◌≡◌, ◌≢◌, ℕ, ◌<◌, ◌^◌, [], ◌∷◌, ◌++◌, if◌then◌else◌, length, not, false, IfOk, OnOk, IfSome, vec_len, slice_index_or};
+ghost use Rattle.mrpc_table.specs.Node.{Node, Content, field};
+ghost use Rattle.mrpc_table.specs.View.{node_of};
+ghost use Rattle.wire_decode.specs.Ascending.{FieldsAscend};
+ghost use Rattle.wire_decode.specs.Merged.{counted, oneof_at, is_overtaken};
+ghost use Rattle.wire_decode.specs.Behind.{overtakes, IsInFront, IsNoted, Tell, HasNoMember, IsCounted};
+
+use crate::look_up::find_field;
+use mrpc_table::{Field, FieldValue, Label, Memory, Numbered};
+use std::alloc::Global;
+
+/// The members of a oneof among the records behind a place.
+#[derive(Clone, Copy)]
+enum Behind {
+    Nothing,
+    Only(u32),
+    Several,
+}
+
+/// Whether another member's record stands behind one of this number.
+fn overtakes(behind: Behind, number: u32) -> bool
+    ensures { result ≡ overtakes behind number }
+{
+    match behind {
+        Behind::Nothing => false,
+        Behind::Only(other) => other != number,
+        Behind::Several => true,
+    }
+}
+
+/// What stands behind, with a record of this number in front.
+fn in_front(behind: Behind, number: u32) -> Behind
+    ensures { IsInFront behind number result }
+{
+    match behind {
+        Behind::Nothing => Behind::Only(number),
+        Behind::Only(other) => {
+            if other == number {
+                Behind::Only(number)
+            } else {
+                Behind::Several
+            }
+        }
+        Behind::Several => Behind::Several,
+    }
+}
+
+/// The contents that count.
+pub fn counted(alloc: Global, raw: Numbered, fields: &[Field]) -> Result<Numbered, Memory>
+    requires { FieldsAscend fields.now }
+    ensures { IfOk result (λ kept. node_of kept.items ≡ counted fields.now (node_of raw.items)) }
+{
+    if has_member(&raw, fields) {
+        counted_behind(alloc, raw, fields)
+    } else {
+        Ok(raw)
+    }
+}
+
+/// The contents that count, found from the last one to the first.
+fn counted_behind(alloc: Global, raw: Numbered, fields: &[Field]) -> Result<Numbered, Memory>
+    requires { FieldsAscend fields.now }
+    ensures { IfOk result (λ kept. node_of kept.items ≡ counted fields.now (node_of raw.items)) }
+{
+    let mut left = raw;
+    let mut kept = Vec::with_capacity(alloc, left.len())?;
+    let mut behind = Vec::new(alloc);
+    while let Some(part) = left.pop() {
+        let counts = counts(&mut behind, fields, part.0)?;
+        keep_if(&mut kept, part, counts)?;
+    }
+    kept.reverse();
+    Ok(kept)
+}
+
+/// Appends a part that counts.
+fn keep_if(kept: &mut Numbered, part: (u32, FieldValue), counts: bool) -> Result<(), Memory>
+    ensures { OnOk result
+        (kept.new.items ≡ (if counts then kept.old.items ++ part ∷ [] else kept.old.items)) }
+{
+    if counts {
+        kept.push(part)?;
+    }
+    Ok(())
+}
+
+/// Whether a record counts, given what stands behind it; it is noted.
+fn counts(behind: &mut Vec<Behind>, fields: &[Field], number: u32) -> Result<bool, Memory>
+    requires { FieldsAscend fields.now }
+    ensures { IfOk result (λ b. IsCounted fields.now behind.old.items number behind.new.items b) }
+{
+    match oneof_at(fields, number) {
+        Some(oneof) => note(behind, oneof, number),
+        None => Ok(true),
+    }
+}
+
+/// Notes a record of a oneof, and says whether it counts.
+fn note(behind: &mut Vec<Behind>, oneof: usize, number: u32) -> Result<bool, Memory>
+    requires { oneof < 2 ^ 32 }
+    ensures noted { OnOk result (IsNoted behind.old.items oneof number behind.new.items) }
+    ensures counts { IfOk result
+        (λ b. b ≡ not (overtakes (slice_index_or behind.old.items oneof Behind.Nothing) number)) }
+{
+    grow(behind, oneof)?;
+    let tail = behind[oneof];
+    behind[oneof] = in_front(tail, number);
+    Ok(!overtakes(tail, number))
+}
+
+/// Makes a place for a oneof.
+fn grow(behind: &mut Vec<Behind>, oneof: usize) -> Result<(), Memory>
+    requires { oneof < 2 ^ 32 }
+    ensures within { OnOk result (oneof < length behind.new.items) }
+    ensures same { OnOk result
+        ((p : ℕ) → slice_index_or behind.new.items p Behind.Nothing
+        ≡ slice_index_or behind.old.items p Behind.Nothing) }
+{
+    while behind.len() <= oneof {
+        behind.push(Behind::Nothing)?;
+    }
+    Ok(())
+}
+
+/// Whether a record is of a member of a oneof.
+fn has_member(raw: &Numbered, fields: &[Field]) -> bool
+    requires { FieldsAscend fields.now }
+    ensures { result ≡ false → HasNoMember fields.now (node_of raw.now.items) }
+{
+    for part in raw {
+        if oneof_at(fields, part.0).is_some() {
+            return true;
+        }
+    }
+    false
+}
+
+/// The oneof that the field of a number is a member of.
+fn oneof_at(fields: &[Field], number: u32) -> Option<usize>
+    requires { FieldsAscend fields.now }
+    ensures value { result ≡ oneof_at fields.now number }
+    ensures small { IfSome result (λ o. o < 2 ^ 32) }
+{
+    match find_field(fields, number, 0) {
+        Some(place) => {
+            let field = &fields[place];
+            match field.label {
+                Label::Member(oneof) => Some(oneof as usize),
+                _ => None,
+            }
+        }
+        None => None,
+    }
+}

@@ -1,0 +1,305 @@
+//! Reading: what stands in each record of a known field, in the order of the bytes.
+
+ghost use Rattle.std.specs.Prelude.{◌≡◌, ℕ, ◌+◌, ◌<◌, ◌≤◌, length, true, false, slice_range, IfOk, IfErr, IfSome, IfNone, List};
+ghost use Rattle.mrpc_table.specs.View.{items_of, content_of, node_of};
+ghost use Rattle.mrpc_table.specs.Node.{one, run, number as number_item};
+ghost use Rattle.mrpc_table.specs.Words.{is_numeric};
+ghost use Rattle.wire_base.specs.Encoding.{wire_type_of};
+ghost use Rattle.wire_base.specs.Records.{PayloadAt, VarintAt, IsWithin};
+ghost use Rattle.wire_base.specs.declared.records.Payload.{Payload};
+ghost use Rattle.wire_decode.specs.Ascending.{AllAscend, FieldsAscend};
+ghost use Rattle.wire_decode.specs.Words.{AreElements, number_in, suits, word_of};
+ghost use Rattle.wire_decode.specs.Reads.{Reads, Holds, numbers, is_message};
+ghost use Rattle.wire_decode.specs.Parts.{IsPiece, NoPiece, IsFixedOrVarint, IsEntry, NoEntry, IsInner, NoInner};
+ghost use Rattle.std.specs.Str.{IsUtf8};
+ghost use Rattle.wire_base.specs.declared.records.Payload.TheVariants.{I64, I32};
+ghost use Rattle.wire_decode.specs.Faults.{Faults, Fails, FaultsAs, reason_of};
+ghost use Rattle.wire_decode.specs.declared.fault.DecodeReason.TheVariants.{PackedLength, Utf8};
+
+use crate::fault::{DecodeFault, DecodeReason};
+use crate::look_up::{fields_of, find_field};
+use crate::number::{is_message, suits, wire_type_of, word_of};
+use mrpc_table::{
+    Bytes, Field, FieldValue, Kind, Label, Name, Numbered, Table, Tree, Value, Values,
+};
+use std::alloc::Global;
+use wire_base::{Payload, WireFault, WireReason, read_record, read_varint};
+
+/// The contents of the records of known fields, from the place `start` to the end of the bytes.
+/// `room` more messages may stand in one another inside.
+#[cycle(read)]
+pub fn read_message(
+    alloc: Global,
+    bytes: &[u8],
+    start: usize,
+    table: &Table,
+    fields: &[Field],
+    room: u32,
+) -> Result<Numbered, DecodeFault>
+    requires all { AllAscend table.now }
+    requires ascend { FieldsAscend fields.now }
+    requires place { start ≤ length bytes.now }
+    ensures found { IfOk result
+        (λ parts. Reads table.now room fields.now bytes.now start (node_of parts.items)) }
+    ensures fault { IfErr result
+        (FaultsAs (λ reason place. Faults table.now room fields.now bytes.now start reason place)) }
+{
+    let mut parts = Vec::new(alloc);
+    let mut at = start;
+    let mut hint = 0;
+    while at < bytes.len() {
+        let record = match read_record(bytes, at) {
+            Ok(record) => record,
+            Err(fault) => return Err(told(fault)),
+        };
+        if let Some(place) = find_field(fields, record.number, hint) {
+            hint = place;
+            let field = &fields[place];
+            let (label, kind) = (field.label, field.kind);
+            if suits(label, kind, record.payload) {
+                let content = content(alloc, bytes, record.payload, table, label, kind, room)?;
+                parts.push((record.number, content))?;
+            }
+        }
+        at = record.next;
+    }
+    Ok(parts)
+}
+
+/// The fault of a record as one of the message.
+fn told(fault: WireFault) -> DecodeFault
+    ensures { FaultsAs (λ reason place. (reason ≡ reason_of fault.reason) × (place ≡ fault.place)) result }
+{
+    let reason = match fault.reason {
+        WireReason::Varint => DecodeReason::Varint,
+        WireReason::TagRange => DecodeReason::TagRange,
+        WireReason::NumberZero => DecodeReason::NumberZero,
+        WireReason::WireType => DecodeReason::WireType,
+        WireReason::Short => DecodeReason::Short,
+    };
+    DecodeFault::At {
+        reason,
+        place: fault.place,
+    }
+}
+
+/// What a record of a field has.
+#[cycle(read)]
+fn content(
+    alloc: Global,
+    bytes: &[u8],
+    payload: Payload,
+    table: &Table,
+    label: Label,
+    kind: Kind,
+    room: u32,
+) -> Result<FieldValue, DecodeFault>
+    requires all { AllAscend table.now }
+    requires within { IsWithin (length bytes.now) payload }
+    requires suits { suits label kind payload ≡ true }
+    ensures found { IfOk result (λ c. Holds table.now room label kind bytes.now payload (content_of c)) }
+    ensures fault { IfErr result
+        (FaultsAs (λ reason place. Fails table.now room label kind bytes.now payload reason place)) }
+{
+    match payload {
+        Payload::Varint(v) | Payload::I64(v) => Ok(number(kind, v)),
+        Payload::I32(v) => Ok(number(kind, u64::from(v))),
+        Payload::Len { start, end } => match (label, kind) {
+            (Label::Map(key), _) => entry(alloc, &bytes[..end], start, table, key, kind, room),
+            (_, Kind::Text) => text(alloc, &bytes[start..end], start),
+            (_, Kind::Octets) => octets(alloc, &bytes[start..end]),
+            (_, Kind::Message(place)) => {
+                message(alloc, &bytes[..end], start, table, place, room)
+            }
+            _ => packed(alloc, &bytes[..end], start, kind),
+        },
+    }
+}
+
+fn number(kind: Kind, v: u64) -> FieldValue
+    ensures { content_of result ≡ one (number_item (word_of kind v)) }
+{
+    FieldValue::One(Value::Number(word_of(kind, v)))
+}
+
+/// The entry of a map.
+#[cycle(read)]
+fn entry(
+    alloc: Global,
+    bytes: &[u8],
+    start: usize,
+    table: &Table,
+    key: Kind,
+    kind: Kind,
+    room: u32,
+) -> Result<FieldValue, DecodeFault>
+    requires all { AllAscend table.now }
+    requires place { start ≤ length bytes.now }
+    ensures found { IfOk result (λ c. IsEntry table.now room key kind bytes.now start (content_of c)) }
+    ensures fault { IfErr result
+        (FaultsAs (λ reason place. NoEntry table.now room key kind bytes.now start reason place)) }
+{
+    let parts = [
+        Field {
+            number: 1,
+            name: Name::new(alloc),
+            kind: key,
+            label: Label::Optional,
+        },
+        Field {
+            number: 2,
+            name: Name::new(alloc),
+            kind,
+            label: Label::Optional,
+        },
+    ];
+    let fields = read_message(alloc, bytes, start, table, &parts, room)?;
+    if room == 0 && is_message(kind) {
+        return Err(fault(DecodeReason::Depth, start));
+    }
+    Ok(FieldValue::One(Value::Node(Tree { fields })))
+}
+
+/// A message.
+#[cycle(read)]
+fn message(
+    alloc: Global,
+    bytes: &[u8],
+    start: usize,
+    table: &Table,
+    place: u32,
+    room: u32,
+) -> Result<FieldValue, DecodeFault>
+    requires all { AllAscend table.now }
+    requires place { start ≤ length bytes.now }
+    ensures found { IfOk result (λ c. IsInner table.now room place bytes.now start (content_of c)) }
+    ensures fault { IfErr result
+        (FaultsAs (λ reason at. NoInner table.now room place bytes.now start reason at)) }
+{
+    if room == 0 {
+        return Err(fault(DecodeReason::Depth, start));
+    }
+    let fields = read_message(
+        alloc,
+        bytes,
+        start,
+        table,
+        fields_of(table, place),
+        room - 1,
+    )?;
+    Ok(FieldValue::One(Value::Node(Tree { fields })))
+}
+
+fn fault(reason: DecodeReason, place: usize) -> DecodeFault
+    ensures { FaultsAs (λ r p. (r ≡ reason) × (p ≡ place)) result }
+{
+    DecodeFault::At { reason, place }
+}
+
+/// A string: UTF-8. Its first byte stands at `place`.
+fn text(alloc: Global, bytes: &[u8], place: usize) -> Result<FieldValue, DecodeFault>
+    ensures found { IfOk result (λ c. (content_of c ≡ one (run bytes.now)) × IsUtf8 bytes.now) }
+    ensures fault { IfErr result
+        (FaultsAs (λ reason at. (reason ≡ Utf8) × (at ≡ place) × (IsUtf8 bytes.now → ⊥))) }
+{
+    if str::from_utf8(bytes).is_err() {
+        return Err(fault(DecodeReason::Utf8, place));
+    }
+    octets(alloc, bytes)
+}
+
+/// Bytes.
+fn octets(alloc: Global, bytes: &[u8]) -> Result<FieldValue, DecodeFault>
+    ensures found { IfOk result (λ c. content_of c ≡ one (run bytes.now)) }
+    ensures fault { IfErr result (FaultsAs (λ reason at. ⊥)) }
+{
+    let run = Bytes::from_slice(alloc, bytes)?;
+    Ok(FieldValue::One(Value::Run(run)))
+}
+
+/// A packed piece: numbers of the kind, one behind another to the end of the bytes.
+fn packed(alloc: Global, bytes: &[u8], start: usize, kind: Kind) -> Result<FieldValue, DecodeFault>
+    requires place { start ≤ length bytes.now }
+    requires numeric { is_numeric kind ≡ true }
+    ensures found { IfOk result (λ c. IsPiece kind bytes.now start (content_of c)) }
+    ensures fault { IfErr result
+        (FaultsAs (λ reason at. (reason ≡ PackedLength) × (at ≡ start) × NoPiece kind bytes.now start)) }
+{
+    let values = elements(alloc, bytes, start, kind)?;
+    Ok(FieldValue::Many(values))
+}
+
+/// The elements of a packed piece.
+fn elements(alloc: Global, bytes: &[u8], start: usize, kind: Kind) -> Result<Values, DecodeFault>
+    requires place { start ≤ length bytes.now }
+    requires numeric { is_numeric kind ≡ true }
+    ensures found { IfOk result
+        (λ vs. (ws : List ℕ) × AreElements kind bytes.now start ws × (items_of vs.items ≡ numbers ws)) }
+    ensures fault { IfErr result
+        (FaultsAs (λ reason at. (reason ≡ PackedLength) × (at ≡ start) × NoPiece kind bytes.now start)) }
+{
+    let wire_type = wire_type_of(kind);
+    let mut values = Vec::new(alloc);
+    let mut at = start;
+    while at < bytes.len() {
+        let (v, next) = match element(bytes, at, wire_type) {
+            Some(found) => found,
+            None => return Err(fault(DecodeReason::PackedLength, start)),
+        };
+        values.push(Value::Number(word_of(kind, v)))?;
+        at = next;
+    }
+    Ok(values)
+}
+
+/// A number of the wire type at a place, and the place behind it.
+fn element(bytes: &[u8], at: usize, wire_type: u8) -> Option<(u64, usize)>
+    requires place { at ≤ length bytes.now }
+    requires fixed { IsFixedOrVarint wire_type }
+    ensures found { IfSome result
+        (λ e. (p : Payload) × PayloadAt bytes.now at wire_type p e.1 × (e.0 ≡ number_in p)) }
+    ensures ahead { IfSome result (λ e. at < e.1) }
+    ensures within { IfSome result (λ e. e.1 ≤ length bytes.now) }
+    ensures none { IfNone result ((p : Payload) (next : ℕ) → PayloadAt bytes.now at wire_type p next → ⊥) }
+{
+    if wire_type == 1 {
+        eight_bytes(bytes, at)
+    } else if wire_type == 5 {
+        four_bytes(bytes, at)
+    } else {
+        varint(bytes, at)
+    }
+}
+
+fn varint(bytes: &[u8], at: usize) -> Option<(u64, usize)>
+    requires { at ≤ length bytes.now }
+    ensures found { IfSome result (λ e. VarintAt bytes.now at e.0 e.1) }
+    ensures none { IfNone result ((v next : ℕ) → VarintAt bytes.now at v next → ⊥) }
+{
+    match read_varint(bytes, at) {
+        Ok(found) => Some(found),
+        Err(_) => None,
+    }
+}
+
+fn eight_bytes(bytes: &[u8], at: usize) -> Option<(u64, usize)>
+    requires { at ≤ length bytes.now }
+    ensures found { IfSome result (λ e. PayloadAt bytes.now at 1 (I64 e.0) e.1) }
+    ensures none { IfNone result (length bytes.now < at + 8) }
+{
+    match bytes[at..].first_chunk::<8>() {
+        Some(chunk) => Some((u64::from_le_bytes(*chunk), at + 8)),
+        None => None,
+    }
+}
+
+fn four_bytes(bytes: &[u8], at: usize) -> Option<(u64, usize)>
+    requires { at ≤ length bytes.now }
+    ensures found { IfSome result (λ e. PayloadAt bytes.now at 5 (I32 e.0) e.1) }
+    ensures none { IfNone result (length bytes.now < at + 4) }
+{
+    match bytes[at..].first_chunk::<4>() {
+        Some(chunk) => Some((u64::from(u32::from_le_bytes(*chunk)), at + 4)),
+        None => None,
+    }
+}
