@@ -52,6 +52,7 @@ impl HeaderPart {
         }
     }
 
+    /// The bytes of a header that are there.
     pub fn bytes(&self) -> &[u8]
         ensures { result.now ≡ self.now }
     {

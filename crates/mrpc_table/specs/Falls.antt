@@ -1,5 +1,5 @@
 -- Each message inside a message weighs less than it.
-use Rattle.std.specs.Prelude.{◌≤◌, ℕ, ◌+◌, max, List, [], ◌∷◌}
+use Rattle.std.specs.Prelude.{◌≤◌, ℕ, max, List, [], ◌∷◌}
 use Rattle.std.proofs.Common.{arith}
 use Rattle.mrpc_table.specs.View.{item_of, items_of, pairs_of, content_of, node_of}
 use Rattle.mrpc_table.specs.Weight.{weight, content_weight, item_weight, items_weight, pairs_weight}

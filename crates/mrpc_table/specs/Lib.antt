@@ -1,8 +1,14 @@
+pub mod Drafts
 pub mod Falls
+pub mod Faults
+pub mod Fits
+pub mod Lines
 pub mod Names
 pub mod Node
 pub mod NodeCode
 pub mod Normal
+pub mod Places
+pub mod Readers
 pub mod Text
 pub mod Valid
 pub mod View

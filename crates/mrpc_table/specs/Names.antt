@@ -1,6 +1,6 @@
 -- Names of a schema (Protocol Buffers, language specification, "Identifiers").
-use Rattle.std.specs.Prelude.{◌≡◌, ◌≢◌, ℕ, ◌<◌, ◌≤◌, ◌==◌, Bool, ◌||◌, ◌&&◌, List, [], ◌∷◌, length, All, IsTrue, nat_le}
-use Rattle.std.specs.List.{join_with_byte}
+use Rattle.std.specs.Prelude.{ℕ, ◌≤◌, ◌==◌, Bool, false, ◌||◌, ◌&&◌, List, [], ◌∷◌, length, IsTrue, nat_le}
+use Rattle.std.specs.List.{slice_split, list_all}
 
 -- an ASCII letter or `_`
 abbrev pub is_name_start : ℕ → Bool
@@ -10,29 +10,30 @@ is_name_start c = ((nat_le 65 c && nat_le c 90) || (nat_le 97 c && nat_le c 122)
 abbrev pub is_name_byte : ℕ → Bool
 is_name_byte c = is_name_start c || (nat_le 48 c && nat_le c 57)
 
-abbrev pub StartsAsName : List ℕ → Type 0
-StartsAsName [] = ⊥
-StartsAsName (c ∷ cs) = IsTrue (is_name_start c)
-
 -- a letter or `_`, and then letters, digits and `_`
-pub record HasNameForm (name : List ℕ) : Type 0 where
-  pub start : StartsAsName name
-  pub bytes : All (λ c. IsTrue (is_name_byte c)) name
+abbrev pub is_name_form : List ℕ → Bool
+is_name_form [] = false
+is_name_form (c ∷ cs) = is_name_start c && list_all is_name_byte cs
 
--- a name of at most 64 bytes
+-- the parts of a full name: what stands between its dots
+abbrev pub parts_of : List ℕ → List (List ℕ)
+parts_of name = slice_split (λ c. c == 46) name
+
+-- names joined by dots
+abbrev pub is_full_form : List ℕ → Bool
+is_full_form name = list_all is_name_form (parts_of name)
+
+-- a name has at most 64 bytes; a full name has such parts, and at most 255 bytes together
+abbrev pub is_short : List ℕ → Bool
+is_short name = nat_le (length name) 64
+
+abbrev pub is_short_full : List ℕ → Bool
+is_short_full name = list_all is_short (parts_of name) && nat_le (length name) 255
+
 pub record IsName (name : List ℕ) : Type 0 where
-  pub form : HasNameForm name
+  pub form : IsTrue (is_name_form name)
   pub short : length name ≤ 64
 
--- the full name is these parts, joined by dots
-pub record HasParts (name : List ℕ) (parts : List (List ℕ)) : Type 0 where
-  pub some : parts ≢ []
-  pub joined : name ≡ join_with_byte 46 parts
-  pub forms : All HasNameForm parts
-
--- parts of at most 64 bytes, and at most 255 bytes together
 pub record IsFullName (name : List ℕ) : Type 0 where
-  pub parts : List (List ℕ)
-  pub form : HasParts name parts
-  pub each_short : All (λ part. length part ≤ 64) parts
-  pub short : length name ≤ 255
+  pub form : IsTrue (is_full_form name)
+  pub short : IsTrue (is_short_full name)

@@ -1,7 +1,7 @@
 -- Which trees a message has, and which of them are in normal form: numbers ascend, no default stands
 -- under implicit presence, no repeated field or map is empty, a map's keys ascend, a oneof has one
 -- member at most (Protocol Buffers, "Field Presence", "Maps", "Oneof"; the normal form is this project's own).
-use Rattle.std.specs.Prelude.{◌≡◌, ◌≢◌, ◌==◌, ℕ, ◌+◌, ◌<◌, ◌≤◌, max, List, [], All, Option, Some, None, option_map, find, slice_get, unwrap_or, cond}
+use Rattle.std.specs.Prelude.{◌≡◌, ◌≢◌, ◌==◌, ℕ, ◌+◌, ◌<◌, ◌≤◌, max, List, [], All, Option, Some, option_map, find, slice_get, unwrap_or, cond}
 use Rattle.std.specs.Str.{IsUtf8}
 use Rattle.std.specs.Ordering.{nat_cmp}
 use Rattle.std.specs.declared.cmp.Ordering.TheVariants.{Less}
@@ -13,7 +13,6 @@ use Rattle.mrpc_table.specs.declared.table.Kind.TheVariants.{Text, Octets, Messa
 use Rattle.mrpc_table.specs.declared.table.Label.{Label}
 use Rattle.mrpc_table.specs.declared.table.Label.TheVariants.{Plain, Optional, Repeated, Packed, Map, Member}
 use Rattle.mrpc_table.specs.declared.table.Field.{Field}
-use Rattle.mrpc_table.specs.declared.table.Message.{Message}
 use Rattle.mrpc_table.specs.declared.table.Table.{Table}
 
 -- the message at a place of the table, and the field of a number in a message

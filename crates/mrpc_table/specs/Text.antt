@@ -1,7 +1,7 @@
 -- The canonical text of a table (this project's own): enums by ascending full name, each with its values,
 -- messages by ascending full name, each with its fields, and the methods, a line for each.
 use Rattle.std.specs.Prelude.{ℕ, ℤ, List, [], ◌∷◌, ◌++◌, codes, option_map, slice_get, unwrap_or}
-use Rattle.std.specs.List.{flat_map, enumerate_from}
+use Rattle.std.specs.List.{flat_map, enumerate_from, join_with_byte}
 use Rattle.std.specs.Fmt.{decimal, signed_decimal}
 use Rattle.mrpc_table.specs.declared.table.Kind.{Kind}
 use Rattle.mrpc_table.specs.declared.table.Kind.TheVariants.{Int32, Int64, Uint32, Uint64, Sint32, Sint64, Bool as TheBool, Fixed32, Fixed64, Sfixed32, Sfixed64, Float, Double, Text, Octets, Message as OfMessage, Choice}
@@ -49,9 +49,7 @@ label_text T oneofs (Member o) = codes "oneof:" ++ unwrap_or (slice_get oneofs o
 
 -- a line: its words with a space between each two, and a line feed
 abbrev pub spaced : List (List ℕ) → List ℕ
-spaced [] = []
-spaced (word ∷ []) = word
-spaced (word ∷ next ∷ words) = word ++ (32 ∷ spaced (next ∷ words))
+spaced words = join_with_byte 32 words
 
 abbrev pub line : List (List ℕ) → List ℕ
 line words = spaced words ++ 10 ∷ []

@@ -1,9 +1,8 @@
 -- Which tables are valid: those that a canonical text within the limits can write.
-use Rattle.std.specs.Prelude.{◌≡◌, ◌≢◌, ◌⊎◌, ℕ, ℤ, pos, ◌+◌, ◌<◌, ◌≤◌, ◌^◌, Bool, List, [], ◌∷◌, ◌++◌, length, All, Contains, IsTrue, map, FitsSigned}
+use Rattle.std.specs.Prelude.{◌≡◌, ◌⊎◌, ℕ, ℤ, pos, ◌+◌, ◌<◌, ◌≤◌, ◌^◌, List, [], ◌∷◌, ◌++◌, length, All, Contains, IsTrue, map, FitsSigned}
 use Rattle.std.specs.Int.{w32}
-use Rattle.std.specs.List.{AllByRecursion, count_by}
 use Rattle.std.specs.Ordering.{nat_cmp, int_cmp}
-use Rattle.std.specs.declared.cmp.Ordering.TheVariants.{Less, Equal}
+use Rattle.std.specs.declared.cmp.Ordering.TheVariants.{Less}
 use Rattle.std.specs.Cmp.Lexicographic.{slice_cmp}
 use Rattle.mrpc_table.specs.Names.{IsName, IsFullName}
 use Rattle.mrpc_table.specs.Words.{is_numeric, is_key}
@@ -65,9 +64,13 @@ pub record IsField (T : Table) (oneofs : ℕ) (f : Field) : Type 0 where
 
 -- oneofs are placed in the order of their least member numbers: read by ascending number, a member is
 -- of a oneof that was met before, or of the next one
+abbrev pub Joins : ℕ → Label → Type 0 → Type 0 → Type 0
+Joins met (Member o) same next = ((o < met) × same) ⊎ ((o ≡ met) × next)
+Joins met _ same next = same
+
 abbrev pub OneofsFollow : ℕ → ℕ → List Field → Type 0
 OneofsFollow met all [] = met ≡ all
-OneofsFollow met all (f ∷ fs) = elim f.label [ Member o ↦ ((o < met) × OneofsFollow met all fs) ⊎ ((o ≡ met) × OneofsFollow (met + 1) all fs) | _ ↦ OneofsFollow met all fs ]
+OneofsFollow met all (f ∷ fs) = Joins met f.label (OneofsFollow met all fs) (OneofsFollow (met + 1) all fs)
 
 pub record IsMessage (T : Table) (m : Message) : Type 0 where
   pub name : IsFullName m.name
@@ -110,3 +113,7 @@ pub record IsValid (T : Table) : Type 0 where
   pub methods : All (IsMethod T) T.methods
   pub method_names : AreDistinct {X = List ℕ × List ℕ} (map (λ m. (m.service, m.name)) T.methods)
   pub short : length (table_text T) ≤ 65536
+
+-- valid tables of one text are equal
+abbrev pub HaveOneTextEach : Type 0
+HaveOneTextEach = (T U : Table) → IsValid T → IsValid U → table_text T ≡ table_text U → T ≡ U

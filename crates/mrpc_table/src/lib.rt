@@ -9,14 +9,25 @@
 
 mod copied;
 mod memory;
+mod normal;
+mod read;
 mod sequence;
 mod table;
+mod text;
 mod tree;
 
 pub use memory::Memory;
+pub use normal::fits;
+pub use read::fault::{TableFault, TableReason};
+pub use read::words::is_name;
+pub use read::{one_text, read_table};
 pub use sequence::{Bytes, Name, Sequence};
 pub use table::{
     ChoiceValues, Choices, Enums, Field, Fields, Kind, Label, Message, Messages, Method, Methods,
     Names, Table,
 };
+pub use text::table_text;
 pub use tree::{Entries, FieldValue, Numbered, Tree, Value, Values};
+
+#[cfg(test)]
+mod tests;

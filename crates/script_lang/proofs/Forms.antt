@@ -1,15 +1,14 @@
 -- A line that is read is spelled so, and a form that is spelled is read.
 use Rattle.std.proofs.Common.{◌≡◌, ◌≢◌, ◌⊎◌, ℕ, ◌+◌, ◌%◌, ◌^◌, ◌<◌, Bool, true, false, not, ◌&&◌, cond, eqb, ltb, List, [], ◌∷◌, ◌++◌, Option, Some, None, refl, sym, ap, subst, ◌∙◌, arith, inl, inr, eq-eqb}
 use Rattle.std.specs.Prelude.{option_map, codes, IsTrue}
-use Rattle.std.specs.List.{AllByRecursion}
+use Rattle.std.specs.List.{AllByRecursion, list_all}
 use Rattle.std.specs.Fmt.{decimal}
 use Rattle.std.specs.Str.{bytes_eq}
-use Rattle.std.proofs.lemmas.Bool.{eqb-true, ne_eqb, ltb-true, lt-ltb, cases_Bool, and_parts, not-true, false≢true}
-use Rattle.std.proofs.lemmas.List.Elements.{recursion_from_All}
+use Rattle.std.proofs.lemmas.Bool.{eqb-true, ne_eqb, ltb-true, lt-ltb, cases_Bool, and_parts, or_left, not-true, false≢true}
 use Rattle.std.proofs.lemmas.Fmt.{decimal_by_steps}
 use Rattle.std.proofs.lemmas.Option.{cond_some, same_Some}
 use Rattle.std.proofs.lemmas.Slice.Eq.{bytes_eq-Decides}
-use Rattle.mrpc_table.specs.Names.{IsName, is_name_byte}
+use Rattle.mrpc_table.specs.Names.{IsName, is_name_start, is_name_byte, is_name_form}
 use Rattle.mrpc_table.specs.Text.{spaced}
 use Rattle.script_lang.specs.declared.script.Line.{Line}
 use Rattle.script_lang.specs.declared.script.Line.TheVariants.{Store, Submit, Drain}
@@ -237,8 +236,18 @@ bytes_miss : (byte : ℕ) (bs : List ℕ) → is_name_byte byte ≡ false → Al
 bytes_miss byte [] other h = tt
 bytes_miss byte (b ∷ bs) other h = (λ same. false≢true (sym other ∙ sym (ap is_name_byte same) ∙ h.0), bytes_miss byte bs other h.1)
 
+each_name_byte : (bs : List ℕ) → IsTrue (list_all is_name_byte bs) → AllByRecursion (λ b. IsTrue (is_name_byte b)) bs
+each_name_byte [] h = tt
+each_name_byte (b ∷ bs) h = let p = and_parts (is_name_byte b) (list_all is_name_byte bs) h in (p.0, each_name_byte bs p.1)
+
+-- every byte of a name is one that a name may have
+pub name_bytes : (name : List ℕ) → IsTrue (is_name_form name) → AllByRecursion (λ b. IsTrue (is_name_byte b)) name
+name_bytes [] h = tt
+name_bytes (c ∷ cs) h =
+    let p = and_parts (is_name_start c) (list_all is_name_byte cs) h in (or_left (is_name_start c) _ p.0, each_name_byte cs p.1)
+
 pub Misses-name : (byte : ℕ) (name : List ℕ) → is_name_byte byte ≡ false → IsName name → Misses byte name
-Misses-name byte name other h = bytes_miss byte name other (recursion_from_All (λ b. IsTrue (is_name_byte b)) name h.form.bytes)
+Misses-name byte name other h = bytes_miss byte name other (name_bytes name h.form)
 
 no_byte : ℕ → List ℕ → Bool
 no_byte byte [] = true

@@ -1,14 +1,15 @@
 -- What holds at each place that lines lead to.
 use Rattle.std.proofs.Common.{◌≡◌, ℕ, suc, ◌+◌, ◌*◌, ◌^◌, ◌<◌, ◌≤◌, List, [], ◌∷◌, ◌++◌, length, map, All, refl, sym, ap, subst, ◌∙◌, arith, inl, inr}
-use Rattle.std.specs.Prelude.{Contains, count_by, codes, cond}
+use Rattle.std.specs.Prelude.{Contains, count_by, codes, cond, true, false, ◌==◌, nat_le}
 use Rattle.std.specs.List.{flat_map, enumerate_from}
 use Rattle.std.specs.Fmt.{decimal}
 use Rattle.std.proofs.lemmas.List.{append-nil, length-append, length-map, map_push}
 use Rattle.std.proofs.lemmas.List.Elements.{All-nil, All-cons, All-push, All-head, All-tail, All-map, Contains-push_cases}
 use Rattle.std.proofs.lemmas.List.Concat.{flat_map-cons}
 use Rattle.std.proofs.lemmas.List.Sums.{sum_by_push}
+use Rattle.std.proofs.lemmas.Bool.{le-leb, ne_eqb}
 use Rattle.std.proofs.lemmas.Fmt.{length-decimal-le}
-use Rattle.mrpc_table.specs.Names.{IsName, IsFullName, HasNameForm}
+use Rattle.mrpc_table.specs.Names.{IsName, IsFullName, is_name_form, is_short, parts_of}
 use Rattle.mrpc_table.specs.Valid.{IsEnum, Ascends, AreDistinct, IsFieldNumber, IsField, OneofsFollow, IsMessage, IsMethod, IsValid}
 use Rattle.mrpc_table.specs.Text.{line, field_line, message_lines, method_line, table_text}
 use Rattle.mrpc_table.specs.declared.table.Message.{Message}
@@ -20,7 +21,8 @@ use Rattle.script_lang.specs.Thin.{Form, header, table, message, field, method, 
 use Rattle.script_lang.specs.Bounds.{IsThinTable, IsThinMessage, IsThinMethod, IsPlainField, field_count, IsWithin}
 use Rattle.script_lang.specs.Standing.{IsReached}
 use Rattle.script_lang.proofs.Fields.{Contains-nil, Contains-cons}
-use Rattle.script_lang.proofs.Forms.{IsReadable, IsLine}
+use Rattle.script_lang.proofs.Words.{Misses}
+use Rattle.script_lang.proofs.Forms.{IsReadable, IsLine, Misses-name}
 
 -- fields of a message that is being read
 pub record AreFields (fields : List Plainly) : Type 0 where
@@ -85,13 +87,21 @@ oneofs_follow : (fields : List Plainly) → OneofsFollow 0 0 (map plain_field fi
 oneofs_follow [] = refl
 oneofs_follow (f ∷ fields) = oneofs_follow fields
 
+-- a name has no dot, and so is the one part of it as a full name
+one_part : (name : List ℕ) → Misses 46 name → parts_of name ≡ name ∷ []
+one_part [] h = refl
+one_part (c ∷ cs) h =
+    let other : (c == 46) ≡ false = ne_eqb c 46 h.0 in
+    let rest = one_part cs h.1 in
+    rw (other, rest) refl
+
 full_name : (name : List ℕ) → IsName name → IsFullName name
-full_name name h = record {
-  parts = name ∷ [];
-  form = record { some = λ e. absurd cc; joined = refl; forms = All-cons HasNameForm name [] h.form (All-nil HasNameForm) };
-  each_short = All-cons (λ part. length part ≤ 64) name [] h.short (All-nil (λ part. length part ≤ 64));
-  short = omega (arith, h.short);
-}
+full_name name h =
+    let part = one_part name (Misses-name 46 name refl h) in
+    let form : is_name_form name ≡ true = h.form in
+    let short : is_short name ≡ true = le-leb (length name) 64 h.short in
+    let all : nat_le (length name) 255 ≡ true = le-leb (length name) 255 (omega (arith, h.short)) in
+    record { form = rw (part, form) refl; short = rw (part, short, all) refl }
 
 field_lines_short : (T : Table) (fields : List Plainly) → All (λ f. IsFieldNumber f.number) fields → All (λ f. IsName f.name) fields → length (flat_map (field_line T []) (map plain_field fields)) ≤ 100 * length fields
 field_lines_short T [] numbers names = omega arith

@@ -10,10 +10,9 @@ ghost use Rattle.script_lang.specs.Standing.{place_of, plainly, ArePlain, IsKept
 
 use crate::form::{Form, read_form};
 use crate::script::{Line, Lines, Script};
-use crate::word::is_name;
 use mrpc_table::{
     Enums, Field, Fields, Kind, Label, Memory, Message, Messages, Method, Methods, Name, Names,
-    Table,
+    Table, is_name,
 };
 use std::alloc::Global;
 

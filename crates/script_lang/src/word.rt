@@ -2,12 +2,8 @@
 
 ghost use Rattle.std.specs.Prelude.{◌≡◌, ◌↔◌, option_map, IsTrue};
 ghost use Rattle.script_lang.specs.Reading.{parted, number_of, small_number_of, IsMarked};
-ghost use Rattle.mrpc_table.specs.Names.{IsName, is_name_byte as name_byte_test};
 
 use memchr::memchr;
-
-/// The most bytes of a name.
-const NAME_LIMIT: usize = 64;
 
 /// The bytes before the first space and those behind it; none where there is no space.
 pub(crate) fn split_word(line: &[u8]) -> Option<(&[u8], &[u8])>
@@ -56,24 +52,4 @@ pub(crate) fn small_number(word: &[u8]) -> Option<u32>
     ensures { result ≡ small_number_of word.now }
 {
     u32::try_from(number(word)?).ok()
-}
-
-/// Whether the word is a name: a letter or `_`, then letters, digits and `_`, 64 bytes at most.
-pub(crate) fn is_name(word: &[u8]) -> bool
-    ensures { IsTrue result ↔ IsName word.now }
-{
-    match word {
-        [first, ..] => {
-            word.len() <= NAME_LIMIT
-                && !first.is_ascii_digit()
-                && word.iter().all(|byte| is_name_byte(*byte))
-        }
-        [] => false,
-    }
-}
-
-fn is_name_byte(byte: u8) -> bool
-    ensures { result ≡ name_byte_test byte }
-{
-    matches!(byte, b'A'..=b'Z' | b'a'..=b'z' | b'_' | b'0'..=b'9')
 }

@@ -6,7 +6,7 @@ use Rattle.std.specs.Int.Digits.{digits_of}
 use Rattle.std.proofs.lemmas.Fmt.{decimal-digits_of}
 use Rattle.std.proofs.lemmas.Int.Digits.{length-digits_of-le}
 use Rattle.std.proofs.lemmas.List.{length-append, length-map}
-use Rattle.mrpc_table.specs.Names.{is_name_start, is_name_byte, HasNameForm, IsName}
+use Rattle.mrpc_table.specs.Names.{IsName}
 use Rattle.mrpc_table.specs.Valid.{IsField, IsMessage, IsEnum, IsMethod, IsValid}
 use Rattle.mrpc_table.specs.declared.table.Field.{Field}
 use Rattle.mrpc_table.specs.declared.table.Message.{Message}
@@ -23,9 +23,6 @@ small_message = record { name = 77 ∷ []; fields = small_field ∷ []; oneofs =
 abbrev pub small_table : Table
 small_table = record { messages = small_message ∷ []; enums = []; methods = [] }
 
-letter : (c : ℕ) → IsTrue (is_name_start c) → IsTrue (is_name_byte c) → HasNameForm (c ∷ [])
-letter c first byte = record { start = first; bytes = All-cons (λ x. IsTrue (is_name_byte x)) c [] byte (All-nil (λ x. IsTrue (is_name_byte x))) }
-
 none-distinct : (x : List ℕ) → Contains [] x → ⊥
 none-distinct x h = let none = h.1 in omega (arith, none)
 
@@ -36,19 +33,14 @@ one-digit = let long = length-digits_of-le 10 1 1 (lit≤ tt) (lit< tt) in let s
 field-valid : IsField small_table 0 small_field
 field-valid = record {
   number = record { positive = lit< tt; small = lit< tt; unreserved = inl (lit< tt) };
-  name = record { form = letter 97 refl refl; short = lit≤ tt };
+  name = record { form = refl; short = lit≤ tt };
   label = tt;
   kind = tt;
 }
 
 message-valid : IsMessage small_table small_message
 message-valid = record {
-  name = record {
-    parts = (77 ∷ []) ∷ [];
-    form = record { some = λ e. cc; joined = refl; forms = All-cons HasNameForm (77 ∷ []) [] (letter 77 refl refl) (All-nil HasNameForm) };
-    each_short = All-cons (λ part. length part ≤ 64) (77 ∷ []) [] (lit≤ tt) (All-nil (λ (part : List ℕ). length part ≤ 64));
-    short = lit≤ tt;
-  };
+  name = record { form = refl; short = refl };
   few = lit≤ tt;
   fields = All-cons (IsField small_table 0) small_field [] field-valid (All-nil (IsField small_table 0));
   ascend = tt;

@@ -1,0 +1,8 @@
+-- All keys ascend where those from the last one that was compared do.
+use Rattle.std.proofs.Common.{◌↔◌, ◌-◌, drop}
+use Rattle.mrpc_table.specs.Normal.{KeysAscend}
+use Rattle.mrpc_table.specs.View.{pairs_of}
+use Rattle.mrpc_table.proofs.normal.keys_ascend.Given as goal
+
+abbrev pub invariant-loop-i : goal.invariant-loop-i
+invariant-loop-i l = KeysAscend l.kind (pairs_of l.entries) ↔ KeysAscend l.kind (pairs_of (drop (l.i - 1) l.entries))

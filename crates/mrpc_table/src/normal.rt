@@ -1,0 +1,257 @@
+//! Whether a tree is a normal tree of a message.
+
+ghost use Rattle.std.specs.Prelude.{◌≡◌, ◌<◌, ◌≤◌, ◌↔◌, ℕ, length, IsTrue};
+ghost use Rattle.std.specs.Option.{option_copied};
+ghost use Rattle.mrpc_table.specs.declared.table.Kind.{Kind};
+ghost use Rattle.mrpc_table.specs.declared.table.Label.TheVariants.{Map};
+ghost use Rattle.mrpc_table.specs.Words.{IsWordForm, rank};
+ghost use Rattle.mrpc_table.specs.Normal.{IsNormal, IsRun, IsBefore, KeysAscend, TakesOne, TakesMany, field_at};
+ghost use Rattle.mrpc_table.specs.Valid.{IsValid, IsMessage, IsKnown, Ascends};
+ghost use Rattle.mrpc_table.specs.View.{item_of, items_of, pairs_of, content_of};
+ghost use Rattle.mrpc_table.specs.Fits.{FitsWithin, RestFits, ContentFits, ItemFits, ItemsFit, PairsFit, is_free, taken_after, IsPlaced};
+
+use crate::table::{Field, Kind, Label, Message, Table};
+use crate::tree::{FieldValue, Tree, Value};
+use std::cmp::Ordering;
+
+/// The deepest nesting of messages in a normal tree, the root counting 1.
+const DEPTH: u32 = 32;
+
+/// How many fields a message has at most, and so how many oneofs.
+const FIELDS: usize = 128;
+
+/// Whether the tree is a normal tree of the message: its fields are of the message and ascend, each
+/// number is a word form of its kind, strings are UTF-8, no default stands under implicit presence, no
+/// repeated field or map is empty, map keys ascend, a oneof has one member at most, and messages nest
+/// at most 32 deep. A deeper tree is left where the 33rd message begins.
+pub fn fits(tree: &Tree, table: &Table, msg: u32) -> bool
+    requires valid { IsValid table.now }
+    requires known { msg < length table.now.messages }
+    ensures { IsTrue result ↔ IsNormal table.now msg tree.now }
+{
+    tree_fits(tree, table, msg, DEPTH)
+}
+
+#[cycle(fits)]
+fn tree_fits(tree: &Tree, table: &Table, msg: u32, room: u32) -> bool
+    requires valid { IsValid table.now }
+    requires known { msg < length table.now.messages }
+    ensures { IsTrue result ↔ FitsWithin table.now msg room tree.now }
+{
+    if room == 0 {
+        return false;
+    }
+    let message = &table.messages.as_slice()[msg as usize];
+    let mut taken = [false; FIELDS];
+    fields_fit(tree, message, &mut taken, table, room)
+}
+
+// `taken` says of each oneof whether it has a member.
+#[cycle(fits)]
+fn fields_fit(tree: &Tree, message: &Message, taken: &mut [bool], table: &Table, room: u32) -> bool
+    requires valid { IsValid table.now }
+    requires message { IsMessage table.now message.now }
+    requires places { length taken.old ≡ 128 }
+    requires room { 0 < room }
+    ensures { IsTrue result ↔ RestFits table.now message.now.fields room 0 taken.old tree.now }
+{
+    let mut last = 0;
+    for (number, content) in &tree.fields {
+        if *number <= last {
+            return false;
+        }
+        let Some(field) = field_of(message.fields.as_slice(), *number) else {
+            return false;
+        };
+        if !content_fits(content, field, table, room) || !take_member(taken, field.label) {
+            return false;
+        }
+        last = *number;
+    }
+    true
+}
+
+#[cycle(fits)]
+fn content_fits(content: &FieldValue, field: &Field, table: &Table, room: u32) -> bool
+    requires valid { IsValid table.now }
+    requires kind { IsKnown table.now field.now.kind }
+    requires key { (k : Kind) → field.now.label ≡ Map k → IsKnown table.now k }
+    ensures { IsTrue result ↔ ContentFits table.now field.now room (content_of content.now) }
+{
+    match content {
+        FieldValue::One(value) => {
+            takes_one(field.label, value) && item_fits(value, field.kind, table, room)
+        }
+        FieldValue::Many(values) => {
+            if !takes_many(field.label) {
+                return false;
+            }
+            !values.is_empty() && items_fit(values, field.kind, table, room)
+        }
+        FieldValue::Pairs(entries) => {
+            let Label::Map(key) = field.label else {
+                return false;
+            };
+            if !pairs_fit(entries, key, field.kind, table, room) {
+                return false;
+            }
+            !entries.is_empty() && keys_ascend(key, entries)
+        }
+    }
+}
+
+#[cycle(fits)]
+fn items_fit(values: &[Value], kind: Kind, table: &Table, room: u32) -> bool
+    requires valid { IsValid table.now }
+    requires kind { IsKnown table.now kind }
+    ensures { IsTrue result ↔ ItemsFit table.now kind room (items_of values.now) }
+{
+    for value in values {
+        if !item_fits(value, kind, table, room) {
+            return false;
+        }
+    }
+    true
+}
+
+#[cycle(fits)]
+fn pairs_fit(entries: &[(Value, Value)], key: Kind, kind: Kind, table: &Table, room: u32) -> bool
+    requires valid { IsValid table.now }
+    requires key { IsKnown table.now key }
+    requires kind { IsKnown table.now kind }
+    ensures { IsTrue result ↔ PairsFit table.now key kind room (pairs_of entries.now) }
+{
+    for entry in entries {
+        if !item_fits(&entry.0, key, table, room) || !item_fits(&entry.1, kind, table, room) {
+            return false;
+        }
+    }
+    true
+}
+
+#[cycle(fits)]
+fn item_fits(value: &Value, kind: Kind, table: &Table, room: u32) -> bool
+    requires valid { IsValid table.now }
+    requires kind { IsKnown table.now kind }
+    ensures { IsTrue result ↔ ItemFits table.now kind room (item_of value.now) }
+{
+    match value {
+        Value::Number(word) => is_word_form(kind, *word),
+        Value::Run(bytes) => is_run(kind, bytes.as_slice()),
+        Value::Node(tree) => match kind {
+            Kind::Message(msg) => room > 0 && tree_fits(tree, table, msg, room - 1),
+            _ => false,
+        },
+    }
+}
+
+// Whether the oneof of a label has no member yet; now it has one.
+fn take_member(taken: &mut [bool], label: Label) -> bool
+    requires { IsPlaced (length taken.old) label }
+    ensures free { result ≡ is_free taken.old label }
+    ensures after { taken.new ≡ taken_after taken.old label }
+{
+    match label {
+        Label::Member(oneof) => {
+            let free = !taken[oneof as usize];
+            taken[oneof as usize] = true;
+            free
+        }
+        _ => true,
+    }
+}
+
+// The word is the form of a number of the kind.
+fn is_word_form(kind: Kind, word: u64) -> bool
+    ensures { IsTrue result ↔ IsWordForm kind word }
+{
+    match kind {
+        Kind::Int32 | Kind::Sint32 | Kind::Sfixed32 | Kind::Choice(_) => {
+            word < 0x8000_0000 || word >= 0xffff_ffff_8000_0000
+        }
+        Kind::Uint32 | Kind::Fixed32 | Kind::Float => word < 0x1_0000_0000,
+        Kind::Bool => word < 2,
+        Kind::Int64 | Kind::Sint64 | Kind::Uint64 | Kind::Fixed64 | Kind::Sfixed64 | Kind::Double =>
+            true,
+        Kind::Text | Kind::Octets | Kind::Message(_) => false,
+    }
+}
+
+fn is_run(kind: Kind, bytes: &[u8]) -> bool
+    ensures { IsTrue result ↔ IsRun kind bytes.now }
+{
+    match kind {
+        Kind::Text => std::str::from_utf8(bytes).is_ok(),
+        Kind::Octets => true,
+        _ => false,
+    }
+}
+
+// Where a word stands in the order of the numbers of its kind.
+fn rank_of(kind: Kind, word: u64) -> u64
+    ensures { result ≡ rank kind word }
+{
+    match kind {
+        Kind::Int32
+        | Kind::Int64
+        | Kind::Sint32
+        | Kind::Sint64
+        | Kind::Sfixed32
+        | Kind::Sfixed64
+        | Kind::Choice(_) => word.wrapping_add(0x8000_0000_0000_0000),
+        _ => word,
+    }
+}
+
+fn is_before(kind: Kind, first: &Value, second: &Value) -> bool
+    ensures { IsTrue result ↔ IsBefore kind (item_of first.now) (item_of second.now) }
+{
+    match (first, second) {
+        (Value::Number(m), Value::Number(n)) => rank_of(kind, *m) < rank_of(kind, *n),
+        (Value::Run(a), Value::Run(b)) => {
+            matches!(a.as_slice().cmp(&b.as_slice()), Ordering::Less)
+        }
+        _ => false,
+    }
+}
+
+fn keys_ascend(kind: Kind, entries: &[(Value, Value)]) -> bool
+    ensures { IsTrue result ↔ KeysAscend kind (pairs_of entries.now) }
+{
+    for i in 1..entries.len() {
+        if !is_before(kind, &entries[i - 1].0, &entries[i].0) {
+            return false;
+        }
+    }
+    true
+}
+
+fn takes_one(label: Label, value: &Value) -> bool
+    ensures { IsTrue result ↔ TakesOne label (item_of value.now) }
+{
+    match label {
+        Label::Plain => match value {
+            Value::Number(word) => *word != 0,
+            Value::Run(bytes) => !bytes.is_empty(),
+            Value::Node(_) => true,
+        },
+        Label::Optional | Label::Member(_) => true,
+        Label::Repeated | Label::Packed | Label::Map(_) => false,
+    }
+}
+
+fn takes_many(label: Label) -> bool
+    ensures { IsTrue result ↔ TakesMany label }
+{
+    matches!(label, Label::Repeated | Label::Packed)
+}
+
+fn field_of(fields: &[Field], number: u32) -> Option<&Field>
+    requires { Ascends (λ f g. f.number < g.number) fields.now }
+    ensures { option_copied result ≡ field_at fields.now number }
+{
+    match fields.binary_search_by_key(&number, |field| field.number) {
+        Ok(i) => Some(&fields[i]),
+        Err(_) => None,
+    }
+}
