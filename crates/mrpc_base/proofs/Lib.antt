@@ -1,6 +1,7 @@
 pub mod Counts
 pub mod Due
 pub mod Known
+pub mod KnownBytes
 pub mod LastStore
 pub mod Listed
 pub mod Listing

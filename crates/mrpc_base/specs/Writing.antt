@@ -1,5 +1,6 @@
 -- What a write answers, and what a sink in memory holds.
-use Rattle.std.specs.Prelude.{ℕ, List, ⊤}
+use Rattle.std.specs.Prelude.{ℕ, ◌<◌, List, length, take, Option, ⊤}
+use Rattle.std.specs.Io.KnownBytes.{Appends}
 use Rattle.mrpc_base.specs.declared.sink.Put.{Put}
 use Rattle.mrpc_base.specs.declared.sink.Put.TheVariants.{Took, Failed}
 
@@ -7,6 +8,10 @@ use Rattle.mrpc_base.specs.declared.sink.Put.TheVariants.{Took, Failed}
 abbrev pub OnTook : Put → (ℕ → Type 0) → Type 0
 OnTook (Took n) P = P n
 OnTook Failed P = ⊤
+
+-- a front of the bytes was written, and not all of them
+abbrev pub AppendsFront : Option (List ℕ) → Option (List ℕ) → List ℕ → Type 0
+AppendsFront old new bytes = (n : ℕ) × (n < length bytes) × Appends old new (take n bytes)
 
 -- a sink in memory
 pub record Writing : Type 0 where

@@ -4,6 +4,7 @@ ghost use Rattle.mrpc_base.specs.Faults.{Rose, raised};
 ghost use Rattle.mrpc_base.specs.Reading.{OnBytes, OnNoBytes, given_count};
 
 use crate::calls::Calls;
+use crate::supply::Supply;
 use crate::{Got, Source};
 use std::marker::Model;
 
@@ -11,33 +12,31 @@ use std::marker::Model;
 /// the numbers of failing reads that it was made with, and how many reads there were and failed.
 #[derive(Debug, Drop)]
 pub struct MemSource {
-    bytes: Vec<u8>,
-    // How many bytes were given: none is moved.
-    given: usize,
+    supply: Supply,
     lengths: Vec<usize>,
     calls: Calls,
 }
 
 impl Model for MemSource {
-    ghost use Rattle.std.specs.Prelude.{◌<◌, ◌≤◌, All, drop, length};
+    ghost use Rattle.std.specs.Prelude.{◌<◌, All};
     ghost use Rattle.mrpc_base.specs.Reading.{Reading};
 
     ghost Value = { Reading };
 
-    ghost view = { λ s. record { left = drop s.given s.bytes.items; lengths = s.lengths.items; failing = s.calls.failing; calls = s.calls.calls; faults = s.calls.faults } };
+    ghost view = { λ s. record { left = s.supply.left; lengths = s.lengths.items; failing = s.calls.failing; calls = s.calls.calls; faults = s.calls.faults } };
 
-    ghost invariant = { λ s. (s.given ≤ length s.bytes.items) × All (λ most. 0 < most) s.lengths.items };
+    ghost invariant = { λ s. All (λ most. 0 < most) s.lengths.items };
 }
 
 // The length listed for the read after so many, if one is.
-fn listed_length(lengths: &[usize], calls: u64) -> Option<usize>
+pub(crate) fn listed_length(lengths: &[usize], calls: u64) -> Option<usize>
     ensures { result ≡ slice_get lengths.now calls }
 {
     lengths.get(calls as usize).copied()
 }
 
 // How many bytes a read gives, where `most` is the length listed for it, if one is.
-fn count_to_give(most: Option<usize>, room: usize, left: usize) -> usize
+pub(crate) fn count_to_give(most: Option<usize>, room: usize, left: usize) -> usize
     ensures { result ≡ given_count most room left }
 {
     match most {
@@ -61,8 +60,7 @@ impl MemSource {
         ensures faults { result.faults ≡ 0 }
     {
         MemSource {
-            bytes,
-            given: 0,
+            supply: Supply::new(bytes),
             lengths,
             calls: Calls::new(failing),
         }
@@ -72,7 +70,7 @@ impl MemSource {
     pub fn left(&self) -> &[u8]
         ensures { result.now ≡ self.now.left }
     {
-        &self.bytes[self.given..]
+        self.supply.left()
     }
 
     /// How many reads failed; it stands still at 2^64 - 1.
@@ -87,18 +85,6 @@ impl MemSource {
         ensures { result ≡ self.now.calls }
     {
         self.calls.calls()
-    }
-
-    // Gives the next `count` bytes.
-    fn give(&mut self, buf: &mut [u8], count: usize)
-        requires room { count ≤ length buf.old }
-        requires enough { count ≤ length self.old.left }
-        ensures given { buf.new ≡ take count self.old.left ++ drop count buf.old }
-        ensures left { self.new ≡ record self.old { left = drop count self.old.left } }
-    {
-        let end = self.given + count;
-        buf[..count].copy_from_slice(&self.bytes[self.given..end]);
-        self.given = end;
     }
 }
 
@@ -138,13 +124,13 @@ impl Source for MemSource {
             self.calls.fault();
             return Got::Failed;
         }
-        let left = self.bytes.len() - self.given;
+        let left = self.supply.left().len();
         if left == 0 {
             return Got::End;
         }
         let most = listed_length(&self.lengths, before);
         let count = count_to_give(most, buf.len(), left);
-        self.give(buf, count);
+        self.supply.give(buf, count);
         Got::Bytes(count)
     }
 }

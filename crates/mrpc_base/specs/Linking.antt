@@ -1,0 +1,40 @@
+-- What a send and a receive answer, and what a link in memory was handed and has left.
+use Rattle.std.specs.Prelude.{ℕ, Bool, List, ⊤}
+use Rattle.mrpc_base.specs.declared.link.Came.{Came}
+use Rattle.mrpc_base.specs.declared.link.Came.TheVariants.{Bytes, Idle, End, Failed, Memory}
+
+-- P holds of the number of bytes that a receive gave, if it gave bytes
+abbrev pub OnCame : Came → (ℕ → Type 0) → Type 0
+OnCame (Bytes n) P = P n
+OnCame Idle P = ⊤
+OnCame End P = ⊤
+OnCame Failed P = ⊤
+OnCame Memory P = ⊤
+
+-- P holds, if a receive gave no bytes
+abbrev pub OnNoneCame : Came → Type 0 → Type 0
+OnNoneCame (Bytes n) P = ⊤
+OnNoneCame Idle P = P
+OnNoneCame End P = P
+OnNoneCame Failed P = P
+OnNoneCame Memory P = P
+
+-- a link in memory
+pub record Linking : Type 0 where
+  -- the frames that were handed over, in order
+  pub handed : List (List ℕ)
+  -- the bytes that came, and those that are left to come
+  pub given : List ℕ
+  pub left : List ℕ
+  -- the most bytes that the first receive gives, the second, and so on; at 0 nothing is ready
+  pub lengths : List ℕ
+  -- the numbers of the sends and of the receives that are to fail, each counted from 1
+  pub failing_sends : List ℕ
+  pub failing_receives : List ℕ
+  -- how many sends and receives there were, and how many of both failed; each stands still at 2^64 - 1
+  pub sends : ℕ
+  pub receives : ℕ
+  pub faults : ℕ
+  -- whether a receive answered that the other side has finished, and whether the sending side was ended
+  pub ended : Bool
+  pub finished : Bool

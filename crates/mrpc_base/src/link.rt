@@ -1,0 +1,78 @@
+ghost use Rattle.std.specs.Prelude.{◌≡◌, ◌≢◌, ◌<◌, ◌≤◌, List, [], ◌∷◌, ◌++◌, ℕ, Bool, Option, IsTrue, length, take};
+ghost use Rattle.std.specs.Io.KnownBytes.{Appends, Keeps};
+ghost use Rattle.mrpc_base.specs.Faults.{Rose};
+ghost use Rattle.mrpc_base.specs.Linking.{OnCame, OnNoneCame};
+
+/// What a send answers.
+#[derive(Clone, Copy, Debug, PartialEq, Eq)]
+pub enum Handed {
+    /// The frame was handed over, whole.
+    Done,
+    /// The link failed, and the frame was not handed over whole.
+    Failed,
+    /// No memory was found, and the frame was not handed over.
+    Memory,
+}
+
+/// What a receive answers.
+#[derive(Clone, Copy, Debug, PartialEq, Eq)]
+pub enum Came {
+    /// So many bytes, from 1 to the buffer's length, stand at the buffer's start.
+    Bytes(usize),
+    /// Nothing was ready.
+    Idle,
+    /// The other side has finished, and nothing is left.
+    End,
+    /// The link failed, and took nothing of what is left.
+    Failed,
+    /// No memory was found, and nothing of what is left was taken.
+    Memory,
+}
+
+/// A connection with a peer: frames go out, and bytes come in.
+pub trait Link {
+    /// The frames that were handed over, in order.
+    ghost handed: { Self → List (List ℕ) };
+
+    /// The bytes that came, where the link tells them.
+    ghost given: { Self → Option (List ℕ) };
+
+    /// Whether it has answered that the other side has finished.
+    ghost ended: { Self → Bool };
+
+    /// How many sends and receives have failed; it stands still at 2^64 - 1.
+    ghost faults: { Self → ℕ };
+
+    /// Hands a frame over.
+    fn send(&mut self, frame: &[u8]) -> Handed
+        ensures appended { result ≡ Handed.Done → handed self.new ≡ handed self.old ++ frame.now ∷ [] }
+        ensures kept { result ≢ Handed.Done → handed self.new ≡ handed self.old }
+        ensures same_given { given self.new ≡ given self.old }
+        ensures same_ended { ended self.new ≡ ended self.old }
+
+        ensures failed { result ≡ Handed.Failed → Rose (faults self.old) (faults self.new) }
+        ensures no_fault { result ≢ Handed.Failed → faults self.new ≡ faults self.old }
+        ensures never_falls { faults self.old ≤ faults self.new };
+
+    /// Receives the next bytes into the start of `buf`. What it leaves behind them is open.
+    fn receive(&mut self, buf: &mut [u8]) -> Came
+        requires room { 0 < length buf.old }
+
+        ensures count { OnCame result (λ n. (0 < n) × (n ≤ length buf.old)) }
+        ensures appended { OnCame result (λ n. Appends (given self.old) (given self.new) (take n buf.new)) }
+        ensures kept { OnNoneCame result (Keeps (given self.old) (given self.new)) }
+        ensures ends { result ≡ Came.End → IsTrue (ended self.new) }
+        ensures same_ended { result ≢ Came.End → ended self.new ≡ ended self.old }
+        ensures same_handed { handed self.new ≡ handed self.old }
+
+        ensures failed { result ≡ Came.Failed → Rose (faults self.old) (faults self.new) }
+        ensures no_fault { result ≢ Came.Failed → faults self.new ≡ faults self.old }
+        ensures never_falls { faults self.old ≤ faults self.new };
+
+    /// Ends the sending side, which cannot be refused.
+    fn finish(&mut self)
+        ensures same_handed { handed self.new ≡ handed self.old }
+        ensures same_given { given self.new ≡ given self.old }
+        ensures same_ended { ended self.new ≡ ended self.old }
+        ensures same_faults { faults self.new ≡ faults self.old };
+}

@@ -1,0 +1,224 @@
+// A link in memory, whose sends and receives can be made to fail, and whose receives can be made short.
+ghost use Rattle.std.specs.Prelude.{◌≡◌, ◌≢◌, ◌<◌, ◌≤◌, ◌↔◌, ◌⊎◌, [], ◌∷◌, ◌++◌, Contains, IsPermutation, IsTrue, length, map, slice_get, take, drop, true, false};
+ghost use Rattle.mrpc_base.specs.Faults.{Rose, raised};
+ghost use Rattle.mrpc_base.specs.Linking.{OnCame, OnNoneCame};
+ghost use Rattle.mrpc_base.specs.Reading.{given_count};
+
+use crate::calls::Calls;
+use crate::mem_source::{count_to_give, listed_length};
+use crate::supply::Supply;
+use crate::{Came, Handed, Link};
+use std::alloc::Global;
+use std::marker::Model;
+
+/// A link in memory. Contracts see it as a `Linking`: the frames that were handed over, the bytes that came and
+/// those that are left, the lengths and the numbers of failing sends and receives that it was made with, how many
+/// sends and receives there were and failed, and whether either side has finished.
+#[derive(Debug, Drop)]
+pub struct MemLink {
+    alloc: Global,
+    handed: Vec<Vec<u8>>,
+    incoming: Supply,
+    lengths: Vec<usize>,
+    sends: Calls,
+    receives: Calls,
+    // Of both.
+    faults: u64,
+    ended: bool,
+    finished: bool,
+}
+
+impl Model for MemLink {
+    ghost use Rattle.std.specs.Prelude.{map};
+    ghost use Rattle.mrpc_base.specs.Linking.{Linking};
+
+    ghost Value = { Linking };
+
+    ghost view = { λ l. record { handed = map (λ frame. frame.items) l.handed.items; given = l.incoming.given; left = l.incoming.left; lengths = l.lengths.items; failing_sends = l.sends.failing; failing_receives = l.receives.failing; sends = l.sends.calls; receives = l.receives.calls; faults = l.faults; ended = l.ended; finished = l.finished } };
+}
+
+impl MemLink {
+    /// A link to which nothing was handed, and which has the bytes `incoming` left to give.
+    ///
+    /// The k-th receive gives at most the k-th of `lengths` bytes, and at 0 nothing is ready; a receive past that
+    /// list gives as many as the buffer takes. The send of each number in `failing_sends`, counted from 1, fails,
+    /// and so does the receive of each number in `failing_receives`. At a receive a listed failure counts first,
+    /// then that nothing is left, and then a listed length of 0.
+    pub fn new(
+        alloc: Global,
+        incoming: Vec<u8>,
+        lengths: Vec<usize>,
+        failing_sends: Vec<u64>,
+        failing_receives: Vec<u64>,
+    ) -> Self
+        ensures handed { result.handed ≡ [] }
+        ensures given { result.given ≡ [] }
+        ensures left { result.left ≡ incoming.items }
+        ensures lengths { result.lengths ≡ lengths.items }
+        // In ascending order, so that each call is looked up fast.
+        ensures failing_sends { IsPermutation failing_sends.items result.failing_sends }
+        ensures failing_receives { IsPermutation failing_receives.items result.failing_receives }
+        ensures sends { result.sends ≡ 0 }
+        ensures receives { result.receives ≡ 0 }
+        ensures faults { result.faults ≡ 0 }
+        ensures ended { result.ended ≡ false }
+        ensures finished { result.finished ≡ false }
+    {
+        MemLink {
+            alloc,
+            handed: Vec::new(alloc),
+            incoming: Supply::new(incoming),
+            lengths,
+            sends: Calls::new(failing_sends),
+            receives: Calls::new(failing_receives),
+            faults: 0,
+            ended: false,
+            finished: false,
+        }
+    }
+
+    /// The frames that were handed over, in order.
+    pub fn handed(&self) -> &[Vec<u8>]
+        ensures { map (λ frame. frame.items) result.now ≡ self.now.handed }
+    {
+        &self.handed
+    }
+
+    /// The bytes that are left to come.
+    pub fn left(&self) -> &[u8]
+        ensures { result.now ≡ self.now.left }
+    {
+        self.incoming.left()
+    }
+
+    /// How many sends and receives failed; it stands still at 2^64 - 1.
+    pub fn faults(&self) -> u64
+        ensures { result ≡ self.now.faults }
+    {
+        self.faults
+    }
+
+    /// Whether a receive answered that the other side has finished.
+    pub fn has_ended(&self) -> bool
+        ensures { result ≡ self.now.ended }
+    {
+        self.ended
+    }
+
+    /// Whether the sending side was ended.
+    pub fn is_finished(&self) -> bool
+        ensures { result ≡ self.now.finished }
+    {
+        self.finished
+    }
+
+    // Counts a send or a receive that failed.
+    fn fault(&mut self)
+        ensures faults { self.new ≡ record self.old { faults = raised self.old.faults } }
+        ensures never_falls { self.old.faults ≤ self.new.faults }
+    {
+        self.faults = self.faults.saturating_add(1);
+    }
+
+    // Keeps a copy of a frame.
+    fn keep(&mut self, frame: &[u8]) -> Handed
+        ensures done { result ≡ Handed.Done → self.new ≡ record self.old { handed = self.old.handed ++ frame.now ∷ [] } }
+        ensures other { result ≢ Handed.Done → (result ≡ Handed.Memory) × (self.new ≡ self.old) }
+    {
+        let Ok(copy) = frame.to_vec(self.alloc) else {
+            return Handed::Memory;
+        };
+        match self.handed.push(copy) {
+            Ok(()) => Handed::Done,
+            Err(_) => Handed::Memory,
+        }
+    }
+}
+
+impl Link for MemLink {
+    ghost use Rattle.std.specs.Prelude.{Some};
+
+    ghost handed = { λ l. l.handed };
+
+    ghost given = { λ l. Some l.given };
+
+    ghost ended = { λ l. l.ended };
+
+    ghost faults = { λ l. l.faults };
+
+    fn send(&mut self, frame: &[u8]) -> Handed
+        // A send fails exactly where its number is listed, or the sending side was ended.
+        ensures fails { (result ≡ Handed.Failed) ↔ (Contains self.old.failing_sends self.new.sends ⊎ IsTrue self.old.finished) }
+
+        ensures appended { result ≡ Handed.Done → self.new.handed ≡ self.old.handed ++ frame.now ∷ [] }
+        ensures kept { result ≢ Handed.Done → self.new.handed ≡ self.old.handed }
+
+        // What is counted, and what stays.
+        ensures sends { self.new.sends ≡ raised self.old.sends }
+        ensures faults { result ≡ Handed.Failed → self.new.faults ≡ raised self.old.faults }
+        ensures failed { result ≡ Handed.Failed → Rose self.old.faults self.new.faults }
+        ensures no_fault { result ≢ Handed.Failed → self.new.faults ≡ self.old.faults }
+        ensures never_falls { self.old.faults ≤ self.new.faults }
+        ensures same { self.new ≡ record self.old { handed = self.new.handed; sends = self.new.sends; faults = self.new.faults } }
+    {
+        if self.sends.next() || self.finished {
+            self.fault();
+            return Handed::Failed;
+        }
+        self.keep(frame)
+    }
+
+    fn receive(&mut self, buf: &mut [u8]) -> Came
+        requires room { 0 < length buf.old }
+
+        // A receive fails exactly where its number is listed. Otherwise it finds the end exactly where nothing is
+        // left, and where something is, nothing is ready exactly at a listed length of 0.
+        ensures fails { (result ≡ Came.Failed) ↔ Contains self.old.failing_receives self.new.receives }
+        ensures end { (result ≡ Came.End) ↔ (self.old.left ≡ []) × (result ≢ Came.Failed) }
+        ensures idle { (result ≡ Came.Idle) ↔ (slice_get self.old.lengths self.old.receives ≡ Some 0) × (self.old.left ≢ []) × (result ≢ Came.Failed) }
+        ensures memory { result ≢ Came.Memory }
+        ensures exact { OnCame result (λ n. n ≡ given_count (slice_get self.old.lengths self.old.receives) (length buf.old) (length self.old.left)) }
+
+        // The bytes that come are the next ones.
+        ensures count { OnCame result (λ n. (0 < n) × (n ≤ length buf.old)) }
+        ensures next { OnCame result (λ n. self.old.left ≡ take n buf.new ++ self.new.left) }
+        ensures appended { OnCame result (λ n. self.new.given ≡ self.old.given ++ take n buf.new) }
+        ensures behind { OnCame result (λ n. drop n buf.new ≡ drop n buf.old) }
+        ensures kept { OnNoneCame result ((self.new.left ≡ self.old.left) × (self.new.given ≡ self.old.given)) }
+        ensures untouched { OnNoneCame result (buf.new ≡ buf.old) }
+
+        // What is counted, and what stays.
+        ensures ends { result ≡ Came.End → IsTrue self.new.ended }
+        ensures same_ended { result ≢ Came.End → self.new.ended ≡ self.old.ended }
+        ensures receives { self.new.receives ≡ raised self.old.receives }
+        ensures faults { result ≡ Came.Failed → self.new.faults ≡ raised self.old.faults }
+        ensures failed { result ≡ Came.Failed → Rose self.old.faults self.new.faults }
+        ensures no_fault { result ≢ Came.Failed → self.new.faults ≡ self.old.faults }
+        ensures never_falls { self.old.faults ≤ self.new.faults }
+        ensures same { self.new ≡ record self.old { given = self.new.given; left = self.new.left; receives = self.new.receives; faults = self.new.faults; ended = self.new.ended } }
+    {
+        let before = self.receives.calls();
+        if self.receives.next() {
+            self.fault();
+            return Came::Failed;
+        }
+        let left = self.incoming.left().len();
+        if left == 0 {
+            self.ended = true;
+            return Came::End;
+        }
+        let most = listed_length(&self.lengths, before);
+        let count = count_to_give(most, buf.len(), left);
+        if count == 0 {
+            return Came::Idle;
+        }
+        self.incoming.give(buf, count);
+        Came::Bytes(count)
+    }
+
+    fn finish(&mut self)
+        ensures { self.new ≡ record self.old { finished = true } }
+    {
+        self.finished = true;
+    }
+}
