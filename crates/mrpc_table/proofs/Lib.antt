@@ -17,3 +17,4 @@ pub mod Soundness
 pub mod Accepts
 pub mod Complete
 pub mod ReadLemmas
+pub mod FirstFaults

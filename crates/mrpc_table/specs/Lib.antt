@@ -9,6 +9,7 @@ pub mod NodeCode
 pub mod Normal
 pub mod Places
 pub mod Readers
+pub mod Reason
 pub mod Text
 pub mod Valid
 pub mod View

@@ -20,7 +20,7 @@ pub use memory::Memory;
 pub use normal::fits;
 pub use read::fault::{TableFault, TableReason};
 pub use read::words::is_name;
-pub use read::{one_text, read_table};
+pub use read::{one_fault, one_text, read_table};
 pub use sequence::{Bytes, Name, Sequence};
 pub use table::{
     ChoiceValues, Choices, Enums, Field, Fields, Kind, Label, Message, Messages, Method, Methods,

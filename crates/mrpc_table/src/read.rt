@@ -1,13 +1,14 @@
 //! Tables from their canonical text.
 
-ghost use Rattle.std.specs.Prelude.{◌≡◌, ◌<◌, ◌++◌, ℕ, List, IfOk, IfErr, OnOk, MatchResult, None};
+ghost use Rattle.std.specs.Prelude.{◌≡◌, ◌<◌, ◌≤◌, ◌+◌, ◌++◌, ℕ, List, length, IfOk, IfErr, OnOk, MatchResult, None};
 ghost use Rattle.std.specs.List.{filter_map};
 ghost use Rattle.std.specs.Option.{option_to_list};
 ghost use Rattle.mrpc_table.specs.Lines.{whole_lines, behind};
-ghost use Rattle.mrpc_table.specs.Faults.{fault_at, IsFaultOf};
+ghost use Rattle.mrpc_table.specs.Faults.{fault_at, IsFirstFault, IsFaultOf};
 ghost use Rattle.mrpc_table.specs.Text.{table_text};
 ghost use Rattle.mrpc_table.specs.Valid.{IsValid, HaveOneTextEach};
 ghost use Rattle.mrpc_table.specs.declared.table.Table.{Table};
+ghost use Rattle.mrpc_table.specs.declared.read.fault.TableReason.{TableReason};
 ghost use Rattle.mrpc_table.specs.declared.read.fault.TableFault.TheVariants.{Memory as NoMemory};
 ghost use Rattle.mrpc_table.specs.Drafts.{table_in};
 ghost use Rattle.mrpc_table.specs.Places.{Holds};
@@ -88,4 +89,12 @@ pub fn read_table(alloc: Global, text: &[u8]) -> Result<Table, TableFault>
 /// The canonical text of a valid table determines it: two valid tables with one text are equal.
 pub fn one_text()
     ensures { HaveOneTextEach }
+{}
+
+/// A text has one first fault at most, on one of its lines or right behind them, and the canonical text
+/// of a valid table has none.
+pub fn one_fault()
+    ensures one { (text : List ℕ) (m n : ℕ) (r q : TableReason) → IsFirstFault text m r → IsFirstFault text n q → (m ≡ n) × (r ≡ q) }
+    ensures none { (t : Table) (line : ℕ) (reason : TableReason) → IsValid t → IsFirstFault (table_text t) line reason → ⊥ }
+    ensures place { (text : List ℕ) (line : ℕ) (reason : TableReason) → IsFirstFault text line reason → line ≤ length text + 1 }
 {}

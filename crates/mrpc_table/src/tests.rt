@@ -315,3 +315,47 @@ fn copies_are_equal(rt: HostRuntime) -> Result<(), Fail> {
     }
     Ok(())
 }
+
+#[test]
+fn reasons_have_their_words(rt: HostRuntime) {
+    one_fault();
+    use TableReason::{Duplicate, Limit, MapKey, Number, Syntax, UnknownType};
+    let words = [
+        (Syntax, "Syntax"),
+        (Number, "Number"),
+        (Duplicate, "Duplicate"),
+        (UnknownType, "UnknownType"),
+        (MapKey, "MapKey"),
+        (Limit, "Limit"),
+    ];
+    for (reason, word) in words {
+        assert_eq!(rt; reason.word(), word);
+    }
+}
+
+#[test]
+fn lists_keep_their_items(rt: HostRuntime) -> Result<(), Fail> {
+    let alloc = rt.alloc();
+    let mut bytes = Bytes::with_room(alloc, 4)?;
+    assert!(rt; bytes.is_empty());
+    bytes.append(b"ab")?;
+    bytes.push(b'c')?;
+    assert_eq!(rt; bytes.len(), 3);
+    let bytes = Bytes::from_vec(bytes.into_vec());
+    assert_eq!(rt; bytes.as_slice(), b"abc".as_slice());
+    assert_eq!(rt; bytes.copied(alloc)?.as_slice(), b"abc".as_slice());
+    Ok(())
+}
+
+#[test]
+fn names_have_letters_digits_and_underscores(rt: HostRuntime) {
+    for name in ["a", "_", "_0Z", "snake_case9"] {
+        assert!(rt; is_name(name.as_bytes()));
+    }
+    for word in ["", "9a", "a.b", "a b", "a-b", "\u{e9}"] {
+        assert!(rt; !is_name(word.as_bytes()));
+    }
+    assert!(rt; is_name(&[b'a'; 64]));
+    assert!(rt; !is_name(&[b'a'; 65]));
+    one_text();
+}

@@ -44,6 +44,24 @@ pub enum TableFault {
     Memory,
 }
 
+impl TableReason {
+    ghost use Rattle.mrpc_table.specs.Reason.{reason_word};
+
+    /// The word that names the reason in a printed fault.
+    pub fn word(self) -> &'static str
+        ensures { result.now ≡ reason_word self }
+    {
+        match self {
+            TableReason::Syntax => "Syntax",
+            TableReason::Number => "Number",
+            TableReason::Duplicate => "Duplicate",
+            TableReason::UnknownType => "UnknownType",
+            TableReason::MapKey => "MapKey",
+            TableReason::Limit => "Limit",
+        }
+    }
+}
+
 impl From<Memory> for TableFault {
     ghost from_gives = { λ _ e. e ≡ NoMemory };
 

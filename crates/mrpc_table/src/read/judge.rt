@@ -59,7 +59,7 @@ fn is_index(index: Option<u32>, count: usize) -> bool
     }
 }
 
-// The order of lines, a label that clashes with its kind, an enum without a value.
+/// The order of lines, a label that clashes with its kind, an enum without a value.
 pub fn is_syntax(draft: &Draft, line: &Line) -> bool
     ensures { result ≡ is_syntax (before draft.now) line.now }
 {
@@ -82,7 +82,7 @@ pub fn is_syntax(draft: &Draft, line: &Line) -> bool
     }
 }
 
-// A number out of its range, an enum without a value 0, an index out of turn.
+/// A number out of its range, an enum without a value 0, an index out of turn.
 pub fn is_number(draft: &Draft, line: &Line) -> bool
     ensures { result ≡ is_number (before draft.now) line.now }
 {
@@ -106,7 +106,7 @@ fn is_key_word(kind: &KindWord) -> bool
     }
 }
 
-// A key that is neither integral, nor a bool, nor a string.
+/// A key that is neither integral, nor a bool, nor a string.
 pub fn is_map_key(line: &Line) -> bool
     ensures { result ≡ is_map_key line.now }
 {
@@ -170,7 +170,7 @@ fn is_full(draft: &Draft, line: &Line) -> bool
     }
 }
 
-// A name that is too long, one part too many, or too many bytes up to the line's end.
+/// A name that is too long, one part too many, or too many bytes up to the line's end.
 pub fn is_limit(draft: &Draft, bytes: usize, line: &Line) -> bool
     ensures { result ≡ is_limit (before draft.now) bytes line.now }
 {
