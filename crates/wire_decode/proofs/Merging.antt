@@ -32,7 +32,7 @@ pub pairs-some : (ps : List (Value × Value)) → ps ≢ [] → Some (pairs (pai
 pairs-some [] h = absurd (h refl)
 pairs-some (p ∷ ps) h = refl
 
-element-same : (inner : ℕ → Node → Node) (k : Kind) (i : Item) → is_message k ≡ false → element inner k i ≡ i
+pub element-same : (inner : ℕ → Node → Node) (k : Kind) (i : Item) → is_message k ≡ false → element inner k i ≡ i
 element-same inner (OfMessage m) i h = absurd (cc)
 element-same inner _ i h = refl
 
@@ -45,7 +45,7 @@ map-pushed f [] x = refl
 map-pushed f (y ∷ xs) x = ap (λ ys. f y ∷ ys) (map-pushed f xs x)
 
 -- the value of one value
-singular-one : (inner : ℕ → Node → Node) (k : Kind) (i : Item) → singular inner k (i ∷ []) ≡ Some (element inner k i)
+pub singular-one : (inner : ℕ → Node → Node) (k : Kind) (i : Item) → singular inner k (i ∷ []) ≡ Some (element inner k i)
 singular-one inner (OfMessage m) i = refl
 singular-one inner _ i = refl
 
@@ -86,17 +86,17 @@ ascend-above : (x : Field) (xs : List Field) → FieldsAscend (x ∷ xs) → Are
 ascend-above x [] h = tt
 ascend-above x (y ∷ ys) h = (h.0, above-more x.number y.number ys (let a = h.0 in omega (arith, a)) (ascend-above y ys h.1))
 
-field-here : (f : Field) (fs : List Field) (n : ℕ) → f.number ≡ n → field_at (f ∷ fs) n ≡ Some f
+pub field-here : (f : Field) (fs : List Field) (n : ℕ) → f.number ≡ n → field_at (f ∷ fs) n ≡ Some f
 field-here f fs n e = grind (arith, nat_tests)
 
-field-later : (f : Field) (fs : List Field) (n : ℕ) → f.number ≢ n → field_at (f ∷ fs) n ≡ field_at fs n
+pub field-later : (f : Field) (fs : List Field) (n : ℕ) → f.number ≢ n → field_at (f ∷ fs) n ≡ field_at fs n
 field-later f fs n e = grind (arith, nat_tests)
 
 field-none : (n : ℕ) (fs : List Field) → AreAbove n fs → field_at fs n ≡ None
 field-none n [] h = refl
 field-none n (f ∷ fs) h = field-later f fs n (let a = h.0 in omega (arith, a)) ∙ field-none n fs h.1
 
-content-none : (inner : ℕ → Node → Node) (label : Label) (k : Kind) → field_content inner label k [] ≡ None
+pub content-none : (inner : ℕ → Node → Node) (label : Label) (k : Kind) → field_content inner label k [] ≡ None
 content-none inner Plain k = ap present_if_set (singular-none inner k)
 content-none inner Optional k = ap present (singular-none inner k)
 content-none inner (Member o) k = ap present (singular-none inner k)
@@ -111,7 +111,7 @@ fields-skip inner n c t (f ∷ fs) h =
     ap (λ cs. with_content f.number (field_content inner f.label f.kind cs) (with_fields inner (field n c t) fs)) (contents-other f.number n c t (let a = h.0 in omega (arith, a)))
     ∙ ap (with_content f.number (field_content inner f.label f.kind (contents_of f.number t))) (fields-skip inner n c t fs h.1)
 
-fields-empty : (inner : ℕ → Node → Node) (fs : List Field) → with_fields inner no_fields fs ≡ no_fields
+pub fields-empty : (inner : ℕ → Node → Node) (fs : List Field) → with_fields inner no_fields fs ≡ no_fields
 fields-empty inner [] = refl
 fields-empty inner (f ∷ fs) = ap (λ o. with_content f.number o (with_fields inner no_fields fs)) (content-none inner f.label f.kind) ∙ fields-empty inner fs
 

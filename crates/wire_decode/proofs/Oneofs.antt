@@ -14,7 +14,7 @@ use Rattle.wire_decode.specs.declared.oneof.Behind.{Behind}
 use Rattle.wire_decode.specs.declared.oneof.Behind.TheVariants.{Nothing, Only, Several}
 use Rattle.wire_decode.specs.Behind.{overtakes, IsInFront, IsNoted, Tell, HasNoMember, IsCounted}
 
-and-false : (b : Bool) → (b && false) ≡ false
+pub and-false : (b : Bool) → (b && false) ≡ false
 and-false true = refl
 and-false false = refl
 
@@ -53,7 +53,7 @@ get_or-grown (b ∷ bs) (suc p) = get_or-grown bs p
 rivals-none : (fs : List Field) (n m : ℕ) → oneof_at fs n ≡ None → are_rivals fs n m ≡ false
 rivals-none fs n m e = ap (λ o. not (m == n) && is_same o (oneof_at fs m)) e ∙ and-false (not (m == n))
 
-overtaken-none : (fs : List Field) (n : ℕ) (t : Node) → oneof_at fs n ≡ None → is_overtaken fs n t ≡ false
+pub overtaken-none : (fs : List Field) (n : ℕ) (t : Node) → oneof_at fs n ≡ None → is_overtaken fs n t ≡ false
 overtaken-none fs n no_fields e = refl
 overtaken-none fs n (field m c t) e = ap (λ b. b || is_overtaken fs n t) (rivals-none fs n m e) ∙ overtaken-none fs n t e
 

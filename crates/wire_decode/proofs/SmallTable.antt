@@ -1,5 +1,5 @@
 -- A table with one message of one number is valid.
-use Rattle.std.proofs.Common.{ℕ, ◌≤◌, List, [], ◌∷◌, length, Contains, IsTrue, false, ◌+◌, ap, refl, arith, lit<, lit≤, inl}
+use Rattle.std.proofs.Common.{ℕ, ◌≤◌, List, [], ◌∷◌, length, Contains, false, ◌+◌, ap, refl, arith, lit<, lit≤, inl}
 use Rattle.std.proofs.lemmas.List.Elements.{All-nil, All-cons}
 use Rattle.std.specs.Fmt.{digits}
 use Rattle.std.specs.Int.Digits.{digits_of}

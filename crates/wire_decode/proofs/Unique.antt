@@ -1,4 +1,4 @@
--- Bytes are read in one way, and bytes that are read have no fault.
+-- Bytes are read in one way, bytes that are read have no fault, and others one first fault.
 use Rattle.std.proofs.Common.{◌≡◌, ◌≢◌, ℕ, suc, ◌%◌, ◌<◌, ◌&&◌, ◌==◌, List, [], ◌∷◌, length, take, Option, Some, Bool, true, false, cond, refl, ap, sym, subst, ◌∙◌, arith}
 use Rattle.std.specs.Option.{option_map, unwrap_or}
 use Rattle.std.specs.List.{slice_range}
@@ -17,11 +17,12 @@ use Rattle.wire_base.specs.Records.{RecordAt}
 use Rattle.wire_base.specs.declared.records.Payload.{Payload}
 use Rattle.wire_base.specs.declared.records.Payload.TheVariants.{Len}
 use Rattle.wire_base.specs.declared.records.Record.{Record}
-use Rattle.wire_base.proofs.OneReading.{RecordAt-same, RecordAt-no_fault, PayloadAt-same, PayloadAt-ahead, PayloadAt-within, VarintAt-moves}
+use Rattle.wire_base.specs.declared.fault.WireFault.{WireFault}
+use Rattle.wire_base.proofs.OneReading.{RecordAt-same, RecordAt-no_fault, FaultAt-same, PayloadAt-same, PayloadAt-ahead, PayloadAt-within, VarintAt-moves}
 use Rattle.std.proofs.lemmas.Bool.{or_left, or_right, eq-eqb}
 use Rattle.wire_decode.specs.Words.{word_of, number_in, payload_type, own_type, is_map, may_be_packed, suits, AreElements}
 use Rattle.wire_decode.specs.Reads.{Reads, read_end, read_other, read_known, Holds, holds_number, holds_piece, holds_text, holds_octets, holds_message, holds_entry, numbers, entry_fields, is_known}
-use Rattle.wire_decode.specs.Faults.{Faults, no_record, behind_other, behind_known, in_payload, Fails, no_elements, no_text, too_deep, in_message, in_entry, no_room}
+use Rattle.wire_decode.specs.Faults.{reason_of, Faults, no_record, behind_other, behind_known, in_payload, Fails, no_elements, no_text, too_deep, in_message, in_entry, no_room}
 use Rattle.wire_decode.specs.declared.fault.DecodeReason.{DecodeReason}
 
 -- a record is within the bytes
@@ -328,3 +329,105 @@ mutual
       let a : Holds T room label k bytes p c = holds_octets s e single kind at is in
       (fail-kinds b).1 (sym (fail-class b) ∙ index-class a)
   holds-faultless a b = let h : index a ≡ fail_index b = sym (index-class a) ∙ fail-class b in omega (arith, h)
+
+-- ---- one fault
+
+-- a payload of the record that stands there fails in one way
+fails-at : (T : Table) (room : ℕ) (fs : List Field) (bytes : List ℕ) (at : ℕ) (r r' : Record) (f f' : Field) (reason : DecodeReason) (place : ℕ)
+    → RecordAt bytes at r → RecordAt bytes at r' → field_at fs r.number ≡ Some f → field_at fs r'.number ≡ Some f'
+    → Fails T room f'.label f'.kind bytes r'.payload reason place → Fails T room f.label f.kind bytes r.payload reason place
+fails-at T room fs bytes at r r' f f' reason place here here' at_f at_f' fails =
+    let same : r' ≡ r = RecordAt-same bytes at r' r here' here in
+    let F : Record → Type 0 = λ x. field_at fs x.number ≡ Some f' in
+    let H : Record → Type 0 = λ x. Fails T room f'.label f'.kind bytes x.payload reason place in
+    let G : Field → Type 0 = λ x. Fails T room x.label x.kind bytes r.payload reason place in
+    let one_field : f' ≡ f = some-same f' f (field_at fs r.number) (subst F same at_f') at_f in
+    subst G one_field (subst H same fails)
+
+-- an entry that is read has no fault
+entry-faultless : (T : Table) (room : ℕ) (label : Label) (k : Kind) (bytes : List ℕ) (p : Payload) (key key' : Kind) (s e s' e' : ℕ) (t : Node) (reason : DecodeReason) (place : ℕ)
+    → label ≡ Map key → label ≡ Map key' → p ≡ Len s e → p ≡ Len s' e'
+    → Reads T room (entry_fields key' k) (take e' bytes) s' t → Faults T room (entry_fields key k) (take e bytes) s reason place → ⊥
+entry-faultless T room label k bytes p key key' s e s' e' t reason place map map' at at' reads faults =
+    let same : Len s e ≡ Len s' e' = sym at ∙ at' in
+    let starts : s ≡ s' = cc in
+    let ends : e ≡ e' = cc in
+    let maps : Map key ≡ Map key' = sym map ∙ map' in
+    let keys : key ≡ key' = cc in
+    let B : Kind → Type 0 = λ x. Faults T room (entry_fields x k) (take e bytes) s reason place in
+    let C : ℕ → Type 0 = λ x. Faults T room (entry_fields key' k) (take x bytes) s reason place in
+    let D : ℕ → Type 0 = λ x. Faults T room (entry_fields key' k) (take e' bytes) x reason place in
+    reads-faultless reads (subst D starts (subst C ends (subst B keys faults)))
+
+len-start : (p : Payload) (s e s' e' : ℕ) → p ≡ Len s e → p ≡ Len s' e' → s ≡ s'
+len-start p s e s' e' a b = let same : Len s e ≡ Len s' e' = sym a ∙ b in cc
+
+-- a first fault is the only one
+mutual
+  pub faults-same : {T : Table} {room : ℕ} {fs : List Field} {bytes : List ℕ} {at : ℕ} {reason why : DecodeReason} {place there : ℕ}
+      → Faults T room fs bytes at reason place → Faults T room fs bytes at why there → (reason ≡ why) × (place ≡ there)
+  faults-same {bytes = bytes} {at = at} (no_record f more fault is at_is) (no_record g more' fault' is' at_is') =
+      let one : f ≡ g = FaultAt-same bytes at f g fault fault' in
+      (is ∙ ap (λ (x : WireFault). reason_of x.reason) one ∙ sym is', at_is ∙ ap (λ (x : WireFault). x.place) one ∙ sym at_is')
+  faults-same {bytes = bytes} {at = at} (no_record f more fault is at_is) (behind_other r here other g) = absurd (RecordAt-no_fault bytes at r f here fault)
+  faults-same {bytes = bytes} {at = at} (no_record f more fault is at_is) (behind_known r h c here at_f holds g) = absurd (RecordAt-no_fault bytes at r f here fault)
+  faults-same {bytes = bytes} {at = at} (no_record f more fault is at_is) (in_payload r h here at_f fails) = absurd (RecordAt-no_fault bytes at r f here fault)
+  faults-same {bytes = bytes} {at = at} (behind_other r here other g) (no_record f more fault is at_is) = absurd (RecordAt-no_fault bytes at r f here fault)
+  faults-same {T} {room} {fs} {bytes} {at} {reason} {why} {place} {there} (behind_other r here other g) (behind_other r' here' other' g') =
+      let P : Record → Type 0 = λ x. Faults T room fs bytes x.next why there in
+      faults-same g (subst P (RecordAt-same bytes at r' r here' here) g')
+  faults-same {T} {room} {fs} {bytes} {at} (behind_other r here other g) (behind_known r' f c here' at_f holds g') =
+      absurd (both (is_known fs r') (known fs r' f at_f (holds-suits holds)) (ap (is_known fs) (RecordAt-same bytes at r' r here' here) ∙ other))
+  faults-same {T} {room} {fs} {bytes} {at} (behind_other r here other g) (in_payload r' f here' at_f fails) =
+      absurd (both (is_known fs r') (known fs r' f at_f (fails-suits fails)) (ap (is_known fs) (RecordAt-same bytes at r' r here' here) ∙ other))
+  faults-same {bytes = bytes} {at = at} (behind_known r h c here at_f holds g) (no_record f more fault is at_is) = absurd (RecordAt-no_fault bytes at r f here fault)
+  faults-same {T} {room} {fs} {bytes} {at} (behind_known r f c here at_f holds g) (behind_other r' here' other g') =
+      absurd (both (is_known fs r) (known fs r f at_f (holds-suits holds)) (ap (is_known fs) (RecordAt-same bytes at r r' here here') ∙ other))
+  faults-same {T} {room} {fs} {bytes} {at} {reason} {why} {place} {there} (behind_known r f c here at_f holds g) (behind_known r' f' c' here' at_f' holds' g') =
+      let P : Record → Type 0 = λ x. Faults T room fs bytes x.next why there in
+      faults-same g (subst P (RecordAt-same bytes at r' r here' here) g')
+  faults-same {T} {room} {fs} {bytes} {at} {reason} {why} {place} {there} (behind_known r f c here at_f holds g) (in_payload r' f' here' at_f' fails) =
+      absurd (holds-faultless holds (fails-at T room fs bytes at r r' f f' why there here here' at_f at_f' fails))
+  faults-same {bytes = bytes} {at = at} (in_payload r h here at_f fails) (no_record f more fault is at_is) = absurd (RecordAt-no_fault bytes at r f here fault)
+  faults-same {T} {room} {fs} {bytes} {at} (in_payload r f here at_f fails) (behind_other r' here' other g') =
+      absurd (both (is_known fs r) (known fs r f at_f (fails-suits fails)) (ap (is_known fs) (RecordAt-same bytes at r r' here here') ∙ other))
+  faults-same {T} {room} {fs} {bytes} {at} {reason} {why} {place} {there} (in_payload r f here at_f fails) (behind_known r' f' c' here' at_f' holds' g') =
+      absurd (holds-faultless holds' (fails-at T room fs bytes at r' r f' f reason place here' here at_f' at_f fails))
+  faults-same {T} {room} {fs} {bytes} {at} {reason} {why} {place} {there} (in_payload r f here at_f fails) (in_payload r' f' here' at_f' fails') =
+      fails-same fails (fails-at T room fs bytes at r r' f f' why there here here' at_f at_f' fails')
+
+  fails-same : {T : Table} {room : ℕ} {label : Label} {k : Kind} {bytes : List ℕ} {p : Payload} {reason why : DecodeReason} {place there : ℕ}
+      → Fails T room label k bytes p reason place → Fails T room label k bytes p why there → (reason ≡ why) × (place ≡ there)
+  fails-same {p = p} {place = s} {there = s'} (no_elements e packed at is none) (no_elements e' packed' at' is' none') = (is ∙ sym is', len-start p s e s' e' at at')
+  fails-same {p = p} {place = s} {there = s'} (no_text e single kind at is none) (no_text e' single' kind' at' is' none') = (is ∙ sym is', len-start p s e s' e' at at')
+  fails-same {p = p} {place = s} {there = s'} (too_deep i e single kind at room is) (too_deep i' e' single' kind' at' room' is') = (is ∙ sym is', len-start p s e s' e' at at')
+  fails-same (too_deep i e single kind at room_is is) (in_message inside i' s' e' single' kind' at' room_is' faults') = absurd (let h : suc inside ≡ 0 = sym room_is' ∙ room_is in omega (arith, h))
+  fails-same (in_message inside i s e single kind at room_is faults) (too_deep i' e' single' kind' at' room_is' is') = absurd (let h : suc inside ≡ 0 = sym room_is ∙ room_is' in omega (arith, h))
+  fails-same {T} {room} {label} {k} {bytes} {p} {reason} {why} {place} {there} (in_message inside i s e single kind at room_is faults) (in_message inside' i' s' e' single' kind' at' room_is' faults') =
+      let same : Len s' e' ≡ Len s e = sym at' ∙ at in
+      let starts : s' ≡ s = cc in
+      let ends : e' ≡ e = cc in
+      let messages : OfMessage i' ≡ OfMessage i = sym kind' ∙ kind in
+      let at_i : i' ≡ i = cc in
+      let rooms : inside' ≡ inside = (let h : suc inside' ≡ suc inside = sym room_is' ∙ room_is in omega (arith, h)) in
+      let A : ℕ → Type 0 = λ x. Faults T x (fields_of T i') (take e' bytes) s' why there in
+      let B : ℕ → Type 0 = λ x. Faults T inside (fields_of T x) (take e' bytes) s' why there in
+      let C : ℕ → Type 0 = λ x. Faults T inside (fields_of T i) (take x bytes) s' why there in
+      let D : ℕ → Type 0 = λ x. Faults T inside (fields_of T i) (take e bytes) x why there in
+      faults-same faults (subst D starts (subst C ends (subst B at_i (subst A rooms faults'))))
+  fails-same {T} {room} {label} {k} {bytes} {p} {reason} {why} {place} {there} (in_entry key s e map at faults) (in_entry key' s' e' map' at' faults') =
+      let same : Len s' e' ≡ Len s e = sym at' ∙ at in
+      let starts : s' ≡ s = cc in
+      let ends : e' ≡ e = cc in
+      let maps : Map key' ≡ Map key = sym map' ∙ map in
+      let keys : key' ≡ key = cc in
+      let B : Kind → Type 0 = λ x. Faults T room (entry_fields x k) (take e' bytes) s' why there in
+      let C : ℕ → Type 0 = λ x. Faults T room (entry_fields key k) (take x bytes) s' why there in
+      let D : ℕ → Type 0 = λ x. Faults T room (entry_fields key k) (take e bytes) x why there in
+      faults-same faults (subst D starts (subst C ends (subst B keys faults')))
+  fails-same {T} {room} {label} {k} {bytes} {p} {reason} {why} {place} {there} (in_entry key s e map at faults) (no_room key' e' t' map' at' reads' none' is') =
+      absurd (entry-faultless T room label k bytes p key key' s e there e' t' reason place map map' at at' reads' faults)
+  fails-same {T} {room} {label} {k} {bytes} {p} {reason} {why} {place} {there} (no_room key e t map at reads none is) (in_entry key' s' e' map' at' faults') =
+      absurd (entry-faultless T room label k bytes p key' key s' e' place e t why there map' map at' at reads faults')
+  fails-same {p = p} {place = s} {there = s'} (no_room key e t map at reads none is) (no_room key' e' t' map' at' reads' none' is') = (is ∙ sym is', len-start p s e s' e' at at')
+  fails-same a b = absurd (let h : fail_index a ≡ fail_index b = sym (fail-class a) ∙ fail-class b in omega (arith, h))

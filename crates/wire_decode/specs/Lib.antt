@@ -7,4 +7,5 @@ pub mod Means
 pub mod Merged
 pub mod Parts
 pub mod Reads
+pub mod Reason
 pub mod Words

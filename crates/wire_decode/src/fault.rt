@@ -39,6 +39,26 @@ pub enum DecodeReason {
     Depth = 8,
 }
 
+impl DecodeReason {
+    ghost use Rattle.wire_decode.specs.Reason.{reason_word};
+
+    /// The word that names the reason in a printed fault.
+    pub fn word(self) -> &'static str
+        ensures { result.now ≡ reason_word self }
+    {
+        match self {
+            DecodeReason::Varint => "Varint",
+            DecodeReason::TagRange => "TagRange",
+            DecodeReason::NumberZero => "NumberZero",
+            DecodeReason::WireType => "WireType",
+            DecodeReason::Short => "Short",
+            DecodeReason::Utf8 => "Utf8",
+            DecodeReason::PackedLength => "PackedLength",
+            DecodeReason::Depth => "Depth",
+        }
+    }
+}
+
 /// Why no message was read.
 #[derive(Clone, Copy, Debug, PartialEq, Eq, Error)]
 pub enum DecodeFault {

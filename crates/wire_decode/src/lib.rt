@@ -8,8 +8,9 @@
 //! contract: the answer is the meaning, or the first fault exactly where there is no meaning.
 #![tactic(auto)]
 
-ghost use Rattle.std.specs.Prelude.{◌≡◌, ◌<◌, length, IfOk, IfErr, MatchResult};
+ghost use Rattle.std.specs.Prelude.{◌≡◌, ◌<◌, ◌≤◌, length, IfOk, IfErr, MatchResult};
 ghost use Rattle.mrpc_table.specs.Valid.{IsValid};
+ghost use Rattle.mrpc_table.specs.Normal.{IsNormal};
 ghost use Rattle.mrpc_table.specs.Node.{Node};
 ghost use Rattle.wire_decode.specs.Ascending.{AllAscend};
 ghost use Rattle.wire_decode.specs.Means.{Means};
@@ -31,14 +32,14 @@ use crate::look_up::fields_of;
 use crate::merge::merged;
 use crate::read::read_message;
 pub use fault::{DecodeFault, DecodeReason};
-pub use laws::{meaning_or_fault, one_meaning};
+pub use laws::{meaning_is_normal, meaning_of_encoding, meaning_or_fault, one_fault, one_meaning};
 use mrpc_table::{Table, Tree};
 use std::alloc::Global;
 
 /// How many messages may stand in one another, the outermost counting 1.
 const MAX_DEPTH: u32 = 32;
 
-/// The message at the place `msg` of the table that the bytes mean.
+/// The message at the place `msg` of the table that the bytes mean, as a tree in normal form.
 ///
 /// `At` comes exactly where the bytes mean no message, with their first fault: records are read in
 /// order, and the payload of a known field is read where it stands. `Memory` comes only where no
@@ -47,7 +48,9 @@ pub fn decode(alloc: Global, bytes: &[u8], table: &Table, msg: u32) -> Result<Tr
     requires valid { IsValid table.now }
     requires known { msg < length table.now.messages }
     ensures means { IfOk result (λ t. Means table.now msg bytes.now t) }
+    ensures normal { IfOk result (λ t. IsNormal table.now msg t) }
     ensures fault { IfErr result (FaultsAs (IsFirstFault table.now msg bytes.now)) }
+    ensures within { IfErr result (FaultsAs (λ reason place. place ≤ length bytes.now)) }
 
     // Bytes that have a meaning are read, unless no memory was found.
     ensures only { (t : Node) → Means table.now msg bytes.now t

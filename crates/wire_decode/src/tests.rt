@@ -391,3 +391,26 @@ fn valid_table(rt: HostRuntime) -> Result<(), Memory> {
     assert!(rt; decode(alloc, b"\x08\x96\x01", &table, 0).is_ok());
     Ok(())
 }
+
+#[test]
+fn reasons_have_their_words(rt: HostRuntime) {
+    use DecodeReason::{Depth, NumberZero, PackedLength, Short, TagRange, Utf8, Varint, WireType};
+    let words = [
+        (Varint, "Varint"),
+        (TagRange, "TagRange"),
+        (NumberZero, "NumberZero"),
+        (WireType, "WireType"),
+        (Short, "Short"),
+        (Utf8, "Utf8"),
+        (PackedLength, "PackedLength"),
+        (Depth, "Depth"),
+    ];
+    for (reason, word) in words {
+        assert_eq!(rt; reason.word(), word);
+    }
+    one_meaning();
+    meaning_or_fault();
+    one_fault();
+    meaning_is_normal();
+    meaning_of_encoding();
+}

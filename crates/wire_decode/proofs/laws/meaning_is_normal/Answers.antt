@@ -1,0 +1,6 @@
+use Rattle.wire_decode.proofs.UsableTables.{usable-valid}
+use Rattle.wire_decode.proofs.NormalMeaning.{normal-meaning}
+use Rattle.wire_decode.proofs.laws.meaning_is_normal.Goals as goal
+
+pub returns : goal.returns
+returns c = λ T msg bytes t valid known small means. normal-meaning T msg bytes t (usable-valid T valid) small means
