@@ -13,8 +13,9 @@ use mrpc_table::{Bytes, Memory, Table};
 use std::alloc::Global;
 use wire_encode::encode;
 
-// A space, and the number behind it.
-fn put_number(out: &mut Bytes, number: u64) -> Result<(), Memory>
+/// Appends a space and the decimal number behind it, as a further word of a line. The only error is
+/// `Memory`.
+pub fn put_number(out: &mut Bytes, number: u64) -> Result<(), Memory>
     ensures { OnOk result (out.new ≡ out.old ++ 32 ∷ decimal number) }
 {
     let mut buffer = Buffer::new();
@@ -22,8 +23,9 @@ fn put_number(out: &mut Bytes, number: u64) -> Result<(), Memory>
     out.append(buffer.format(number).as_bytes())
 }
 
-// A space, and the bytes in hexadecimal digits behind it.
-fn put_hex(alloc: Global, out: &mut Bytes, bytes: &[u8]) -> Result<(), Memory>
+/// Appends a space and the bytes in lower-case hexadecimal digits behind it, or `-` where there is
+/// none, as a further word of a line. The only error is `Memory`.
+pub fn put_hex(alloc: Global, out: &mut Bytes, bytes: &[u8]) -> Result<(), Memory>
     ensures { OnOk result (out.new ≡ out.old ++ 32 ∷ hex_word bytes.now) }
 {
     out.append(b" ")?;

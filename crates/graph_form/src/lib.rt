@@ -10,3 +10,6 @@ mod size;
 
 pub use reason::Reason;
 pub use size::size_words;
+
+#[cfg(test)]
+mod tests;
