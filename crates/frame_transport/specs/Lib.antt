@@ -2,4 +2,5 @@ pub mod Bytes
 pub mod Feed
 pub mod Frames
 pub mod Kept
+pub mod Links
 pub mod Parts

@@ -1,24 +1,29 @@
 //! Frames: how calls and replies stand on a byte stream, and how they're found in it however it is cut.
 //!
-//! [`frame`] writes the bytes of a frame, and a [`Feed`] takes a stream in any pieces and gives its
-//! frames. The format is this project's own: a header of 16 bytes (the payload's length, the kind,
-//! the version, the method, the connection and the number, each number big-endian) and then the
-//! payload. It stands on `mrpc_table` for lists of bytes and on `byteorder` for the header's
-//! numbers. The layer above uses one contract: the frames that a feed gives are those of the
-//! stream that it was fed, in order and each once, with the stream's first fault behind them.
+//! [`frame`] writes the bytes of a frame, a [`ByteLink`] sends them over a sink, and a [`Feed`] takes a
+//! stream in any pieces and gives its frames. The format is this project's own: a header of 16 bytes
+//! (the payload's length, the kind, the version, the method, the connection and the number, each
+//! number big-endian) and then the payload. It stands on `mrpc_base` for links and sinks, on
+//! `mrpc_table` for lists of bytes and on `byteorder` for the header's numbers. The layer above uses
+//! two contracts: the frames that a feed gives are those of the stream that it was fed, in order and
+//! each once, with the stream's first fault behind them; and a frame that a link over a sink was
+//! handed was written whole, or else a write failed and a front of it was written.
 #![tactic(auto)]
 
 mod advance;
 mod beginning;
+mod byte_link;
 mod fault;
 mod feed;
 mod format;
 mod front;
+mod handed;
 mod header;
 mod laws;
 mod split;
 mod written;
 
+pub use byte_link::ByteLink;
 pub use fault::FeedFault;
 pub use feed::Feed;
 pub use format::{Frame, HEADER_LEN, LARGEST_KIND, MAX_PAYLOAD, VERSION};

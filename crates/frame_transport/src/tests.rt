@@ -1,4 +1,7 @@
-use crate::{Feed, FeedFault, MAX_PAYLOAD, frame, one_split};
+ghost use Rattle.std.specs.Prelude.{◌≡◌, ◌<◌};
+
+use crate::{ByteLink, Feed, FeedFault, MAX_PAYLOAD, frame, one_split};
+use mrpc_base::{Came, Handed, Link, MemSink, Put, Sink};
 use std::alloc::Global;
 use std::process::Abort;
 use std::test::Fail;
@@ -159,4 +162,67 @@ fn longest_frame(rt: HostRuntime) -> Result<(), Fail> {
     check(&rt, rt.alloc(), row, 0, 1);
     check(&rt, rt.alloc(), row, 100, 1000);
     Ok(())
+}
+
+/// A sink that takes a few bytes at a time, and keeps them in memory.
+#[derive(Drop)]
+struct Narrow {
+    kept: MemSink,
+    most: usize,
+    ghost some: { 0 < most },
+}
+
+impl Sink for Narrow {
+    ghost use Rattle.std.specs.Prelude.{Some};
+
+    ghost written = { λ s. Some s.kept.written };
+
+    ghost faults = { λ s. s.kept.faults };
+
+    fn write(&mut self, piece: &[u8]) -> Put {
+        let count = piece.len().min(self.most);
+        self.kept.write(&piece[..count])
+    }
+}
+
+/// Hands frames to a link over a sink that takes so many bytes at a time, and checks what it
+/// answers, what was written, and how many writes there were and failed.
+fn check_link(
+    rt: &impl Abort,
+    alloc: Global,
+    most: usize,
+    failing: &[u64],
+    want: [Handed; 3],
+    written: &[u8],
+    counts: (u64, u64),
+) -> Result<(), Fail> {
+    assert!(rt; most > 0);
+    let kept = MemSink::new(alloc, failing.to_vec(alloc)?);
+    let mut sink = Narrow { kept, most };
+    let mut link = ByteLink::new(&mut sink);
+    let answers = [link.send(b"frame"), link.send(b""), link.send(b"next")];
+    assert_eq!(rt; answers, want);
+    let came = link.receive(&mut [0; 4]);
+    assert_eq!(rt; came, Came::End);
+    link.finish();
+    assert_eq!(rt; sink.kept.written(), written);
+    assert_eq!(rt; (sink.kept.calls(), sink.kept.faults()), counts);
+    Ok(())
+}
+
+#[test]
+fn a_link_over_a_sink_writes_each_frame_whole(rt: HostRuntime) -> Result<(), Fail> {
+    let alloc = rt.alloc();
+    let done = [Handed::Done; 3];
+    check_link(&rt, alloc, 9, &[], done, b"framenext", (2, 0))?;
+    check_link(&rt, alloc, 2, &[], done, b"framenext", (5, 0))
+}
+
+#[test]
+fn a_failed_write_leaves_a_front_of_its_frame(rt: HostRuntime) -> Result<(), Fail> {
+    let alloc = rt.alloc();
+    let first = [Handed::Failed, Handed::Done, Handed::Done];
+    check_link(&rt, alloc, 2, &[2], first, b"frnext", (4, 1))?;
+    let last = [Handed::Done, Handed::Done, Handed::Failed];
+    check_link(&rt, alloc, 9, &[2], last, b"frame", (2, 1))
 }

@@ -1,0 +1,87 @@
+//! A link over a sink: the frames that are handed over are written, and nothing comes.
+ghost use Rattle.std.specs.Prelude.{◌≡◌, ◌≢◌, ◌≤◌, [], ◌∷◌, ◌++◌, length, IsTrue, true, false};
+ghost use Rattle.std.specs.Io.KnownBytes.{Appends};
+ghost use Rattle.mrpc_base.specs.Faults.{Rose};
+ghost use Rattle.mrpc_base.specs.Writing.{AppendsFront};
+ghost use Rattle.frame_transport.specs.Links.{sink_of, sink_name, frames_of, has_ended};
+
+use crate::handed::HandedFrames;
+use mrpc_base::{Came, Handed, Link, Sink, write_all};
+
+/// A link over a sink. Each of its writes is handed all that is left of the frame, until the frame is out. Its
+/// `receive` answers `End`, since nothing comes from a sink.
+#[derive(Drop)]
+pub struct ByteLink<'a, W> {
+    sink: &'a mut W,
+    handed: HandedFrames,
+    ended: bool,
+}
+
+impl<'a, W: Sink> ByteLink<'a, W> {
+    /// A link to which nothing was handed. Once it is gone, the sink is as it left it.
+    pub fn new(sink: &'a mut W) -> ByteLink<'a, W>
+        ensures same_sink { sink_name result ≡ sink.entry.ghost_name }
+        ensures untouched { sink_of result ≡ sink.old }
+        ensures handed { frames_of result ≡ [] }
+        ensures ended { has_ended result ≡ false }
+    {
+        ByteLink {
+            sink,
+            handed: HandedFrames::new(),
+            ended: false,
+        }
+    }
+}
+
+impl<W: Sink> Link for ByteLink<'_, W> {
+    ghost use Rattle.std.specs.Prelude.{Some};
+
+    ghost handed = { frames_of };
+
+    // Nothing ever comes.
+    ghost given = { λ _. Some [] };
+
+    ghost ended = { has_ended };
+
+    ghost faults = { λ link. W.faults (sink_of link) };
+
+    fn send(&mut self, frame: &[u8]) -> Handed
+        // The frame is out whole, or a write failed and a front of it is out, and not all of it.
+        ensures done { result ≡ Handed.Done → Appends (W.written (sink_of self.old)) (W.written (sink_of self.new)) frame.now }
+        ensures front { result ≡ Handed.Failed → AppendsFront (W.written (sink_of self.old)) (W.written (sink_of self.new)) frame.now }
+        ensures memory { result ≢ Handed.Memory }
+        // An empty frame takes no write.
+        ensures empty { length frame.now ≡ 0 → (result ≡ Handed.Done) × (sink_of self.new ≡ sink_of self.old) }
+
+        ensures appended { result ≡ Handed.Done → frames_of self.new ≡ frames_of self.old ++ frame.now ∷ [] }
+        ensures kept { result ≢ Handed.Done → frames_of self.new ≡ frames_of self.old }
+        ensures same_ended { has_ended self.new ≡ has_ended self.old }
+        ensures same_sink { sink_name self.new ≡ sink_name self.old }
+
+        ensures failed { result ≡ Handed.Failed → Rose (W.faults (sink_of self.old)) (W.faults (sink_of self.new)) }
+        ensures no_fault { result ≢ Handed.Failed → W.faults (sink_of self.new) ≡ W.faults (sink_of self.old) }
+        ensures never_falls { W.faults (sink_of self.old) ≤ W.faults (sink_of self.new) }
+    {
+        if !write_all(self.sink, frame) {
+            return Handed::Failed;
+        }
+        self.handed = HandedFrames::with(&self.handed, frame);
+        Handed::Done
+    }
+
+    fn receive(&mut self, _buf: &mut [u8]) -> Came
+        ensures end { result ≡ Came.End }
+        ensures ended { IsTrue (has_ended self.new) }
+        ensures same_handed { frames_of self.new ≡ frames_of self.old }
+        ensures untouched { sink_of self.new ≡ sink_of self.old }
+        ensures same_sink { sink_name self.new ≡ sink_name self.old }
+    {
+        self.ended = true;
+        Came::End
+    }
+
+    // A sink has no end that could be told.
+    fn finish(&mut self)
+        ensures { self.new ≡ self.old }
+    {}
+}
