@@ -8,9 +8,12 @@ use std::io::ErrorKind;
 
 const HELP: &str = "\
 mrpc replay < SCRIPT
+mrpc decode < FRAMES
 
 replay    reads a script from standard input, writes its audit on standard output
           and the frames that were sent into the file mrpc.wire of the current folder
+decode    reads a table and frames from standard input, and writes a line for each
+          frame on standard output
 
 mrpc --help       prints this text
 mrpc --version    prints the version

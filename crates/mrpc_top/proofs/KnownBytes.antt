@@ -1,6 +1,5 @@
 -- Bytes that are known, over two steps.
-use Rattle.std.proofs.Common.{◌≡◌, ℕ, List, [], ◌++◌, Option, Some, None, refl, sym, ap, ◌∙◌, append_assoc, append-nil, ◌-◌, length, take, drop, length-drop}
-use Rattle.std.proofs.Math.Seq.{take-length}
+use Rattle.std.proofs.Common.{◌≡◌, ℕ, List, [], ◌++◌, Option, Some, None, refl, sym, ap, ◌∙◌, append_assoc, append-nil}
 use Rattle.std.specs.Io.KnownBytes.{Appends, Consumes, Keeps, IsAtEnd}
 use Rattle.mrpc_top.specs.Reading.{IsAllOf}
 
@@ -40,7 +39,3 @@ pub all_of_consumed : (old mid : Option (List ℕ)) (text : List ℕ) → Consum
 all_of_consumed None mid text a e = tt
 all_of_consumed (Some os) None text a e = absurd a
 all_of_consumed (Some os) (Some ms) text a e = a ∙ ap (λ l. text ++ l) e ∙ append-nil text
-
--- the rest of a list, cut at its own length
-pub rest-whole : (bytes : List ℕ) (done : ℕ) → take (length bytes - done) (drop done bytes) ≡ drop done bytes
-rest-whole bytes done = ap (λ n. take n (drop done bytes)) (sym (length-drop done bytes)) ∙ take-length (drop done bytes)

@@ -11,10 +11,29 @@ use Rattle.script_lang.specs.Answers.{IsFault}
 use Rattle.script_lang.specs.Reason.{reason_word}
 use Rattle.mrpc_top.specs.Reading.{IsAllOf, ReadsPast}
 use Rattle.mrpc_top.specs.Replay.{Replays}
+use Rattle.mrpc_top.specs.DecodeInput.{Holds, IsTextFault}
+use Rattle.mrpc_top.specs.Decoding.{IsDecoded, IsCutAt}
+use Rattle.mrpc_top.specs.declared.command.Command.{Command}
+use Rattle.mrpc_top.specs.declared.command.Command.TheVariants.{Replay, Decode}
+use Rattle.mrpc_table.specs.declared.table.Table.{Table}
 
--- the words are `replay` alone
+-- the word of a command
+abbrev pub command_word : Command → List ℕ
+command_word Replay = codes "replay"
+command_word Decode = codes "decode"
+
+-- the words are that of the command alone
+abbrev pub Names : List (String Global) → Command → Type 0
+Names words command = map string_bytes words ≡ command_word command ∷ []
+
 abbrev pub IsReplay : List (String Global) → Type 0
-IsReplay words = map string_bytes words ≡ codes "replay" ∷ []
+IsReplay words = Names words Replay
+
+abbrev pub IsDecode : List (String Global) → Type 0
+IsDecode words = Names words Decode
+
+abbrev pub IsCommand : List (String Global) → Type 0
+IsCommand words = (command : Command) × Names words command
 
 -- the most bytes that an input may have
 abbrev pub input_limit : ℕ
@@ -59,3 +78,34 @@ pub record IsScript (left : Option (List ℕ)) : Type 0 where
 -- a text has a fault: it is too long for an input, or a line is at fault
 abbrev pub HasFault : List ℕ → Type 0
 HasFault text = (input_limit < length text) ⊎ ((line : ℕ) × (reason : ScriptReason) × IsFault text (At line reason))
+
+-- a text is a table's text and whole frames behind it, and their lines were written
+pub record DecodesText (text : List ℕ) (out out' : Option (List ℕ)) : Type 0 where
+  pub table : Table
+  pub stream : List ℕ
+  pub holds : Holds text table stream
+  pub lines : List ℕ
+  pub decoded : IsDecoded table stream lines
+  pub written : Appends out out' lines
+
+-- an input is such a text
+abbrev pub Decodes : Option (List ℕ) → Option (List ℕ) → Option (List ℕ) → Type 0
+Decodes left out out' = (text : List ℕ) × IsInput left text × DecodesText text out out'
+
+-- A text was decoded up to its first fault, whose line was written: a fault of the table's text, or of the frames,
+-- behind the lines of those in front of it.
+pub data CutsText (text : List ℕ) (out out' : Option (List ℕ)) : Type 0 where
+  in_text : (line : ℕ) (word : List ℕ) → IsTextFault text line word → Appends out out' (fault_line line word) → CutsText text out out'
+  in_stream : (table : Table) (stream lines : List ℕ) (place : ℕ) (word : List ℕ) → Holds text table stream → IsCutAt table 0 stream lines place word → Appends out out' (lines ++ fault_line place word) → CutsText text out out'
+
+-- an input has a fault: it is too long, or its text has a first fault; the fault's line was written
+abbrev pub IsCutShort : Option (List ℕ) → Option (List ℕ) → Option (List ℕ) → Option (List ℕ) → Type 0
+IsCutShort left left' out out' =
+    (ReadsPast input_limit left left' × Appends out out' (fault_line input_limit (codes "Input")))
+    ⊎ ((text : List ℕ) × IsInput left text × CutsText text out out')
+
+-- a text has a fault: it is too long for an input, or a line or the stream is at fault
+pub data HasDecodeFault (text : List ℕ) : Type 0 where
+  too_long : input_limit < length text → HasDecodeFault text
+  fault_in_text : (line : ℕ) (word : List ℕ) → IsTextFault text line word → HasDecodeFault text
+  fault_in_stream : (table : Table) (stream lines : List ℕ) (place : ℕ) (word : List ℕ) → Holds text table stream → IsCutAt table 0 stream lines place word → HasDecodeFault text

@@ -1,5 +1,7 @@
 pub mod Command
 pub mod Copying
+pub mod DecodeInput
+pub mod Decoding
 pub mod Reading
 pub mod Replay
-pub mod Writing
+pub mod Telling

@@ -1,18 +1,22 @@
 //! The top call: the words of a command line, the whole input, and the answer.
 
-ghost use Rattle.std.specs.Prelude.{◌≡◌, ◌≢◌, ◌↔◌, ◌≤◌, ◌⊎◌, List, ℕ, IsTrue, IfOk, Some, codes};
+ghost use Rattle.std.specs.Prelude.{◌≡◌, ◌≢◌, ◌↔◌, ◌≤◌, ◌⊎◌, List, ℕ, length, IfOk, IfSome, IfNone, Some};
 ghost use Rattle.std.specs.Io.KnownBytes.{Appends};
 ghost use Rattle.mrpc_base.specs.Faults.{Rose};
+ghost use Rattle.mrpc_table.specs.declared.table.Table.{Table};
 ghost use Rattle.script_lang.specs.declared.script.Script.{Script};
 ghost use Rattle.script_lang.specs.Thin.{Spells};
+ghost use Rattle.mrpc_top.specs.DecodeInput.{Holds, IsTextFault};
+ghost use Rattle.mrpc_top.specs.Decoding.{IsDecoded, IsCutAt};
 ghost use Rattle.mrpc_top.specs.Replay.{Replays};
-ghost use Rattle.mrpc_top.specs.Command.{IsReplay, IsRefused, IsScript, Refuses, Runs, HasFault, fault_line};
+ghost use Rattle.mrpc_top.specs.Command.{command_word, IsReplay, IsDecode, IsCommand, Names, IsRefused, IsScript, Refuses, Runs, HasFault, Decodes, DecodesText, IsCutShort, CutsText, HasDecodeFault, fault_line};
 
+use crate::decode_input::read_head;
+use crate::decoding::{Cut, decode_stream};
 use crate::reading::{INPUT_LIMIT, Input, read_input};
 use crate::replay::{Stop, replay};
-use crate::writing::write_all;
 use itoa::Buffer;
-use mrpc_base::{Sink, Source};
+use mrpc_base::{Sink, Source, write_all};
 use mrpc_table::{Bytes, Memory};
 use script_lang::{ScriptFault, read_script};
 use std::alloc::Global;
@@ -41,9 +45,18 @@ pub const WIRE_FAILED: u8 = 6;
 /// Runs the command that the words name, and answers its exit status.
 ///
 /// `replay` reads a script from `input`, runs it, and writes the audit to `out` and the frames to
-/// `wire`. The script may be thin for now (`script_lang`); its faults are written to `out` as one
-/// line `fault LINE REASON`, and an input of more than 16777216 bytes as `fault 16777216 Input`.
-/// Without memory the command ends with `NO_MEMORY`, and what it wrote by then stands.
+/// `wire`. The script may be thin for now (`script_lang`); its first fault is written to `out` as one
+/// line `fault LINE REASON`.
+///
+/// `decode` reads the line `mrpc-decode 1`, the line `table`, the canonical text of a table and the line
+/// `end`, and behind them frames to the end of the input. For each frame it writes a line to `out`:
+/// `frame KIND METHOD CONN NUMBER HEX`, where HEX is the encoding of the message that the payload means
+/// (`-` where it has no byte), or `hello CONN LENGTH`. A fault of the text is written as one line
+/// `fault LINE REASON`; one of the frames as `fault PLACE REASON` behind the lines of the frames in front
+/// of it, PLACE counting bytes from the first behind the `end` line.
+///
+/// An input of more than 16777216 bytes is `fault 16777216 Input` in either command, and nothing else is
+/// written. Without memory a command ends with `NO_MEMORY`, and what it wrote by then stands.
 pub fn run_command<S: Source, K: Sink, W: Sink>(
     alloc: Global,
     words: &Vec<String>,
@@ -54,25 +67,32 @@ pub fn run_command<S: Source, K: Sink, W: Sink>(
     ensures statuses { result ≤ WIRE_FAILED }
 
     // Which words are a command. Nothing is read or written for others.
-    ensures words { (result ≡ NO_COMMAND) ↔ (IsReplay words.now.items → ⊥) }
+    ensures words { (result ≡ NO_COMMAND) ↔ (IsCommand words.now.items → ⊥) }
     ensures nothing_read { result ≡ NO_COMMAND → input.new ≡ input.old }
     ensures nothing_said { result ≡ NO_COMMAND → out.new ≡ out.old }
     ensures nothing_sent { result ≡ NO_COMMAND → wire.new ≡ wire.old }
 
-    // At the end of the work: the input is a script's text; a history follows it, legal and spelled by
+    // At the end of a replay: the input is a script's text; a history follows it, legal and spelled by
     // its loads; its audit, the calls that stand and its frames were written, and nothing failed.
-    ensures done { result ≡ DONE → Runs (S.left input.old) (K.written out.old) (K.written out.new) (W.written wire.old) (W.written wire.new) }
+    ensures done { result ≡ DONE → IsReplay words.now.items → Runs (S.left input.old) (K.written out.old) (K.written out.new) (W.written wire.old) (W.written wire.new) }
+    // At the end of a decoding: the input is a table's text and whole frames; their lines were written.
+    ensures decoded { result ≡ DONE → IsDecode words.now.items → Decodes (S.left input.old) (K.written out.old) (K.written out.new) }
     ensures input_read { result ≡ DONE → S.faults input.new ≡ S.faults input.old }
     ensures out_written { result ≡ DONE → K.faults out.new ≡ K.faults out.old }
     ensures wire_written { result ≡ DONE → W.faults wire.new ≡ W.faults wire.old }
 
-    // A faulty input: its first fault was written, and nothing else was.
-    ensures faulty { result ≡ FAULTY_INPUT → IsRefused (S.left input.old) (S.left input.new) (K.written out.old) (K.written out.new) }
+    // A faulty input: its first fault was written, and nothing else but the lines of frames in front of it.
+    ensures faulty { result ≡ FAULTY_INPUT → IsReplay words.now.items → IsRefused (S.left input.old) (S.left input.new) (K.written out.old) (K.written out.new) }
+    ensures cut_short { result ≡ FAULTY_INPUT → IsDecode words.now.items → IsCutShort (S.left input.old) (S.left input.new) (K.written out.old) (K.written out.new) }
     ensures faulty_written { result ≡ FAULTY_INPUT → K.faults out.new ≡ K.faults out.old }
     ensures faulty_unsent { result ≡ FAULTY_INPUT → wire.new ≡ wire.old }
 
     // No work is done on an input that has a fault.
-    ensures refused { (text : List ℕ) → S.left input.old ≡ Some text → HasFault text → (result ≢ DONE) × (result ≢ WIRE_FAILED) }
+    ensures refused { (text : List ℕ) → S.left input.old ≡ Some text → IsReplay words.now.items → HasFault text → (result ≢ DONE) × (result ≢ WIRE_FAILED) }
+    ensures undecoded { (text : List ℕ) → S.left input.old ≡ Some text → IsDecode words.now.items → HasDecodeFault text → result ≢ DONE }
+
+    // A decoding sends nothing.
+    ensures decode_unsent { IsDecode words.now.items → wire.new ≡ wire.old }
 
     // Failures of the devices.
     ensures input_failed { result ≡ INPUT_FAILED → Rose (S.faults input.old) (S.faults input.new) }
@@ -80,32 +100,95 @@ pub fn run_command<S: Source, K: Sink, W: Sink>(
     ensures unsent { result ≡ INPUT_FAILED → wire.new ≡ wire.old }
     ensures out_failed { result ≡ OUTPUT_FAILED → Rose (K.faults out.old) (K.faults out.new) }
     ensures wire_failed { result ≡ WIRE_FAILED → Rose (W.faults wire.old) (W.faults wire.new) }
-    ensures faultless { result ≡ WIRE_FAILED → IsScript (S.left input.old) }
+    ensures faultless { result ≡ WIRE_FAILED → IsReplay words.now.items × IsScript (S.left input.old) }
 {
-    if !is_replay(words) {
-        return NO_COMMAND;
+    match command_of(words) {
+        Some(command) => run(alloc, command, input, out, wire),
+        None => NO_COMMAND,
     }
+}
+
+/// A text has one decoding. It is of one table and one stream, or its text has one first fault; and the
+/// stream is frames to its end, with their lines, or has one first fault, with the lines in front of it.
+pub fn one_decoding()
+    ensures parts { (text stream other : List ℕ) (T U : Table) → Holds text T stream → Holds text U other → (T ≡ U) × (stream ≡ other) }
+    ensures text_fault { (text word spelled : List ℕ) (line at : ℕ) → IsTextFault text line word → IsTextFault text at spelled → (line ≡ at) × (word ≡ spelled) }
+    ensures no_text_fault { (text stream word : List ℕ) (T : Table) (line : ℕ) → Holds text T stream → IsTextFault text line word → ⊥ }
+    ensures lines { (T : Table) (stream told other : List ℕ) → IsDecoded T stream told → IsDecoded T stream other → told ≡ other }
+    ensures cut { (T : Table) (stream told other word spelled : List ℕ) (place at : ℕ) → IsCutAt T 0 stream told place word
+        → IsCutAt T 0 stream other at spelled → (place ≡ at) × (word ≡ spelled) × (told ≡ other) }
+    ensures no_cut { (T : Table) (stream told other word : List ℕ) (place : ℕ) → IsDecoded T stream told → IsCutAt T 0 stream other place word → ⊥ }
+{}
+
+/// A command of the program.
+#[derive(Clone, Copy, PartialEq, Eq)]
+enum Command {
+    Replay,
+    Decode,
+}
+
+// Reads the whole input, and runs the command on it.
+fn run<S: Source, K: Sink, W: Sink>(
+    alloc: Global,
+    command: Command,
+    input: &mut S,
+    out: &mut K,
+    wire: &mut W,
+) -> u8
+    ensures statuses { result ≤ WIRE_FAILED }
+    ensures some { result ≢ NO_COMMAND }
+    ensures done { result ≡ DONE → command ≡ Command.Replay → Runs (S.left input.old) (K.written out.old) (K.written out.new) (W.written wire.old) (W.written wire.new) }
+    ensures decoded { result ≡ DONE → command ≡ Command.Decode → Decodes (S.left input.old) (K.written out.old) (K.written out.new) }
+    ensures input_read { result ≡ DONE → S.faults input.new ≡ S.faults input.old }
+    ensures out_written { result ≡ DONE → K.faults out.new ≡ K.faults out.old }
+    ensures wire_written { result ≡ DONE → W.faults wire.new ≡ W.faults wire.old }
+    ensures faulty { result ≡ FAULTY_INPUT → command ≡ Command.Replay → IsRefused (S.left input.old) (S.left input.new) (K.written out.old) (K.written out.new) }
+    ensures cut_short { result ≡ FAULTY_INPUT → command ≡ Command.Decode → IsCutShort (S.left input.old) (S.left input.new) (K.written out.old) (K.written out.new) }
+    ensures faulty_written { result ≡ FAULTY_INPUT → K.faults out.new ≡ K.faults out.old }
+    ensures faulty_unsent { result ≡ FAULTY_INPUT → wire.new ≡ wire.old }
+    ensures refused { (text : List ℕ) → S.left input.old ≡ Some text → command ≡ Command.Replay → HasFault text → (result ≢ DONE) × (result ≢ WIRE_FAILED) }
+    ensures undecoded { (text : List ℕ) → S.left input.old ≡ Some text → command ≡ Command.Decode → HasDecodeFault text → result ≢ DONE }
+    ensures decode_unsent { command ≡ Command.Decode → wire.new ≡ wire.old }
+    ensures input_failed { result ≡ INPUT_FAILED → Rose (S.faults input.old) (S.faults input.new) }
+    ensures unsaid { result ≡ INPUT_FAILED → out.new ≡ out.old }
+    ensures unsent { result ≡ INPUT_FAILED → wire.new ≡ wire.old }
+    ensures out_failed { result ≡ OUTPUT_FAILED → Rose (K.faults out.old) (K.faults out.new) }
+    ensures wire_failed { result ≡ WIRE_FAILED → Rose (W.faults wire.old) (W.faults wire.new) }
+    ensures faultless { result ≡ WIRE_FAILED → (command ≡ Command.Replay) × IsScript (S.left input.old) }
+{
     match read_input(alloc, input) {
-        Input::Whole(text) => replay_text(alloc, &text, out, wire),
+        Input::Whole(text) => match command {
+            Command::Replay => replay_text(alloc, &text, out, wire),
+            Command::Decode => decode_text(alloc, &text, out),
+        },
         Input::TooLong => refuse(alloc, INPUT_LIMIT as u64, b"Input", out),
         Input::Failed => INPUT_FAILED,
         Input::Memory => NO_MEMORY,
     }
 }
 
-fn is_replay(words: &[String]) -> bool
-    ensures { IsTrue result ↔ IsReplay words.now }
+// The command that the words name.
+fn command_of(words: &[String]) -> Option<Command>
+    ensures some { IfSome result (λ command. Names words.now command) }
+    ensures none { IfNone result (IsCommand words.now → ⊥) }
 {
     match words {
-        [word] => is_word(word.as_str()),
-        _ => false,
+        [word] => command_named(word.as_str()),
+        _ => None,
     }
 }
 
-fn is_word(word: &str) -> bool
-    ensures { IsTrue result ↔ (word.now ≡ codes "replay") }
+fn command_named(word: &str) -> Option<Command>
+    ensures some { IfSome result (λ command. word.now ≡ command_word command) }
+    ensures none { IfNone result ((command : Command) → word.now ≢ command_word command) }
 {
-    word == "replay"
+    if word == "replay" {
+        Some(Command::Replay)
+    } else if word == "decode" {
+        Some(Command::Decode)
+    } else {
+        None
+    }
 }
 
 // Reads a script and runs it.
@@ -133,6 +216,29 @@ fn replay_text<K: Sink, W: Sink>(alloc: Global, text: &[u8], out: &mut K, wire: 
             refuse(alloc, line, reason.word().as_bytes(), out)
         }
         Err(ScriptFault::Memory) => NO_MEMORY,
+    }
+}
+
+// Reads a table's text and the frames behind it, and writes a line for each frame.
+fn decode_text<K: Sink>(alloc: Global, text: &[u8], out: &mut K) -> u8
+    requires short { length text.now ≤ INPUT_LIMIT }
+    ensures statuses { result ≤ OUTPUT_FAILED }
+    ensures some { (result ≢ NO_COMMAND) × (result ≢ INPUT_FAILED) }
+    ensures done { result ≡ DONE → DecodesText text.now (K.written out.old) (K.written out.new) }
+    ensures out_written { result ≡ DONE → K.faults out.new ≡ K.faults out.old }
+    ensures cut { result ≡ FAULTY_INPUT → CutsText text.now (K.written out.old) (K.written out.new) }
+    ensures faulty_written { result ≡ FAULTY_INPUT → K.faults out.new ≡ K.faults out.old }
+    ensures out_failed { result ≡ OUTPUT_FAILED → Rose (K.faults out.old) (K.faults out.new) }
+{
+    let told = match read_head(alloc, text) {
+        Ok((table, stream)) => decode_stream(alloc, &table, stream, out),
+        Err(cut) => Err(cut),
+    };
+    match told {
+        Ok(()) => DONE,
+        Err(Cut::Fault { place, word }) => refuse(alloc, place, word.as_bytes(), out),
+        Err(Cut::Memory) => NO_MEMORY,
+        Err(Cut::Out) => OUTPUT_FAILED,
     }
 }
 

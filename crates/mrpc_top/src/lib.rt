@@ -2,19 +2,22 @@
 //! answers an exit status.
 //!
 //! It stands on all crates below it, by their public contracts. Its one contract for the program is
-//! that of [`run_command`]: at status 0 a history follows the script that was read, the history is
-//! legal and spelled by its loads, and its audit, the calls that stand and its frames were written.
+//! that of [`run_command`]. For `replay`: at status 0 a history follows the script that was read, the
+//! history is legal and spelled by its loads, and its audit, the calls that stand and its frames were
+//! written. For `decode`: at status 0 a line was written for each frame, with the encoding of the
+//! message that its payload means. An input that has a fault is answered with its first one.
 #![tactic(auto)]
 
 mod command;
 mod copying;
+mod decode_input;
+mod decoding;
 mod reading;
 mod replay;
-mod writing;
 
 pub use command::{
     DONE, FAULTY_INPUT, INPUT_FAILED, NO_COMMAND, NO_MEMORY, OUTPUT_FAILED, WIRE_FAILED,
-    run_command,
+    one_decoding, run_command,
 };
 
 #[cfg(test)]

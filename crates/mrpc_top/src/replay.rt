@@ -14,10 +14,9 @@ ghost use Rattle.script_lang.specs.Thin.{is_submit, IsConn};
 ghost use Rattle.mrpc_top.specs.Replay.{accepted, sent_lines, sent_frames, IsSendable, Submits, MayRun, IsReady, IsFresh, Does, Ran, Replays, stands_lines};
 
 use crate::copying::copy_message;
-use crate::writing::write_all;
 use call_ledger::{Happening, TookCopy, audit_line, copy_bytes, message_of, stands_line};
-use frame_transport::{HEADER_LEN, frame};
-use mrpc_base::{PlainWords, Room, Sink};
+use frame_transport::{ByteLink, HEADER_LEN, frame};
+use mrpc_base::{Handed, Link, PlainWords, Room, Sink, write_all};
 use mrpc_table::{Memory, Table};
 use script_lang::{Line, Script};
 use std::alloc::{AllocFailed, Global};
@@ -120,6 +119,21 @@ fn write_line<K: Sink>(out: &mut K, line: &[u8]) -> Result<(), Stop>
     }
 }
 
+// Hands a frame to a link over the wire.
+fn send_frame<W: Sink>(wire: &mut W, frame: &[u8]) -> Result<(), Stop>
+    ensures written { OnOk result (Appends (W.written wire.old) (W.written wire.new) frame.now) }
+    ensures wire_same { result ≢ Err Stop.Wire → W.faults wire.new ≡ W.faults wire.old }
+    ensures wire_failed { result ≡ Err Stop.Wire → Rose (W.faults wire.old) (W.faults wire.new) }
+    ensures not_out { result ≢ Err Stop.Out }
+{
+    let mut link = ByteLink::new(wire);
+    match link.send(frame) {
+        Handed::Done => Ok(()),
+        Handed::Failed => Err(Stop::Wire),
+        Handed::Memory => Err(Stop::Memory),
+    }
+}
+
 /// Sends a call that stands: its frame, and then its audit line.
 fn send<K: Sink, W: Sink>(
     alloc: Global,
@@ -153,9 +167,7 @@ fn send<K: Sink, W: Sink>(
                 (2, *number)
             };
             let frame = frame(alloc, kind, *method, *conn, named, payload.as_slice())?;
-            if !write_all(wire, frame.as_slice()) {
-                return Err(Stop::Wire);
-            }
+            send_frame(wire, frame.as_slice())?;
             let bytes = (HEADER_LEN + payload.len()) as u64;
             let sent = Happening::Sent {
                 conn: *conn,

@@ -18,7 +18,7 @@ use Rattle.script_lang.proofs.Words.{Misses, spells, number_of-decimal}
 
 -- ---- words
 
-some_pair : {A B : Type 0} (p q : A × B) → Some p ≡ Some q → p ≡ q
+pub some_pair : {A B : Type 0} (p q : A × B) → Some p ≡ Some q → p ≡ q
 some_pair p q e = cc
 
 later : (b byte : ℕ) (bs : List ℕ) (p : List ℕ × List ℕ) (r : Option (List ℕ × List ℕ)) → ((q : List ℕ × List ℕ) → r ≡ Some q → q.0 ++ byte ∷ q.1 ≡ bs) → option_map (λ (t : List ℕ × List ℕ). (b ∷ t.0, t.1)) r ≡ Some p → p.0 ++ byte ∷ p.1 ≡ b ∷ bs

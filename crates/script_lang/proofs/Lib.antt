@@ -1,6 +1,9 @@
+pub mod Faults
 pub mod Fields
 pub mod Forms
 pub mod Law
 pub mod Places
+pub mod TableCuts
 pub mod Texts
+pub mod ThinText
 pub mod Words

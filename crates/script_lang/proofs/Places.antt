@@ -115,7 +115,7 @@ field_lines_short T (f ∷ fields) numbers names =
     let lengths : length (field_line T [] (plain_field f) ++ flat_map (field_line T []) (map plain_field fields)) ≡ length (field_line T [] (plain_field f)) + length (flat_map (field_line T []) (map plain_field fields)) = length-append (field_line T [] (plain_field f)) (flat_map (field_line T []) (map plain_field fields)) in
     subst (λ (n : ℕ). n ≤ 100 * length (f ∷ fields)) (sym (ap (length {A = ℕ}) parts ∙ lengths)) (omega (arith, first, later))
 
-flat_map_one : {X A : Type 0} (f : X → List A) (x : X) → flat_map f (x ∷ []) ≡ f x
+pub flat_map_one : {X A : Type 0} (f : X → List A) (x : X) → flat_map f (x ∷ []) ≡ f x
 flat_map_one f x = flat_map-cons f x [] ∙ append-nil (f x)
 
 text_short : (name service rpc : List ℕ) (fields : List Plainly) → IsName name → IsName service → IsName rpc → AreFields fields → length (table_text (thin_table name fields service rpc)) ≤ 65536

@@ -1,6 +1,6 @@
 -- One text has one answer: its script, or its first line at fault.
 use Rattle.std.proofs.Common.{◌≡◌, ◌≢◌, ◌⊎◌, ℕ, suc, ◌+◌, ◌<◌, false, eqb, List, [], ◌∷◌, ◌++◌, length, Option, Some, None, Result, Ok, Err, refl, sym, ap, subst, ◌∙◌, append_assoc, arith, inl, inr}
-use Rattle.std.specs.Prelude.{IfOk, MatchResult}
+use Rattle.std.specs.Prelude.{IfOk}
 use Rattle.std.specs.List.{flat_map}
 use Rattle.std.proofs.lemmas.List.{append-nil, length-append}
 use Rattle.std.proofs.lemmas.List.Concat.{flat_map-cons}
@@ -10,10 +10,6 @@ use Rattle.mrpc_table.specs.Text.{spaced}
 use Rattle.mrpc_table.specs.declared.memory.Memory.{Memory}
 use Rattle.script_lang.specs.declared.script.Script.{Script}
 use Rattle.script_lang.specs.declared.stage.Stage.{Stage}
-use Rattle.script_lang.specs.declared.fault.ScriptFault.{ScriptFault}
-use Rattle.script_lang.specs.declared.fault.ScriptFault.TheVariants.{At, Memory as OutOfMemory}
-use Rattle.script_lang.specs.declared.fault.ScriptReason.TheVariants.{NotYet, Close}
-use Rattle.script_lang.specs.Answers.{IsFault}
 use Rattle.script_lang.specs.Bounds.{field_count}
 use Rattle.script_lang.specs.Thin.{Form, header, table, message, field, method, end, conn, command, close, words_of, spelled, Place, at_start, at_table, at_message, in_fields, at_end, at_conn, in_body, at_close, Goes, Leads, IsClosed, Spells, ReadsTo, IsNotYet, LacksClose}
 use Rattle.script_lang.specs.Reading.{parted, form_of}
@@ -118,7 +114,7 @@ no_line s _ q g = absurd g
 closed : (s : Script) (rest : List ℕ) (f : Form) (q : Place) (more : List ℕ) → Goes (at_close s) f q → rest ≢ spelled f ++ more
 closed s rest f q more goes e = no_line s f q goes
 
-closed_one : (s t : Script) → at_close s ≡ at_close t → s ≡ t
+pub closed_one : (s t : Script) → at_close s ≡ at_close t → s ≡ t
 closed_one s t e = cc
 
 whole : (text : List ℕ) (fs : List Form) → text ≡ flat_map spelled fs → text ≡ flat_map spelled fs ++ []
@@ -175,7 +171,7 @@ at_once text = record { lines = []; text_is = refl; leads = refl; line_is = refl
 pub reached_by : (text : List ℕ) (line : ℕ) (p : Place) (rest : List ℕ) → ReadsTo text line p rest → IsReached p
 reached_by text line p rest h = (h.lines, h.leads)
 
-none_is : (o : Option (List ℕ × List ℕ)) (p : List ℕ × List ℕ) → o ≡ None → o ≡ Some p → ⊥
+pub none_is : (o : Option (List ℕ × List ℕ)) (p : List ℕ × List ℕ) → o ≡ None → o ≡ Some p → ⊥
 none_is o p e f = absurd cc
 
 -- the rest has no line feed
@@ -224,20 +220,8 @@ finishes text line p rest s h none closes = record {
 pub lacks : (text : List ℕ) (line : ℕ) (p : Place) (rest : List ℕ) → ReadsTo text line p rest → rest ≡ [] → (IsClosed p → ⊥) → LacksClose text line
 lacks text line p rest h none unclosed = (p, subst (λ (t : List ℕ). ReadsTo text line p t) none h, unclosed)
 
--- ---- what the answer says
-
-pub only_one : (text : List ℕ) (r : Result Script ScriptFault) → MatchResult r (Spells text) (IsFault text) → (s : Script) → Spells text s → MatchResult r (λ t. t ≡ s) (λ e. e ≡ OutOfMemory)
-only_one text (Ok t) h s spells = one_script text t s h spells
-only_one text (Err (At line NotYet)) h s spells = absurd (not_yet_or_spelled text s line spells h)
-only_one text (Err (At line Close)) h s spells = absurd (closed_or_spelled text s line spells h)
-only_one text (Err OutOfMemory) h s spells = refl
-
 pub is_begun : (text : List ℕ) (s : Script) → Spells text s → IsBegun s (field_count s.table)
 is_begun text s h = sound_leads at_start h.lines (at_close s) tt h.leads
-
-pub if_read : (text : List ℕ) (r : Result Script ScriptFault) (P : Script → Type 0) → MatchResult r (Spells text) (IsFault text) → ((s : Script) → IsBegun s (field_count s.table) → P s) → IfOk r P
-if_read text (Ok s) P h then = then s (is_begun text s h)
-if_read text (Err e) P h then = tt
 
 pub some_bytes : (bs : List ℕ) → false ≡ eqb (length bs) 0 → bs ≢ []
 some_bytes [] e none = absurd cc

@@ -4,4 +4,5 @@ pub mod Follows
 pub mod Reading
 pub mod Reason
 pub mod Standing
+pub mod TableText
 pub mod Thin

@@ -3,12 +3,15 @@
 ghost use Rattle.std.specs.Prelude.{◌≡◌};
 ghost use Rattle.script_lang.specs.declared.fault.ScriptFault.TheVariants.{Memory as OutOfMemory};
 
-use mrpc_table::Memory;
+use mrpc_table::{Memory, TableReason};
 use thiserror::Error;
 
 /// What is wrong with a line of a script.
 #[derive(Clone, Copy, Debug, PartialEq, Eq, Error)]
 pub enum ScriptReason {
+    /// The lines between `table` and `end` are no canonical text of a table.
+    #[error("{}", .0.word())]
+    Table(TableReason),
     /// The line isn't one that may stand here in a thin script.
     #[error("NotYet")]
     NotYet,
@@ -20,7 +23,8 @@ pub enum ScriptReason {
 /// Why no script was read.
 #[derive(Clone, Copy, Debug, PartialEq, Eq, Error)]
 pub enum ScriptFault {
-    /// The line at fault, from 1: the first one, or the line behind the last where `close` is missing.
+    /// The line at fault, from 1: the first one of the table's text, else the first one of all, or the
+    /// line behind the last where `close` is missing.
     #[error("fault {line} {reason}")]
     At { line: u64, reason: ScriptReason },
     /// No memory was found.
@@ -36,6 +40,7 @@ impl ScriptReason {
         ensures { result.now ≡ reason_word self }
     {
         match self {
+            ScriptReason::Table(reason) => reason.word(),
             ScriptReason::NotYet => "NotYet",
             ScriptReason::Close => "Close",
         }

@@ -10,11 +10,13 @@ mod form;
 mod reading;
 mod script;
 mod stage;
+mod table_text;
 mod word;
 
 pub use fault::{ScriptFault, ScriptReason};
 pub use reading::{one_answer, read_script};
 pub use script::{Line, Lines, Script};
+pub use table_text::split_table;
 
 #[cfg(test)]
 mod tests;

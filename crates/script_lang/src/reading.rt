@@ -1,15 +1,23 @@
 //! Reading a script from its text.
 
 ghost use Rattle.std.specs.Prelude.{◌≡◌, ◌≤◌, ℕ, List, All, IfOk, IfErr, MatchResult, count_by};
-ghost use Rattle.script_lang.specs.Thin.{Spells, IsNotYet, LacksClose, IsConn, is_submit};
+ghost use Rattle.script_lang.specs.Thin.{Spells, IsConn, is_submit};
 ghost use Rattle.script_lang.specs.Bounds.{IsThinTable, field_count, IsWithin};
-ghost use Rattle.script_lang.specs.Answers.{IsFault};
+ghost use Rattle.script_lang.specs.Answers.{IsFault, IsLineFault};
+ghost use Rattle.script_lang.specs.TableText.{LacksTableFault};
+ghost use Rattle.script_lang.specs.declared.fault.ScriptReason.{ScriptReason};
+ghost use Rattle.script_lang.specs.declared.fault.ScriptFault.TheVariants.{At};
 
 use crate::fault::{ScriptFault, ScriptReason};
 use crate::script::Script;
 use crate::stage::Stage;
+use crate::table_text::split_table;
 use crate::word::split_line;
+use mrpc_table::{TableFault, read_table};
 use std::alloc::Global;
+
+/// The first two lines.
+const HEAD: &[u8] = b"mrpc-replay 1\ntable\n";
 
 /// The script that a text spells, each byte of it. The text is lines, each with its line feed:
 ///
@@ -32,9 +40,16 @@ use std::alloc::Global;
 ///
 /// # Errors
 ///
-/// `At` with the first line, from 1, that isn't a next line of these, as `NotYet`; a last line
-/// without its line feed is none. `At` with the line behind the last where every line is one and
-/// `close` is missing, as `Close`. `Memory` where none was found, and nothing else is said then.
+/// `At` has the line at fault, counted from 1, with its reason:
+///
+/// - `Table` where the first two lines and a line `end` are there, and the lines between aren't the
+///   canonical text of a table. Line and reason are those of [`mrpc_table::read_table`] (`Syntax`,
+///   `Number`, `Duplicate`, `UnknownType`, `MapKey` or `Limit`), the line as one of the script. It comes
+///   before the other reasons, even those of lines before it.
+/// - `NotYet` at the first line that isn't a next line of these; a last line without its line feed is none.
+/// - `Close` at the line behind the last, where every line is a next one and `close` is missing.
+///
+/// `Memory` comes where none was found, and nothing else is said then.
 pub fn read_script(alloc: Global, text: &[u8]) -> Result<Script, ScriptFault>
     // What is read is spelled so, each byte of it.
     ensures read { IfOk result (Spells text.now) }
@@ -49,11 +64,35 @@ pub fn read_script(alloc: Global, text: &[u8]) -> Result<Script, ScriptFault>
     ensures lines { IfOk result (λ s. All (IsWithin s.words (field_count s.table)) s.lines) }
     ensures submits { IfOk result (λ s. count_by is_submit s.lines ≤ 64) }
 {
+    read_text(alloc, text)
+}
+
+fn read_text(alloc: Global, text: &[u8]) -> Result<Script, ScriptFault>
+    ensures { MatchResult result (Spells text.now) (IsFault text.now) }
+{
+    check_table(alloc, text)?;
     read_lines(alloc, text)
 }
 
+/// The fault of the table's text, where it has one.
+fn check_table(alloc: Global, text: &[u8]) -> Result<(), ScriptFault>
+    ensures { MatchResult result (λ _. LacksTableFault text.now) (IsFault text.now) }
+{
+    let Some((table, _)) = split_table(text, HEAD) else {
+        return Ok(());
+    };
+    match read_table(alloc, table) {
+        Ok(_) => Ok(()),
+        Err(TableFault::At { line, reason }) => Err(ScriptFault::At {
+            line: line + 2,
+            reason: ScriptReason::Table(reason),
+        }),
+        Err(TableFault::Memory) => Err(ScriptFault::Memory),
+    }
+}
+
 fn read_lines(alloc: Global, text: &[u8]) -> Result<Script, ScriptFault>
-    ensures { MatchResult result (Spells text.now) (IsFault text.now) }
+    ensures { MatchResult result (Spells text.now) (IsLineFault text.now) }
 {
     let room = line_count(text);
     let mut stage = Stage::Start;
@@ -86,11 +125,8 @@ fn read_lines(alloc: Global, text: &[u8]) -> Result<Script, ScriptFault>
 /// A text has one answer, whoever gives it: a script and no fault, or a fault and no script.
 pub fn one_answer()
     ensures script { (text : List ℕ) (s t : Script) → Spells text s → Spells text t → s ≡ t }
-    ensures not_yet { (text : List ℕ) (s : Script) (line : ℕ) → Spells text s → IsNotYet text line → ⊥ }
-    ensures close { (text : List ℕ) (s : Script) (line : ℕ) → Spells text s → LacksClose text line → ⊥ }
-    ensures not_yet_line { (text : List ℕ) (m n : ℕ) → IsNotYet text m → IsNotYet text n → m ≡ n }
-    ensures close_line { (text : List ℕ) (m n : ℕ) → LacksClose text m → LacksClose text n → m ≡ n }
-    ensures reason { (text : List ℕ) (m n : ℕ) → IsNotYet text m → LacksClose text n → ⊥ }
+    ensures either { (text : List ℕ) (s : Script) (line : ℕ) (r : ScriptReason) → Spells text s → IsFault text (At line r) → ⊥ }
+    ensures fault { (text : List ℕ) (m n : ℕ) (r q : ScriptReason) → IsFault text (At m r) → IsFault text (At n q) → (m ≡ n) × (r ≡ q) }
 {}
 
 /// How many lines end in the text.

@@ -1,5 +1,5 @@
-use crate::{Line, ScriptFault, ScriptReason, one_answer, read_script};
-use mrpc_table::{Kind, Label};
+use crate::{Line, ScriptFault, ScriptReason, one_answer, read_script, split_table};
+use mrpc_table::{Kind, Label, TableReason};
 use std::alloc::Global;
 use std::process::Abort;
 use std::test::Fail;
@@ -147,6 +147,95 @@ const TEXTS: [(&str, u64, ScriptReason); 14] = [
     ),
 ];
 
+/// The lines behind `table`, and the fault that comes.
+const TABLES: [(&str, u64, ScriptReason); 19] = [
+    (
+        "message M\nfield 1 plain uint64\nend\n",
+        4,
+        ScriptReason::Table(TableReason::Syntax),
+    ),
+    (
+        "message M\nfield 0 plain uint64 a\nmethod 0 S Get M M\nend\nconn 1 16\nclose\n",
+        4,
+        ScriptReason::Table(TableReason::Number),
+    ),
+    (
+        "message M\nfield 1 plain uint64 a\nfield 2 plain uint64 a\nend\n",
+        5,
+        ScriptReason::Table(TableReason::Duplicate),
+    ),
+    (
+        "message M\nmethod 0 S Get M N\nend\n",
+        4,
+        ScriptReason::Table(TableReason::UnknownType),
+    ),
+    (
+        "message M\nfield 1 map:double uint64 a\nend\n",
+        4,
+        ScriptReason::Table(TableReason::MapKey),
+    ),
+    (
+        "message nnnnnnnnnnnnnnnnnnnnnnnnnnnnnnnnnnnnnnnnnnnnnnnnnnnnnnnnnnnnnnnnn\nend\n",
+        3,
+        ScriptReason::Table(TableReason::Limit),
+    ),
+    // A fault behind the last line of the table.
+    ("enum E\nend\n", 4, ScriptReason::Table(TableReason::Syntax)),
+    // A line that begins like `end`.
+    (
+        "message M\nending\nend\n",
+        4,
+        ScriptReason::Table(TableReason::Syntax),
+    ),
+    // The table's fault counts, also behind a line that isn't thin.
+    (
+        "message M\nfield 1 plain string s\nfield 1 plain uint64 a\nend\n",
+        5,
+        ScriptReason::Table(TableReason::Duplicate),
+    ),
+    (
+        "message A\nmessage B\nmessage A\nend\nclose\n",
+        5,
+        ScriptReason::Table(TableReason::Syntax),
+    ),
+    // Tables that aren't thin.
+    (
+        "message A\nmessage B\nmethod 0 S Get A A\nend\n",
+        4,
+        ScriptReason::NotYet,
+    ),
+    (
+        "message M\nfield 1 plain string s\nmethod 0 S Get M M\nend\n",
+        4,
+        ScriptReason::NotYet,
+    ),
+    (
+        "message M\nfield 1 optional uint64 a\nmethod 0 S Get M M\nend\n",
+        4,
+        ScriptReason::NotYet,
+    ),
+    ("message M\nend\n", 4, ScriptReason::NotYet),
+    ("end\n", 3, ScriptReason::NotYet),
+    // Without a line `end` there is no table.
+    (
+        "message M\nfield 1 plain string s\nfield 1 plain uint64 a\n",
+        4,
+        ScriptReason::NotYet,
+    ),
+    ("message M\nmessage M\nend", 4, ScriptReason::NotYet),
+    // Lines behind the first `end` are none of the table's.
+    (
+        "message M\nmethod 0 S Get M M\nend\nconn 0 16\nend\n",
+        6,
+        ScriptReason::NotYet,
+    ),
+    (
+        "message M\nmethod 0 S Get M M\nend\nmessage M\nend\n",
+        6,
+        ScriptReason::NotYet,
+    ),
+];
+
 fn expect_fault(rt: &impl Abort, alloc: Global, text: &str, line: u64, reason: ScriptReason) {
     let want = ScriptFault::At { line, reason };
     match read_script(alloc, text.as_bytes()) {
@@ -170,6 +259,27 @@ fn tells_the_first_fault(rt: HostRuntime) -> Result<(), Fail> {
         expect_fault(&rt, rt.alloc(), text, line, reason);
     }
     Ok(())
+}
+
+#[test]
+fn tells_the_fault_of_the_table_first(rt: HostRuntime) -> Result<(), Fail> {
+    for (lines, line, reason) in TABLES {
+        let text = text_of(rt.alloc(), &["mrpc-replay 1\ntable\n", lines])?;
+        expect_fault(&rt, rt.alloc(), text.as_str(), line, reason);
+    }
+    let other_head = "mrpc-replay 2\ntable\nmessage M\nmessage M\nend\n";
+    expect_fault(&rt, rt.alloc(), other_head, 1, ScriptReason::NotYet);
+    Ok(())
+}
+
+#[test]
+fn splits_a_table_off(rt: HostRuntime) {
+    let head = b"mrpc-decode 1\ntable\n".as_slice();
+    let text = b"mrpc-decode 1\ntable\nmessage M\nend\n\x08\nend\n".as_slice();
+    let parts = split_table(text, head);
+    assert!(rt; matches!(parts, Some((b"message M\n", b"\x08\nend\n"))));
+    assert!(rt; split_table(text, b"mrpc-replay 1\ntable\n").is_none());
+    assert!(rt; split_table(b"mrpc-decode 1\ntable\nmessage M\nend", head).is_none());
 }
 
 #[test]
@@ -200,10 +310,13 @@ fn keeps_to_the_limits(rt: HostRuntime) -> Result<(), Fail> {
 fn names_its_reasons(rt: HostRuntime) -> Result<(), Fail> {
     one_answer();
     assert_eq!(rt; ScriptReason::NotYet.word(), "NotYet");
-    let fault = ScriptFault::At {
-        line: 8,
-        reason: ScriptReason::Close,
-    };
-    assert_eq!(rt; fault.to_string(rt.alloc())?.as_str(), "fault 8 Close");
+    let shown = [
+        (ScriptReason::Close, "fault 8 Close"),
+        (ScriptReason::Table(TableReason::MapKey), "fault 8 MapKey"),
+    ];
+    for (reason, text) in shown {
+        let fault = ScriptFault::At { line: 8, reason };
+        assert_eq!(rt; fault.to_string(rt.alloc())?.as_str(), text);
+    }
     Ok(())
 }

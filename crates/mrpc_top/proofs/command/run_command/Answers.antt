@@ -1,12 +1,15 @@
 use Rattle.std.proofs.Common.{subst}
-use Rattle.script_lang.specs.Thin.{Spells}
-use Rattle.mrpc_top.specs.Command.{IsInput}
-use Rattle.mrpc_top.proofs.Faults.{no_script}
+use Rattle.mrpc_top.specs.Command.{Names}
+use Rattle.mrpc_top.specs.declared.command.Command.TheVariants.{Replay, Decode}
+use Rattle.mrpc_top.proofs.Faults.{one_command}
 use Rattle.mrpc_top.proofs.command.run_command.Goals as goal
 
-pub returns-in-Whole-clause-refused : goal.returns-in-Whole-clause-refused
-returns-in-Whole-clause-refused g c text told fault =
-    let input : IsInput (g.S.Source.left c.args.input.now) c.in-Whole.text.items = record { all = c.in-Whole.ensures.whole.1; short = c.in-Whole.ensures.whole.0 } in (
-      λ done. let d = c.replay_text.ensures.done done in no_script _ text c.in-Whole.text.items d.0 told fault input (subst (λ t. Spells t d.0) c.deref-in-Whole.ensures.value d.1),
-      λ failed. let d = c.replay_text.ensures.faultless failed in no_script _ text c.in-Whole.text.items d.0 told fault input (subst (λ t. Spells t d.0) c.deref-in-Whole.ensures.value d.1),
-    )
+pub returns-in-Some-clause-refused : goal.returns-in-Some-clause-refused
+returns-in-Some-clause-refused g c text told replay fault =
+    let named : Names c.args.words.now.items c.in-Some.command = subst (λ words. Names words c.in-Some.command) c.deref.ensures.value c.in-Some.ensures.some in
+    c.run.ensures.refused text told (one_command c.args.words.now.items c.in-Some.command Replay named replay) fault
+
+pub returns-in-Some-clause-undecoded : goal.returns-in-Some-clause-undecoded
+returns-in-Some-clause-undecoded g c text told decode fault =
+    let named : Names c.args.words.now.items c.in-Some.command = subst (λ words. Names words c.in-Some.command) c.deref.ensures.value c.in-Some.ensures.some in
+    c.run.ensures.undecoded text told (one_command c.args.words.now.items c.in-Some.command Decode named decode) fault

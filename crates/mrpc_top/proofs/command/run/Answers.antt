@@ -1,0 +1,24 @@
+use Rattle.std.proofs.Common.{inr, subst}
+use Rattle.script_lang.specs.Thin.{Spells}
+use Rattle.mrpc_top.specs.Command.{IsInput, CutsText, DecodesText}
+use Rattle.mrpc_top.proofs.DecodeAnswers.{no_decoding}
+use Rattle.mrpc_top.proofs.Faults.{no_script}
+use Rattle.mrpc_top.proofs.command.run.Goals as goal
+
+pub returns-in-Replay-clause-refused : goal.returns-in-Replay-clause-refused
+returns-in-Replay-clause-refused g c text told replay fault =
+    let input : IsInput (g.S.Source.left c.args.input.now) c.in-Whole.text.items = record { all = c.in-Whole.ensures.whole.1; short = c.in-Whole.ensures.whole.0 } in (
+      λ done. let d = c.replay_text.ensures.done done in no_script _ text c.in-Whole.text.items d.0 told fault input (subst (λ t. Spells t d.0) c.deref.ensures.value d.1),
+      λ failed. let d = c.replay_text.ensures.faultless failed in no_script _ text c.in-Whole.text.items d.0 told fault input (subst (λ t. Spells t d.0) c.deref.ensures.value d.1),
+    )
+
+pub returns-in-Whole-clause-cut_short : goal.returns-in-Whole-clause-cut_short
+returns-in-Whole-clause-cut_short g c faulty decode =
+    let input : IsInput (g.S.Source.left c.args.input.now) c.in-Whole.text.items = record { all = c.in-Whole.ensures.whole.1; short = c.in-Whole.ensures.whole.0 } in
+    inr (c.in-Whole.text.items, input, subst (λ t. CutsText t (g.K.Sink.written c.args.out.now) (g.K.Sink.written c.decode_text.new.out)) c.deref-in-Decode.ensures.value (c.decode_text.ensures.cut faulty))
+
+pub returns-in-Whole-clause-undecoded : goal.returns-in-Whole-clause-undecoded
+returns-in-Whole-clause-undecoded g c text told decode fault done =
+    let input : IsInput (g.S.Source.left c.args.input.now) c.in-Whole.text.items = record { all = c.in-Whole.ensures.whole.1; short = c.in-Whole.ensures.whole.0 } in
+    no_decoding _ text c.in-Whole.text.items _ _ told fault input
+    (subst (λ t. DecodesText t (g.K.Sink.written c.args.out.now) (g.K.Sink.written c.decode_text.new.out)) c.deref-in-Decode.ensures.value (c.decode_text.ensures.done done))

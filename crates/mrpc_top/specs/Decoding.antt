@@ -1,0 +1,78 @@
+-- What `decode` tells of a stream of frames: a line for each frame, up to the first fault.
+use Rattle.std.specs.Prelude.{◌≡◌, ◌≢◌, ℕ, ◌+◌, ◌<◌, ◌≤◌, ◌==◌, List, [], ◌∷◌, ◌++◌, length, codes, All, Some, None, if◌then◌else◌}
+use Rattle.std.specs.Fmt.{decimal}
+use Rattle.mrpc_table.specs.Node.{Node}
+use Rattle.mrpc_table.specs.Text.{line}
+use Rattle.mrpc_table.specs.declared.table.Table.{Table}
+use Rattle.wire_base.specs.Encoding.{encoding}
+use Rattle.wire_decode.specs.Means.{Means}
+use Rattle.wire_decode.specs.Faults.{IsFirstFault}
+use Rattle.wire_decode.specs.Reason.{reason_word}
+use Rattle.wire_decode.specs.declared.fault.DecodeReason.{DecodeReason}
+use Rattle.frame_transport.specs.Frames.{IsFrame, StandFrom, Splits, joined, fault_at}
+use Rattle.frame_transport.specs.declared.format.Frame.{Frame}
+use Rattle.frame_transport.specs.declared.fault.FeedFault.{FeedFault}
+use Rattle.frame_transport.specs.declared.fault.FeedFault.TheVariants.{Version, Kind, TooLong, Memory}
+use Rattle.call_ledger.specs.Calls.{message_at}
+use Rattle.call_ledger.specs.Audit.{hex_word}
+
+-- kinds of frames
+abbrev pub request : ℕ
+request = 1
+
+abbrev pub hello : ℕ
+hello = 3
+
+-- the message that the payload is of: a request has its method's input, a reply its output
+abbrev pub message_in : Table → Frame → ℕ
+message_in T f = message_at T f.method (if f.kind == request then 0 else 1)
+
+abbrev pub hello_line : Frame → List ℕ
+hello_line f = line (codes "hello" ∷ decimal f.conn ∷ decimal (length f.payload) ∷ [])
+
+-- the line of a request or a reply whose message has this encoding
+abbrev pub call_line : Frame → List ℕ → List ℕ
+call_line f bytes = line (codes "frame" ∷ decimal f.kind ∷ decimal f.method ∷ decimal f.conn ∷ decimal f.number ∷ hex_word bytes ∷ [])
+
+-- the line of a frame
+pub data IsLineOf (T : Table) (f : Frame) (text : List ℕ) : Type 0 where
+  line_of_hello : f.kind ≡ hello → text ≡ hello_line f → IsLineOf T f text
+  line_of_call : (t : Node) → f.kind ≢ hello → f.method < length T.methods → Means T (message_in T f) f.payload t → text ≡ call_line f (encoding T (message_in T f) t) → IsLineOf T f text
+
+-- the text is the lines of the frames, in order
+abbrev pub AreLinesOf : Table → List Frame → List ℕ → Type 0
+AreLinesOf T [] text = text ≡ []
+AreLinesOf T (f ∷ fs) text = (first : List ℕ) × (rest : List ℕ) × IsLineOf T f first × AreLinesOf T fs rest × (text ≡ first ++ rest)
+
+-- The fault of a frame, as it is printed: its place in the stream and a word. A method that the table lacks is at
+-- fault at the method's first byte, and counts before the payload.
+pub data IsFaultIn (T : Table) (f : Frame) (place : ℕ) (word : List ℕ) : Type 0 where
+  no_method : f.kind ≢ hello → length T.methods ≤ f.method → place ≡ f.place + 6 → word ≡ codes "NoMethod" → IsFaultIn T f place word
+  in_payload : (reason : DecodeReason) (at : ℕ) → f.kind ≢ hello → f.method < length T.methods → IsFirstFault T (message_in T f) f.payload reason at → place ≡ f.place + 16 + at → word ≡ reason_word reason → IsFaultIn T f place word
+
+-- the fault of a header, as it is printed
+abbrev pub IsFaultOfHeader : FeedFault → ℕ → List ℕ → Type 0
+IsFaultOfHeader (Version at value) place word = (place ≡ at) × (word ≡ codes "Version")
+IsFaultOfHeader (Kind at value) place word = (place ≡ at) × (word ≡ codes "Kind")
+IsFaultOfHeader (TooLong at value) place word = (place ≡ at) × (word ≡ codes "TooLong")
+IsFaultOfHeader Memory place word = ⊥
+
+-- these frames stand at the front of the stream, whose first byte has this place
+pub record StandInFront (start : ℕ) (stream : List ℕ) (frames : List Frame) : Type 0 where
+  pub more : List ℕ
+  pub whole : stream ≡ joined frames ++ more
+  pub each : All IsFrame frames
+  pub places : StandFrom start frames
+
+-- the stream is frames to its end, and the text is their lines
+pub record IsDecoded (T : Table) (stream text : List ℕ) : Type 0 where
+  pub frames : List Frame
+  pub splits : Splits 0 stream frames []
+  pub lines : AreLinesOf T frames text
+
+-- The stream, whose first byte has the place `start`, has this first fault, and the text is the lines of the frames in
+-- front of it: a frame is at fault, or the header behind the whole frames, or the stream ends inside a frame.
+pub data IsCutAt (T : Table) (start : ℕ) (stream text : List ℕ) (place : ℕ) (word : List ℕ) : Type 0 where
+  in_frame : (before : List Frame) (f : Frame) → StandInFront start stream (before ++ f ∷ []) → AreLinesOf T before text → IsFaultIn T f place word → IsCutAt T start stream text place word
+  in_header : (frames : List Frame) (rest : List ℕ) (fault : FeedFault) → Splits start stream frames rest → AreLinesOf T frames text → fault_at (start + length (joined frames)) rest ≡ Some fault → IsFaultOfHeader fault place word → IsCutAt T start stream text place word
+  in_short_frame : (frames : List Frame) (rest : List ℕ) → Splits start stream frames rest → AreLinesOf T frames text → fault_at (start + length (joined frames)) rest ≡ None → rest ≢ [] → place ≡ start + length (joined frames) → word ≡ codes "Short" → IsCutAt T start stream text place word

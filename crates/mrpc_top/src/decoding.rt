@@ -1,0 +1,232 @@
+//! Decoding a stream of frames: a line for each frame, up to the first fault.
+
+ghost use Rattle.std.specs.Prelude.{◌≡◌, ◌≢◌, ◌<◌, ◌+◌, ◌^◌, ◌++◌, [], List, ℕ, codes, length, OnOk, IfErr, Err};
+ghost use Rattle.std.specs.Io.KnownBytes.{Appends};
+ghost use Rattle.mrpc_base.specs.Faults.{Rose};
+ghost use Rattle.mrpc_table.specs.Valid.{IsValid};
+ghost use Rattle.frame_transport.specs.Frames.{IsFrame};
+ghost use Rattle.frame_transport.specs.Feed.{total};
+ghost use Rattle.mrpc_top.specs.DecodeInput.{OnFault};
+ghost use Rattle.mrpc_top.specs.Decoding.{IsLineOf, IsFaultIn, IsFaultOfHeader, IsDecoded, IsCutAt, hello, hello_line, message_in, call_line};
+ghost use Rattle.mrpc_top.specs.Telling.{Gave, StopsIn, Tells};
+
+use call_ledger::{message_of, put_hex, put_number};
+use frame_transport::{Feed, FeedFault, Frame, HEADER_LEN};
+use mrpc_base::{Sink, write_all};
+use mrpc_table::{Bytes, Memory, Table};
+use std::alloc::Global;
+use wire_decode::{DecodeFault, decode};
+use wire_encode::encode;
+
+/// The kind of a request's frame.
+const REQUEST: u8 = 1;
+
+/// The kind of a hello.
+const HELLO: u8 = 3;
+
+/// Where the method stands in a frame.
+const METHOD_PLACE: u64 = 6;
+
+/// How many bytes of a stream are fed at once. Their lines are written in one piece.
+const PIECE: usize = 65_536;
+
+/// Why a decoding stops before the end of its input.
+#[derive(Drop, Clone, Copy)]
+pub(crate) enum Cut {
+    /// The input has a fault at this place, a line of the text or a byte of the stream; this is the word
+    /// of its reason.
+    Fault { place: u64, word: &'static str },
+    /// No memory was found.
+    Memory,
+    /// A write failed.
+    Out,
+}
+
+impl From<Memory> for Cut {
+    ghost use Rattle.std.specs.Prelude.{◌≡◌};
+    ghost use Rattle.mrpc_top.specs.declared.decoding.Cut.TheVariants.{Memory as NoMemory};
+
+    ghost from_gives = { λ _ cut. cut ≡ NoMemory };
+
+    fn from(_: Memory) -> Cut {
+        Cut::Memory
+    }
+}
+
+/// Writes the line of each frame of a stream, up to the first fault.
+pub(crate) fn decode_stream<K: Sink>(
+    alloc: Global,
+    table: &Table,
+    stream: &[u8],
+    out: &mut K,
+) -> Result<(), Cut>
+    requires valid { IsValid table.now }
+    requires countable { length stream.now < 2 ^ 63 }
+    ensures done { OnOk result ((text : List ℕ) × IsDecoded table.now stream.now text × Appends (K.written out.old) (K.written out.new) text) }
+    ensures cut { IfErr result (OnFault (λ place word. (text : List ℕ) × IsCutAt table.now 0 stream.now text place word × Appends (K.written out.old) (K.written out.new) text)) }
+    ensures out_same { result ≢ Err Cut.Out → K.faults out.new ≡ K.faults out.old }
+    ensures out_failed { result ≡ Err Cut.Out → Rose (K.faults out.old) (K.faults out.new) }
+{
+    let mut feed = Feed::new(alloc);
+    let mut rest = stream;
+    while !rest.is_empty() {
+        let (piece, behind) = rest.split_at(rest.len().min(PIECE));
+        let mut lines = Bytes::new(alloc);
+        let told = tell_piece(alloc, table, &mut feed, piece, &mut lines);
+        if !write_all(out, lines.as_slice()) {
+            return Err(Cut::Out);
+        }
+        told?;
+        rest = behind;
+    }
+    end_of(&feed)
+}
+
+// The fault of a stream that ends here.
+fn end_of(feed: &Feed) -> Result<(), Cut>
+    requires none_behind { feed.now.behind ≡ 0 }
+    ensures done { OnOk result (feed.now.bytes ≡ []) }
+    ensures cut { IfErr result (OnFault (λ place word. (feed.now.bytes ≢ []) × (place ≡ feed.now.place) × (word ≡ codes "Short"))) }
+    ensures not_out { result ≢ Err Cut.Out }
+{
+    let rest = feed.rest();
+    if rest == 0 {
+        Ok(())
+    } else {
+        Err(Cut::Fault {
+            place: feed.fed() - rest,
+            word: "Short",
+        })
+    }
+}
+
+// Appends the lines of the frames that a piece of the stream ends.
+fn tell_piece(
+    alloc: Global,
+    table: &Table,
+    feed: &mut Feed,
+    piece: &[u8],
+    lines: &mut Bytes,
+) -> Result<(), Cut>
+    requires valid { IsValid table.now }
+    requires countable { total feed.old + length piece.now < 2 ^ 63 }
+    requires none_behind { feed.old.behind ≡ 0 }
+    ensures told { OnOk result ((text : List ℕ) × (lines.new ≡ lines.old ++ text) × Tells table.now feed.old.place (feed.old.bytes ++ piece.now) text feed.new) }
+    ensures cut { IfErr result (OnFault (λ place word. (text : List ℕ) × (lines.new ≡ lines.old ++ text) × ((more : List ℕ) → IsCutAt table.now feed.old.place (feed.old.bytes ++ (piece.now ++ more)) text place word))) }
+    ensures not_out { result ≢ Err Cut.Out }
+{
+    let fed = feed.feed(piece);
+    tell_waiting(alloc, table, feed, lines)?;
+    match fed {
+        Ok(()) => Ok(()),
+        Err(fault) => Err(cut_by(fault)),
+    }
+}
+
+// The fault of a header.
+fn cut_by(fault: FeedFault) -> Cut
+    ensures fault { OnFault (IsFaultOfHeader fault) result }
+    ensures not_out { result ≢ Cut.Out }
+{
+    match fault {
+        FeedFault::Version { place, .. } => Cut::Fault {
+            place,
+            word: "Version",
+        },
+        FeedFault::Kind { place, .. } => Cut::Fault {
+            place,
+            word: "Kind",
+        },
+        FeedFault::TooLong { place, .. } => Cut::Fault {
+            place,
+            word: "TooLong",
+        },
+        FeedFault::Memory => Cut::Memory,
+    }
+}
+
+// Appends the lines of the frames that wait in the feed.
+fn tell_waiting(alloc: Global, table: &Table, feed: &mut Feed, lines: &mut Bytes) -> Result<(), Cut>
+    requires valid { IsValid table.now }
+    requires countable { total feed.old < 2 ^ 63 }
+    ensures gave { OnOk result ((text : List ℕ) × (lines.new ≡ lines.old ++ text) × Gave table.now feed.old text feed.new) }
+    ensures cut { IfErr result (OnFault (λ place word. (text : List ℕ) × (lines.new ≡ lines.old ++ text) × StopsIn table.now feed.old text place word)) }
+    ensures not_out { result ≢ Err Cut.Out }
+{
+    while let Some(frame) = feed.next() {
+        tell(alloc, table, &frame, lines)?;
+    }
+    Ok(())
+}
+
+// Appends the line of a frame.
+fn tell(alloc: Global, table: &Table, frame: &Frame, lines: &mut Bytes) -> Result<(), Cut>
+    requires valid { IsValid table.now }
+    requires frame { IsFrame frame.now }
+    requires near { frame.now.place < 2 ^ 63 }
+    ensures told { OnOk result ((text : List ℕ) × IsLineOf table.now frame.now text × (lines.new ≡ lines.old ++ text)) }
+    ensures cut { IfErr result (OnFault (λ place word. IsFaultIn table.now frame.now place word × (lines.new ≡ lines.old))) }
+    ensures not_out { result ≢ Err Cut.Out }
+{
+    if frame.kind == HELLO {
+        put_hello(frame, lines)?;
+        return Ok(());
+    }
+    if table.methods.len() <= frame.method as usize {
+        return Err(Cut::Fault {
+            place: frame.place + METHOD_PLACE,
+            word: "NoMethod",
+        });
+    }
+    tell_call(alloc, table, frame, lines)
+}
+
+// Appends the line of a request or a reply.
+fn tell_call(alloc: Global, table: &Table, frame: &Frame, lines: &mut Bytes) -> Result<(), Cut>
+    requires valid { IsValid table.now }
+    requires frame { IsFrame frame.now }
+    requires near { frame.now.place < 2 ^ 63 }
+    requires call { frame.now.kind ≢ hello }
+    requires known { frame.now.method < length table.now.methods }
+    ensures told { OnOk result ((text : List ℕ) × IsLineOf table.now frame.now text × (lines.new ≡ lines.old ++ text)) }
+    ensures cut { IfErr result (OnFault (λ place word. IsFaultIn table.now frame.now place word × (lines.new ≡ lines.old))) }
+    ensures not_out { result ≢ Err Cut.Out }
+{
+    let number = if frame.kind == REQUEST { 0 } else { 1 };
+    let message = message_of(table, frame.method, number);
+    match decode(alloc, frame.payload.as_slice(), table, message) {
+        Ok(tree) => {
+            let bytes = encode(alloc, &tree, table, message)?;
+            put_call(alloc, frame, bytes.as_slice(), lines)?;
+            Ok(())
+        }
+        Err(DecodeFault::At { reason, place }) => Err(Cut::Fault {
+            place: frame.place + (HEADER_LEN + place) as u64,
+            word: reason.word(),
+        }),
+        Err(DecodeFault::Memory) => Err(Cut::Memory),
+    }
+}
+
+// Appends the line of a hello.
+fn put_hello(frame: &Frame, lines: &mut Bytes) -> Result<(), Memory>
+    ensures { OnOk result (lines.new ≡ lines.old ++ hello_line frame.now) }
+{
+    lines.append(b"hello")?;
+    put_number(lines, u64::from(frame.conn))?;
+    put_number(lines, frame.payload.len() as u64)?;
+    lines.append(b"\n")
+}
+
+// Appends the line of a request or a reply whose message has this encoding.
+fn put_call(alloc: Global, frame: &Frame, bytes: &[u8], lines: &mut Bytes) -> Result<(), Memory>
+    ensures { OnOk result (lines.new ≡ lines.old ++ call_line frame.now bytes.now) }
+{
+    lines.append(b"frame")?;
+    put_number(lines, u64::from(frame.kind))?;
+    put_number(lines, u64::from(frame.method))?;
+    put_number(lines, u64::from(frame.conn))?;
+    put_number(lines, u64::from(frame.number))?;
+    put_hex(alloc, lines, bytes)?;
+    lines.append(b"\n")
+}
