@@ -1,6 +1,7 @@
 -- The calls of a history, and those of them that stand.
-use Rattle.std.specs.Prelude.{ℕ, Bool, true, false, ◌&&◌, ◌==◌, List, [], ◌∷◌, filter, slice_get, option_map, unwrap_or, if◌then◌else◌}
+use Rattle.std.specs.Prelude.{ℕ, Bool, true, false, ◌&&◌, ◌==◌, List, [], ◌∷◌, filter, if◌then◌else◌}
 use Rattle.std.specs.List.{list_any}
+use Rattle.mrpc_table.specs.Calls.{message_at}
 use Rattle.mrpc_table.specs.Node.{Node}
 use Rattle.mrpc_table.specs.declared.table.Table.{Table}
 use Rattle.call_ledger.specs.declared.happening.Happening.{Happening}
@@ -45,10 +46,6 @@ was_sent conn h c = list_any (is_sending conn c.seq) h
 -- the calls that were accepted on a connection and have no fate yet, in order
 abbrev pub standing : ℕ → History → List Call
 standing conn h = filter (λ c. if was_sent conn h c then false else true) (calls_on conn h)
-
--- the message that a call of a method has: a request its method's input, a reply its output
-abbrev pub message_at : Table → ℕ → ℕ → ℕ
-message_at T method number = unwrap_or (option_map (λ m. if number == 0 then m.input else m.output) (slice_get T.methods method)) 0
 
 abbrev pub message_of : Table → Call → ℕ
 message_of T c = message_at T c.method c.number

@@ -6,7 +6,7 @@ use Rattle.call_ledger.specs.declared.happening.Happening.{Happening}
 use Rattle.call_ledger.specs.declared.happening.Happening.TheVariants.{Took, Sent}
 use Rattle.call_ledger.specs.declared.happening.TookCopy.{TookCopy}
 use Rattle.call_ledger.specs.declared.happening.TookCopy.TheVariants.{Copy}
-use Rattle.call_ledger.specs.Calls.{message_at}
+use Rattle.mrpc_table.specs.Calls.{message_at}
 
 -- a copy is a normal tree of a message of the table
 abbrev pub CopyFits : Table → ℕ → TookCopy → Type 0

@@ -3,12 +3,10 @@
 ghost use Rattle.std.specs.Prelude.{◌≡◌, ◌<◌, ◌++◌, ◌∷◌, length, OnOk, IfOk};
 ghost use Rattle.std.specs.Fmt.{decimal};
 ghost use Rattle.mrpc_table.specs.Valid.{IsValid};
-ghost use Rattle.call_ledger.specs.Calls.{message_at};
 ghost use Rattle.call_ledger.specs.Audit.{audit_line, copy_payload, hex_word, took_text, stands_line, sent_line};
 ghost use Rattle.call_ledger.specs.Fits.{FitsTable, CopyFits};
 
 use crate::happening::{Happening, TookCopy};
-use itoa::Buffer;
 use mrpc_table::{Bytes, Memory, Table};
 use std::alloc::Global;
 use wire_encode::encode;
@@ -18,9 +16,8 @@ use wire_encode::encode;
 pub fn put_number(out: &mut Bytes, number: u64) -> Result<(), Memory>
     ensures { OnOk result (out.new ≡ out.old ++ 32 ∷ decimal number) }
 {
-    let mut buffer = Buffer::new();
     out.append(b" ")?;
-    out.append(buffer.format(number).as_bytes())
+    out.append_decimal(number)
 }
 
 /// Appends a space and the bytes in lower-case hexadecimal digits behind it, or `-` where there is
@@ -32,8 +29,7 @@ pub fn put_hex(alloc: Global, out: &mut Bytes, bytes: &[u8]) -> Result<(), Memor
     if bytes.is_empty() {
         return out.append(b"-");
     }
-    let digits = hex::encode(alloc, bytes)?;
-    out.append(digits.as_bytes())
+    out.append_hex(alloc, bytes)
 }
 
 /// The audit line of a happening, with its line feed. The format is this project's own. The only
@@ -54,7 +50,7 @@ pub fn audit_line(alloc: Global, happening: &Happening, table: &Table) -> Result
             count,
             copy,
         } => {
-            let message = message_of(table, *method, *number);
+            let message = table.message_of(*method, *number);
             let payload = copy_bytes(alloc, copy, table, message)?;
             let numbers = [
                 u64::from(*conn),
@@ -112,22 +108,6 @@ fn sent_line(alloc: Global, conn: u32, seq: u32, bytes: u64) -> Result<Bytes, Me
     put_number(&mut out, bytes)?;
     out.append(b"\n")?;
     Ok(out)
-}
-
-/// The message that a call of a method has, by its place in the table: the method's input for a
-/// request, whose number is 0, and its output for a reply.
-pub fn message_of(table: &Table, method: u16, number: u32) -> u32
-    requires valid { IsValid table.now }
-    requires known { method < length table.now.methods }
-    ensures place { result ≡ message_at table.now method number }
-    ensures within { result < length table.now.messages }
-{
-    let method = &table.methods.as_slice()[method as usize];
-    if number == 0 {
-        method.input
-    } else {
-        method.output
-    }
 }
 
 /// The line of a call that stands for transport behind an empty chain, with its line feed. The only

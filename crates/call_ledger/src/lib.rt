@@ -8,8 +8,5 @@
 mod audit;
 mod happening;
 
-pub use audit::{audit_line, copy_bytes, message_of, put_hex, put_number, stands_line};
+pub use audit::{audit_line, copy_bytes, put_hex, put_number, stands_line};
 pub use happening::{Happening, TookCopy};
-
-#[cfg(test)]
-mod tests;

@@ -1,7 +1,7 @@
 //! A link over a sink: the frames that are handed over are written, and nothing comes.
 ghost use Rattle.std.specs.Prelude.{◌≡◌, ◌≢◌, ◌≤◌, [], ◌∷◌, ◌++◌, length, IsTrue, true, false};
 ghost use Rattle.std.specs.Io.KnownBytes.{Appends};
-ghost use Rattle.mrpc_base.specs.Faults.{Rose};
+ghost use Rattle.mrpc_base.specs.Faults.{HasCause};
 ghost use Rattle.mrpc_base.specs.Writing.{AppendsFront};
 ghost use Rattle.frame_transport.specs.Links.{sink_of, sink_name, frames_of, has_ended};
 
@@ -34,7 +34,7 @@ impl<'a, W: Sink> ByteLink<'a, W> {
 }
 
 impl<W: Sink> Link for ByteLink<'_, W> {
-    ghost use Rattle.std.specs.Prelude.{Some};
+    ghost use Rattle.std.specs.Prelude.{Some, ⊤};
 
     ghost handed = { frames_of };
 
@@ -42,6 +42,11 @@ impl<W: Sink> Link for ByteLink<'_, W> {
     ghost given = { λ _. Some [] };
 
     ghost ended = { has_ended };
+
+    // It never answers that nothing was ready, and says nothing of another side.
+    ghost nothing_ready = { λ _ _. ⊥ };
+
+    ghost peer_finished = { λ _ _. ⊤ };
 
     ghost faults = { λ link. W.faults (sink_of link) };
 
@@ -58,9 +63,7 @@ impl<W: Sink> Link for ByteLink<'_, W> {
         ensures same_ended { has_ended self.new ≡ has_ended self.old }
         ensures same_sink { sink_name self.new ≡ sink_name self.old }
 
-        ensures failed { result ≡ Handed.Failed → Rose (W.faults (sink_of self.old)) (W.faults (sink_of self.new)) }
-        ensures no_fault { result ≢ Handed.Failed → W.faults (sink_of self.new) ≡ W.faults (sink_of self.old) }
-        ensures never_falls { W.faults (sink_of self.old) ≤ W.faults (sink_of self.new) }
+        ensures cause { HasCause (result ≡ Handed.Failed) (W.faults (sink_of self.old)) (W.faults (sink_of self.new)) }
     {
         if !write_all(self.sink, frame) {
             return Handed::Failed;

@@ -10,6 +10,3 @@ mod size;
 
 pub use reason::Reason;
 pub use size::size_words;
-
-#[cfg(test)]
-mod tests;

@@ -1,7 +1,13 @@
 -- What a file that may not be there yet holds.
 use Rattle.std.specs.Prelude.{ℕ, List, Option, None, Some}
+use Rattle.std.specs.Io.KnownBytes.{Appends}
 
 -- what the file holds, where there is one and it tells
 abbrev pub contents_of : {F : Type 0} → (F → Option (List ℕ)) → Option F → Option (List ℕ)
 contents_of contents None = None
 contents_of contents (Some file) = contents file
+
+-- the file is one that was made, with these bytes written to it since
+abbrev pub HoldsFirst : {F : Type 0} → (F → Option (List ℕ)) → Option F → List ℕ → Type 0
+HoldsFirst contents None bytes = ⊥
+HoldsFirst {F = F} contents (Some file) bytes = (made : F) × Appends (contents made) (contents file) bytes

@@ -6,23 +6,14 @@ use std::env;
 use std::env::Env;
 use std::io::ErrorKind;
 
-const HELP: &str = "\
-mrpc replay < SCRIPT
-mrpc decode < FRAMES
-
-replay    reads a script from standard input, writes its audit on standard output
-          and the frames that were sent into the file mrpc.wire of the current folder
-decode    reads a table and frames from standard input, and writes a line for each
-          frame on standard output
-
-mrpc --help       prints this text
-mrpc --version    prints the version
-
-Status: 0 done, 1 a faulty command line, 2 a fault of the input, 3 want of memory,
-4 a read failed, 5 a write on standard output failed, 6 a write to mrpc.wire failed.
-";
-
-const VERSION: &str = "mrpc 0.1.0\n";
+/// What a command line asks the program itself for.
+#[derive(Clone, Copy, Debug, PartialEq, Eq)]
+pub(crate) enum Asked {
+    /// The usage text.
+    Help,
+    /// The version.
+    Version,
+}
 
 /// Why the words couldn't be read.
 #[derive(Clone, Copy, Debug, PartialEq, Eq)]
@@ -50,24 +41,24 @@ pub(crate) fn words<R: Env + AllocGlobal>(rt: &R) -> Result<Vec<String>, WordsFa
     Ok(words)
 }
 
-/// The text that `--help` or `--version` prints, where the command line is that word alone.
-pub(crate) fn told_alone(words: &[String]) -> Option<&'static str>
+/// What a command line of `--help` or `--version` alone asks for.
+pub(crate) fn asked_alone(words: &[String]) -> Option<Asked>
     ensures asked { IsSome result ↔ AsksAlone words.now }
 {
     match words {
-        [word] => told(word.as_str()),
+        [word] => asked_by(word.as_str()),
         _ => None,
     }
 }
 
-// The text that the word asks for.
-fn told(word: &str) -> Option<&'static str>
+// What the word asks for.
+fn asked_by(word: &str) -> Option<Asked>
     ensures { IsSome result ↔ Asks word.now }
 {
     if word == "--help" {
-        Some(HELP)
+        Some(Asked::Help)
     } else if word == "--version" {
-        Some(VERSION)
+        Some(Asked::Version)
     } else {
         None
     }

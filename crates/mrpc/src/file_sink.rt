@@ -1,8 +1,8 @@
 ghost use Rattle.std.specs.Prelude.{◌≡◌, ◌≢◌, ◌<◌, ◌≤◌, length, take, IsNone, IsSome};
 ghost use Rattle.std.specs.Io.KnownBytes.{Appends, Keeps};
-ghost use Rattle.mrpc_base.specs.Faults.{Rose, raised};
+ghost use Rattle.mrpc_base.specs.Faults.{HasCause, raised};
 ghost use Rattle.mrpc_base.specs.Writing.{OnTook};
-ghost use Rattle.mrpc.specs.FileSink.{contents_of};
+ghost use Rattle.mrpc.specs.FileSink.{contents_of, HoldsFirst};
 
 use crate::writing::write_once;
 use mrpc_base::{Put, Sink};
@@ -45,6 +45,7 @@ impl<R: Files + Drop> FileSink<R> {
         ensures appended { OnTook result (λ n. Appends (contents_of R.File.contents self.old.file) (contents_of R.File.contents self.new.file) (take n piece.now)) }
         ensures kept { result ≡ Put.Failed → Keeps (contents_of R.File.contents self.old.file) (contents_of R.File.contents self.new.file) }
         ensures made { OnTook result (λ _. IsSome self.new.file) }
+        ensures first { IsNone self.old.file → OnTook result (λ n. HoldsFirst R.File.contents self.new.file (take n piece.now)) }
         ensures faults { self.new.faults ≡ self.old.faults }
     {
         if let Some(file) = &mut self.file {
@@ -74,12 +75,12 @@ impl<R: Files + Drop> Sink for FileSink<R> {
         ensures appended { OnTook result (λ n. Appends (contents_of R.File.contents self.old.file) (contents_of R.File.contents self.new.file) (take n piece.now)) }
         ensures kept { result ≡ Put.Failed → Keeps (contents_of R.File.contents self.old.file) (contents_of R.File.contents self.new.file) }
         ensures made { OnTook result (λ _. IsSome self.new.file) }
+        // The file that was made at the first write holds what was taken of it, too.
+        ensures first { IsNone self.old.file → OnTook result (λ n. HoldsFirst R.File.contents self.new.file (take n piece.now)) }
 
         // What is counted.
         ensures faults { result ≡ Put.Failed → self.new.faults ≡ raised self.old.faults }
-        ensures failed { result ≡ Put.Failed → Rose self.old.faults self.new.faults }
-        ensures no_fault { result ≢ Put.Failed → self.new.faults ≡ self.old.faults }
-        ensures never_falls { self.old.faults ≤ self.new.faults }
+        ensures cause { HasCause (result ≡ Put.Failed) self.old.faults self.new.faults }
     {
         let put = self.write_to_file(piece);
         if put == Put::Failed {

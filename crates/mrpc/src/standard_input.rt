@@ -1,6 +1,6 @@
 ghost use Rattle.std.specs.Prelude.{◌≡◌, ◌≢◌, ◌<◌, ◌≤◌, length, take};
 ghost use Rattle.std.specs.Io.KnownBytes.{Consumes, IsAtEnd, Keeps};
-ghost use Rattle.mrpc_base.specs.Faults.{Rose, raised};
+ghost use Rattle.mrpc_base.specs.Faults.{HasCause, raised};
 ghost use Rattle.mrpc_base.specs.Reading.{OnBytes, OnNoBytes};
 
 use mrpc_base::{Got, Source};
@@ -40,9 +40,7 @@ impl<R: Read + Drop> Source for StandardInput<R> {
 
         // What is counted.
         ensures faults { result ≡ Got.Failed → self.new.faults ≡ raised self.old.faults }
-        ensures failed { result ≡ Got.Failed → Rose self.old.faults self.new.faults }
-        ensures no_fault { result ≢ Got.Failed → self.new.faults ≡ self.old.faults }
-        ensures never_falls { self.old.faults ≤ self.new.faults }
+        ensures cause { HasCause (result ≡ Got.Failed) self.old.faults self.new.faults }
     {
         match self.reader.read(buf) {
             Ok(0) => Got::End,

@@ -1,6 +1,6 @@
 ghost use Rattle.std.specs.Prelude.{◌≡◌, ◌≢◌, ◌<◌, ◌≤◌, length, take};
 ghost use Rattle.std.specs.Io.KnownBytes.{Appends, Keeps};
-ghost use Rattle.mrpc_base.specs.Faults.{Rose, raised};
+ghost use Rattle.mrpc_base.specs.Faults.{HasCause, raised};
 ghost use Rattle.mrpc_base.specs.Writing.{OnTook};
 
 use crate::writing::write_once;
@@ -41,9 +41,7 @@ impl<W: Write + Drop> Sink for StandardOutput<W> {
 
         // What is counted.
         ensures faults { result ≡ Put.Failed → self.new.faults ≡ raised self.old.faults }
-        ensures failed { result ≡ Put.Failed → Rose self.old.faults self.new.faults }
-        ensures no_fault { result ≢ Put.Failed → self.new.faults ≡ self.old.faults }
-        ensures never_falls { self.old.faults ≤ self.new.faults }
+        ensures cause { HasCause (result ≡ Put.Failed) self.old.faults self.new.faults }
     {
         let put = write_once(&mut self.writer, piece);
         if put == Put::Failed {

@@ -71,10 +71,6 @@ fn a_writer_that_takes_nothing_has_failed(rt: HostRuntime) {
     let mut sink = StandardOutput::new(Device::new([Some(2), None, Some(0)]));
     let puts = [sink.write(b"abc"), sink.write(b"c"), sink.write(b"c")];
     assert_eq!(rt; puts, [Put::Took(2), Put::Failed, Put::Failed]);
-    let mut whole = StandardOutput::new(Device::new([Some(1), Some(2), Some(1)]));
-    assert!(rt; write_text("text", &mut whole));
-    let mut cut = StandardOutput::new(Device::new([Some(1), Some(2), None]));
-    assert!(rt; !write_text("text", &mut cut));
 }
 
 #[test]

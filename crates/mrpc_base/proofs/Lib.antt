@@ -1,10 +1,11 @@
-pub mod Counts
-pub mod Due
-pub mod Known
-pub mod KnownBytes
-pub mod LastStore
-pub mod Listed
-pub mod Listing
-pub mod Order
+mod Counts
+mod Drawn
+mod Due
+mod Known
+mod KnownBytes
+mod LastStore
+mod Listed
+mod Listing
+mod Order
 mod Rows
-pub mod Search
+mod Search

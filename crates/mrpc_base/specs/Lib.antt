@@ -3,6 +3,7 @@ pub mod Faults
 pub mod Heap
 pub mod Linking
 pub mod Parts
+pub mod Quota
 pub mod Reading
 pub mod Supply
 pub mod Writing

@@ -1,6 +1,6 @@
 ghost use Rattle.std.specs.Prelude.{◌≡◌, ◌≢◌, ◌<◌, ◌≤◌, List, [], ◌∷◌, ◌++◌, ℕ, Bool, Option, IsTrue, length, take};
 ghost use Rattle.std.specs.Io.KnownBytes.{Appends, Keeps};
-ghost use Rattle.mrpc_base.specs.Faults.{Rose};
+ghost use Rattle.mrpc_base.specs.Faults.{HasCause};
 ghost use Rattle.mrpc_base.specs.Linking.{OnCame, OnNoneCame};
 
 /// What a send answers.
@@ -40,6 +40,12 @@ pub trait Link {
     /// Whether it has answered that the other side has finished.
     ghost ended: { Self → Bool };
 
+    /// What an answer that nothing was ready tells of the link before and after the call.
+    ghost nothing_ready: { Self → Self → Type 0 };
+
+    /// What an answer that the other side has finished tells of the link before and after the call.
+    ghost peer_finished: { Self → Self → Type 0 };
+
     /// How many sends and receives have failed; it stands still at 2^64 - 1.
     ghost faults: { Self → ℕ };
 
@@ -50,9 +56,7 @@ pub trait Link {
         ensures same_given { given self.new ≡ given self.old }
         ensures same_ended { ended self.new ≡ ended self.old }
 
-        ensures failed { result ≡ Handed.Failed → Rose (faults self.old) (faults self.new) }
-        ensures no_fault { result ≢ Handed.Failed → faults self.new ≡ faults self.old }
-        ensures never_falls { faults self.old ≤ faults self.new };
+        ensures cause { HasCause (result ≡ Handed.Failed) (faults self.old) (faults self.new) };
 
     /// Receives the next bytes into the start of `buf`. What it leaves behind them is open.
     fn receive(&mut self, buf: &mut [u8]) -> Came
@@ -65,9 +69,10 @@ pub trait Link {
         ensures same_ended { result ≢ Came.End → ended self.new ≡ ended self.old }
         ensures same_handed { handed self.new ≡ handed self.old }
 
-        ensures failed { result ≡ Came.Failed → Rose (faults self.old) (faults self.new) }
-        ensures no_fault { result ≢ Came.Failed → faults self.new ≡ faults self.old }
-        ensures never_falls { faults self.old ≤ faults self.new };
+        ensures idle { result ≡ Came.Idle → nothing_ready self.old self.new }
+        ensures end { result ≡ Came.End → peer_finished self.old self.new }
+
+        ensures cause { HasCause (result ≡ Came.Failed) (faults self.old) (faults self.new) };
 
     /// Ends the sending side, which cannot be refused.
     fn finish(&mut self)

@@ -1,6 +1,6 @@
 // A link in memory, whose sends and receives can be made to fail, and whose receives can be made short.
 ghost use Rattle.std.specs.Prelude.{◌≡◌, ◌≢◌, ◌<◌, ◌≤◌, ◌↔◌, ◌⊎◌, [], ◌∷◌, ◌++◌, Contains, IsPermutation, IsTrue, length, map, slice_get, take, drop, true, false};
-ghost use Rattle.mrpc_base.specs.Faults.{Rose, raised};
+ghost use Rattle.mrpc_base.specs.Faults.{HasCause, raised};
 ghost use Rattle.mrpc_base.specs.Linking.{OnCame, OnNoneCame};
 ghost use Rattle.mrpc_base.specs.Reading.{given_count};
 
@@ -136,13 +136,17 @@ impl MemLink {
 }
 
 impl Link for MemLink {
-    ghost use Rattle.std.specs.Prelude.{Some};
+    ghost use Rattle.std.specs.Prelude.{◌≡◌, ◌≢◌, Some, [], slice_get};
 
     ghost handed = { λ l. l.handed };
 
     ghost given = { λ l. Some l.given };
 
     ghost ended = { λ l. l.ended };
+
+    ghost nothing_ready = { λ old new. (slice_get old.lengths old.receives ≡ Some 0) × (old.left ≢ []) };
+
+    ghost peer_finished = { λ old new. old.left ≡ [] };
 
     ghost faults = { λ l. l.faults };
 
@@ -156,9 +160,7 @@ impl Link for MemLink {
         // What is counted, and what stays.
         ensures sends { self.new.sends ≡ raised self.old.sends }
         ensures faults { result ≡ Handed.Failed → self.new.faults ≡ raised self.old.faults }
-        ensures failed { result ≡ Handed.Failed → Rose self.old.faults self.new.faults }
-        ensures no_fault { result ≢ Handed.Failed → self.new.faults ≡ self.old.faults }
-        ensures never_falls { self.old.faults ≤ self.new.faults }
+        ensures cause { HasCause (result ≡ Handed.Failed) self.old.faults self.new.faults }
         ensures same { self.new ≡ record self.old { handed = self.new.handed; sends = self.new.sends; faults = self.new.faults } }
     {
         if self.sends.next() || self.finished {
@@ -192,9 +194,7 @@ impl Link for MemLink {
         ensures same_ended { result ≢ Came.End → self.new.ended ≡ self.old.ended }
         ensures receives { self.new.receives ≡ raised self.old.receives }
         ensures faults { result ≡ Came.Failed → self.new.faults ≡ raised self.old.faults }
-        ensures failed { result ≡ Came.Failed → Rose self.old.faults self.new.faults }
-        ensures no_fault { result ≢ Came.Failed → self.new.faults ≡ self.old.faults }
-        ensures never_falls { self.old.faults ≤ self.new.faults }
+        ensures cause { HasCause (result ≡ Came.Failed) self.old.faults self.new.faults }
         ensures same { self.new ≡ record self.old { given = self.new.given; left = self.new.left; receives = self.new.receives; faults = self.new.faults; ended = self.new.ended } }
     {
         let before = self.receives.calls();

@@ -1,6 +1,6 @@
 // A sink in memory, whose writes can be made to fail.
 ghost use Rattle.std.specs.Prelude.{◌≡◌, ◌≢◌, ◌<◌, ◌≤◌, [], ◌++◌, Contains, IsPermutation, length, take};
-ghost use Rattle.mrpc_base.specs.Faults.{Rose, raised};
+ghost use Rattle.mrpc_base.specs.Faults.{HasCause, raised};
 ghost use Rattle.mrpc_base.specs.Writing.{OnTook};
 
 use crate::calls::Calls;
@@ -84,9 +84,7 @@ impl Sink for MemSink {
         ensures failing { self.new.failing ≡ self.old.failing }
         ensures calls { self.new.calls ≡ raised self.old.calls }
         ensures faults { result ≡ Put.Failed → self.new.faults ≡ raised self.old.faults }
-        ensures failed { result ≡ Put.Failed → Rose self.old.faults self.new.faults }
-        ensures no_fault { result ≢ Put.Failed → self.new.faults ≡ self.old.faults }
-        ensures never_falls { self.old.faults ≤ self.new.faults }
+        ensures cause { HasCause (result ≡ Put.Failed) self.old.faults self.new.faults }
     {
         if self.calls.next() || self.written.extend_from_slice(piece).is_err() {
             self.calls.fault();

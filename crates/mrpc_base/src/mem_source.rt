@@ -1,6 +1,6 @@
 // A source in memory, whose reads can be made short or made to fail.
 ghost use Rattle.std.specs.Prelude.{◌≡◌, ◌≢◌, ◌<◌, ◌≤◌, ◌↔◌, [], ◌++◌, All, Contains, IsPermutation, length, min, slice_get, take, drop};
-ghost use Rattle.mrpc_base.specs.Faults.{Rose, raised};
+ghost use Rattle.mrpc_base.specs.Faults.{HasCause, raised};
 ghost use Rattle.mrpc_base.specs.Reading.{OnBytes, OnNoBytes, given_count};
 
 use crate::calls::Calls;
@@ -115,9 +115,7 @@ impl Source for MemSource {
         ensures failing { self.new.failing ≡ self.old.failing }
         ensures calls { self.new.calls ≡ raised self.old.calls }
         ensures faults { result ≡ Got.Failed → self.new.faults ≡ raised self.old.faults }
-        ensures failed { result ≡ Got.Failed → Rose self.old.faults self.new.faults }
-        ensures no_fault { result ≢ Got.Failed → self.new.faults ≡ self.old.faults }
-        ensures never_falls { self.old.faults ≤ self.new.faults }
+        ensures cause { HasCause (result ≡ Got.Failed) self.old.faults self.new.faults }
     {
         let before = self.calls.calls();
         if self.calls.next() {

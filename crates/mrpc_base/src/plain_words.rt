@@ -5,7 +5,7 @@ ghost use Rattle.mrpc_base.specs.Heap.{word_after, stores_of, races_up_to, races
 
 use crate::races::Races;
 use crate::stored_words::StoredWords;
-use crate::{Room, Words};
+use crate::{Room, Stores, Words};
 use std::alloc::{AllocError, Global};
 use std::marker::Model;
 
@@ -123,13 +123,6 @@ impl PlainWords {
         })
     }
 
-    /// How many words the heap has.
-    pub fn size(&self) -> u64
-        ensures { result ≡ self.now.size }
-    {
-        self.words.size()
-    }
-
     /// Every load so far, a place and a value, in order.
     pub fn loads(&self) -> &[(u64, u64)]
         ensures { result.now ≡ self.now.loads }
@@ -149,56 +142,6 @@ impl PlainWords {
         ensures { result ≡ length self.now.loads }
     {
         self.loads.len() as u64
-    }
-
-    /// How many stores there were, with those of races that were made.
-    pub fn stores_made(&self) -> u64
-        ensures { result ≡ length self.now.stores }
-    {
-        self.words.stores().len() as u64
-    }
-
-    /// Makes room for `n` stores.
-    pub fn room_stores(&mut self, n: u64) -> Room
-        ensures made { result ≡ Room.Made → n ≤ self.new.store_room }
-        ensures enough { n ≤ self.old.store_room → result ≡ Room.Made }
-        ensures memory { result ≡ Room.Memory → self.new ≡ self.old }
-        ensures never_falls { self.old.store_room ≤ self.new.store_room }
-
-        ensures size { self.new.size ≡ self.old.size }
-        ensures loads { self.new.loads ≡ self.old.loads }
-        ensures stores { self.new.stores ≡ self.old.stores }
-        ensures begun { self.new.begun ≡ self.old.begun }
-        ensures races { self.new.races ≡ self.old.races }
-        ensures load_room { self.new.load_room ≡ self.old.load_room }
-    {
-        if n <= self.store_room {
-            return Room::Made;
-        }
-        let room = room_beside(&mut self.words, self.races.len(), n);
-        if room == Room::Made {
-            self.store_room = n;
-        }
-        room
-    }
-
-    /// Stores `value` at `place`, which is counted from 0. Place 0 is never stored. It takes no memory.
-    pub fn store(&mut self, place: u64, value: u64)
-        requires not_first { 1 ≤ place }
-        requires in_heap { place < self.old.size }
-        requires room { 0 < self.old.store_room }
-
-        ensures stores { self.new.stores ≡ self.old.stores ++ (place, value) ∷ [] }
-        ensures lowered { self.old.store_room ≤ self.new.store_room + 1 }
-
-        ensures size { self.new.size ≡ self.old.size }
-        ensures loads { self.new.loads ≡ self.old.loads }
-        ensures begun { self.new.begun ≡ self.old.begun }
-        ensures races { self.new.races ≡ self.old.races }
-        ensures load_room { self.new.load_room ≡ self.old.load_room }
-    {
-        self.words.store(place, value);
-        self.store_room -= 1;
     }
 
     /// Lists a store of `value` at `place` that is made right before the load `load` of this submission, counted
@@ -309,5 +252,67 @@ impl Words for PlainWords {
         append_load(&mut self.loads, place, value);
         self.load_room -= 1;
         value
+    }
+}
+
+impl Stores for PlainWords {
+    ghost words = { λ h. h.size };
+
+    ghost stores = { λ h. h.stores };
+
+    ghost room = { λ h. h.store_room };
+
+    fn size(&self) -> u64
+        ensures { result ≡ self.now.size }
+    {
+        self.words.size()
+    }
+
+    fn made(&self) -> u64
+        ensures { result ≡ length self.now.stores }
+    {
+        self.words.stores().len() as u64
+    }
+
+    fn room_stores(&mut self, n: u64) -> Room
+        ensures made { result ≡ Room.Made → n ≤ self.new.store_room }
+        ensures enough { n ≤ self.old.store_room → result ≡ Room.Made }
+        ensures memory { result ≡ Room.Memory → self.new ≡ self.old }
+        ensures never_falls { self.old.store_room ≤ self.new.store_room }
+
+        ensures size { self.new.size ≡ self.old.size }
+        ensures loads { self.new.loads ≡ self.old.loads }
+        ensures stores { self.new.stores ≡ self.old.stores }
+        ensures begun { self.new.begun ≡ self.old.begun }
+        ensures races { self.new.races ≡ self.old.races }
+        ensures load_room { self.new.load_room ≡ self.old.load_room }
+    {
+        if n <= self.store_room {
+            return Room::Made;
+        }
+        let room = room_beside(&mut self.words, self.races.len(), n);
+        if room == Room::Made {
+            self.store_room = n;
+        }
+        room
+    }
+
+    fn store(&mut self, place: u64, value: u64)
+        requires not_first { 1 ≤ place }
+        requires in_heap { place < self.old.size }
+        requires few { length self.old.stores < 2 ^ 63 }
+        requires room { 0 < self.old.store_room }
+
+        ensures stores { self.new.stores ≡ self.old.stores ++ (place, value) ∷ [] }
+        ensures lowered { self.old.store_room ≤ self.new.store_room + 1 }
+
+        ensures size { self.new.size ≡ self.old.size }
+        ensures loads { self.new.loads ≡ self.old.loads }
+        ensures begun { self.new.begun ≡ self.old.begun }
+        ensures races { self.new.races ≡ self.old.races }
+        ensures load_room { self.new.load_room ≡ self.old.load_room }
+    {
+        self.words.store(place, value);
+        self.store_room -= 1;
     }
 }

@@ -1,6 +1,6 @@
-ghost use Rattle.std.specs.Prelude.{◌≡◌, ◌≢◌, ◌<◌, ◌≤◌, List, ℕ, Option, length, take};
+ghost use Rattle.std.specs.Prelude.{◌≡◌, ◌<◌, ◌≤◌, List, ℕ, Option, length, take};
 ghost use Rattle.std.specs.Io.KnownBytes.{Appends, Keeps};
-ghost use Rattle.mrpc_base.specs.Faults.{Rose};
+ghost use Rattle.mrpc_base.specs.Faults.{HasCause};
 ghost use Rattle.mrpc_base.specs.Writing.{OnTook};
 
 /// What a write answers.
@@ -28,7 +28,5 @@ pub trait Sink {
         ensures appended { OnTook result (λ n. Appends (written self.old) (written self.new) (take n piece.now)) }
         ensures kept { result ≡ Put.Failed → Keeps (written self.old) (written self.new) }
 
-        ensures failed { result ≡ Put.Failed → Rose (faults self.old) (faults self.new) }
-        ensures no_fault { result ≢ Put.Failed → faults self.new ≡ faults self.old }
-        ensures never_falls { faults self.old ≤ faults self.new };
+        ensures cause { HasCause (result ≡ Put.Failed) (faults self.old) (faults self.new) };
 }

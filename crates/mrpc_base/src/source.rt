@@ -1,6 +1,6 @@
-ghost use Rattle.std.specs.Prelude.{◌≡◌, ◌≢◌, ◌<◌, ◌≤◌, List, ℕ, Option, length, take};
+ghost use Rattle.std.specs.Prelude.{◌≡◌, ◌<◌, ◌≤◌, List, ℕ, Option, length, take};
 ghost use Rattle.std.specs.Io.KnownBytes.{Consumes, IsAtEnd, Keeps};
-ghost use Rattle.mrpc_base.specs.Faults.{Rose};
+ghost use Rattle.mrpc_base.specs.Faults.{HasCause};
 ghost use Rattle.mrpc_base.specs.Reading.{OnBytes, OnNoBytes};
 
 /// What a read answers.
@@ -31,7 +31,5 @@ pub trait Source {
         ensures end { result ≡ Got.End → IsAtEnd (left self.old) }
         ensures kept { OnNoBytes result (Keeps (left self.old) (left self.new)) }
 
-        ensures failed { result ≡ Got.Failed → Rose (faults self.old) (faults self.new) }
-        ensures no_fault { result ≢ Got.Failed → faults self.new ≡ faults self.old }
-        ensures never_falls { faults self.old ≤ faults self.new };
+        ensures cause { HasCause (result ≡ Got.Failed) (faults self.old) (faults self.new) };
 }

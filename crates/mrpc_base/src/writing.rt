@@ -2,7 +2,7 @@
 
 ghost use Rattle.std.specs.Prelude.{◌≡◌, ◌<◌, ◌≤◌, ℕ, length, take, IsTrue, true, false};
 ghost use Rattle.std.specs.Io.KnownBytes.{Appends};
-ghost use Rattle.mrpc_base.specs.Faults.{Rose};
+ghost use Rattle.mrpc_base.specs.Faults.{HasCause};
 ghost use Rattle.mrpc_base.specs.Writing.{AppendsFront};
 
 use crate::{Put, Sink};
@@ -11,11 +11,9 @@ use crate::{Put, Sink};
 /// bytes take no write. After a write that failed, a front of the bytes was written, and not all of them.
 pub fn write_all<K: Sink>(out: &mut K, bytes: &[u8]) -> bool
     ensures done { IsTrue result → Appends (K.written out.old) (K.written out.new) bytes.now }
-    ensures no_fault { IsTrue result → K.faults out.new ≡ K.faults out.old }
-    ensures failed { result ≡ false → Rose (K.faults out.old) (K.faults out.new) }
     ensures front { result ≡ false → AppendsFront (K.written out.old) (K.written out.new) bytes.now }
     ensures untouched { length bytes.now ≡ 0 → out.new ≡ out.old }
-    ensures never_falls { K.faults out.old ≤ K.faults out.new }
+    ensures cause { HasCause (result ≡ false) (K.faults out.old) (K.faults out.new) }
 {
     let mut done = 0;
     while done < bytes.len() {

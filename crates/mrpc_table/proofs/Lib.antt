@@ -1,20 +1,5 @@
-pub mod Views
-pub mod SmallTexts
-pub mod FieldLemmas
-pub mod FitLemmas
-pub mod Cuts
-pub mod Digits
-pub mod PlaceLemmas
-pub mod LastLemmas
-pub mod KeptLemmas
-pub mod LineLemmas
-pub mod ParseLemmas
-pub mod SpellLemmas
-pub mod OrderLemmas
-pub mod Clean
-pub mod DraftText
-pub mod Soundness
-pub mod Accepts
-pub mod Complete
-pub mod ReadLemmas
-pub mod FirstFaults
+mod Cuts
+mod Digits
+mod FieldLemmas
+mod FitLemmas
+mod Views

@@ -1,15 +1,11 @@
-pub mod Drafts
+pub mod Calls
 pub mod Falls
-pub mod Faults
 pub mod Fits
 pub mod Lines
 pub mod Names
 pub mod Node
 pub mod NodeCode
 pub mod Normal
-pub mod Places
-pub mod Readers
-pub mod Reason
 pub mod Text
 pub mod Valid
 pub mod View

@@ -1,6 +1,7 @@
 -- Names of a schema (Protocol Buffers, language specification, "Identifiers").
 use Rattle.std.specs.Prelude.{ℕ, ◌≤◌, ◌==◌, Bool, false, ◌||◌, ◌&&◌, List, [], ◌∷◌, length, IsTrue, nat_le}
 use Rattle.std.specs.List.{slice_split, list_all}
+use Rattle.mrpc_table.specs.declared.limits.TheConstants.{MAX_NAME, MAX_FULL_NAME}
 
 -- an ASCII letter or `_`
 abbrev pub is_name_start : ℕ → Bool
@@ -25,14 +26,14 @@ is_full_form name = list_all is_name_form (parts_of name)
 
 -- a name has at most 64 bytes; a full name has such parts, and at most 255 bytes together
 abbrev pub is_short : List ℕ → Bool
-is_short name = nat_le (length name) 64
+is_short name = nat_le (length name) MAX_NAME
 
 abbrev pub is_short_full : List ℕ → Bool
-is_short_full name = list_all is_short (parts_of name) && nat_le (length name) 255
+is_short_full name = list_all is_short (parts_of name) && nat_le (length name) MAX_FULL_NAME
 
 pub record IsName (name : List ℕ) : Type 0 where
   pub form : IsTrue (is_name_form name)
-  pub short : length name ≤ 64
+  pub short : length name ≤ MAX_NAME
 
 pub record IsFullName (name : List ℕ) : Type 0 where
   pub form : IsTrue (is_full_form name)

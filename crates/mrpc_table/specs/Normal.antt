@@ -8,6 +8,7 @@ use Rattle.std.specs.declared.cmp.Ordering.TheVariants.{Less}
 use Rattle.std.specs.Cmp.Lexicographic.{slice_cmp}
 use Rattle.mrpc_table.specs.Node.{Node, no_fields, field, Content, one, many, pairs, Item, number, run, node, Items, no_items, item, Pairs, no_pairs, pair}
 use Rattle.mrpc_table.specs.Words.{IsWordForm, rank}
+use Rattle.mrpc_table.specs.declared.limits.TheConstants.{MAX_DEPTH}
 use Rattle.mrpc_table.specs.declared.table.Kind.{Kind}
 use Rattle.mrpc_table.specs.declared.table.Kind.TheVariants.{Text, Octets, Message as OfMessage}
 use Rattle.mrpc_table.specs.declared.table.Label.{Label}
@@ -129,4 +130,4 @@ abbrev mutual
 pub record IsNormal (T : Table) (msg : ℕ) (t : Node) : Type 0 where
   pub fields : HasFields T (fields_of T msg) 0 t
   pub oneofs : OneMemberEach (fields_of T msg) t
-  pub depth : depth t ≤ 32
+  pub depth : depth t ≤ MAX_DEPTH

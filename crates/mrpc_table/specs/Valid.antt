@@ -7,6 +7,7 @@ use Rattle.std.specs.Cmp.Lexicographic.{slice_cmp}
 use Rattle.mrpc_table.specs.Names.{IsName, IsFullName}
 use Rattle.mrpc_table.specs.Words.{is_numeric, is_key}
 use Rattle.mrpc_table.specs.Text.{table_text}
+use Rattle.mrpc_table.specs.declared.limits.TheConstants.{MAX_MESSAGES, MAX_ENUMS, MAX_METHODS, MAX_FIELDS, MAX_VALUES, MAX_TEXT}
 use Rattle.mrpc_table.specs.declared.table.Kind.{Kind}
 use Rattle.mrpc_table.specs.declared.table.Kind.TheVariants.{Message as OfMessage, Choice}
 use Rattle.mrpc_table.specs.declared.table.Label.{Label}
@@ -74,7 +75,7 @@ OneofsFollow met all (f ∷ fs) = Joins met f.label (OneofsFollow met all fs) (O
 
 pub record IsMessage (T : Table) (m : Message) : Type 0 where
   pub name : IsFullName m.name
-  pub few : length m.fields ≤ 128
+  pub few : length m.fields ≤ MAX_FIELDS
   pub fields : All (IsField T (length m.oneofs)) m.fields
   pub ascend : Ascends (λ f g. f.number < g.number) m.fields
   pub names : AreDistinct (map (λ f. f.name) m.fields)
@@ -88,7 +89,7 @@ IsValueBelow v w = (int_cmp v.0 w.0 ≡ Less) ⊎ ((v.0 ≡ w.0) × IsBelow v.1 
 
 pub record IsEnum (e : Choices) : Type 0 where
   pub name : IsFullName e.name
-  pub few : length e.values ≤ 1024
+  pub few : length e.values ≤ MAX_VALUES
   pub numbers : All (λ v. FitsSigned w32 v.0) e.values
   pub each_name : All (λ v. IsName v.1) e.values
   pub ascend : Ascends IsValueBelow e.values
@@ -102,9 +103,9 @@ pub record IsMethod (T : Table) (m : Method) : Type 0 where
   pub output : m.output < length T.messages
 
 pub record IsValid (T : Table) : Type 0 where
-  pub few_messages : length T.messages ≤ 256
-  pub few_enums : length T.enums ≤ 256
-  pub few_methods : length T.methods ≤ 256
+  pub few_messages : length T.messages ≤ MAX_MESSAGES
+  pub few_enums : length T.enums ≤ MAX_ENUMS
+  pub few_methods : length T.methods ≤ MAX_METHODS
   pub enums : All IsEnum T.enums
   pub enums_ascend : Ascends (λ e f. IsBelow e.name f.name) T.enums
   pub messages : All (IsMessage T) T.messages
@@ -112,7 +113,7 @@ pub record IsValid (T : Table) : Type 0 where
   pub types : AreDistinct (map (λ e. e.name) T.enums ++ map (λ m. m.name) T.messages)
   pub methods : All (IsMethod T) T.methods
   pub method_names : AreDistinct {X = List ℕ × List ℕ} (map (λ m. (m.service, m.name)) T.methods)
-  pub short : length (table_text T) ≤ 65536
+  pub short : length (table_text T) ≤ MAX_TEXT
 
 -- valid tables of one text are equal
 abbrev pub HaveOneTextEach : Type 0

@@ -3,31 +3,36 @@
 //! A [`Table`] lists the messages, enums and methods of a schema; a [`Tree`] is one message, its
 //! fields by ascending number. A clause sees a list type of this crate as a plain list, and a
 //! `Tree` as the data of `specs/Node.antt`. It stands on no crate of the project. The layers above
-//! use one contract: a table and its canonical text determine each other, and `IsNormal` says
-//! which trees a message has.
+//! use one contract: `IsValid` says which tables there are and `table_text` what their canonical
+//! text is, and `IsNormal` says which trees a message has. Beside these stands the one vocabulary
+//! of lines and words that all texts of the project are read with.
 #![tactic(auto)]
 
 mod copied;
+mod limits;
 mod memory;
 mod normal;
-mod read;
 mod sequence;
 mod table;
-mod text;
 mod tree;
+mod words;
 
+pub use limits::{
+    MAX_DEPTH, MAX_ENUMS, MAX_FIELDS, MAX_FULL_NAME, MAX_MESSAGES, MAX_METHODS, MAX_NAME, MAX_TEXT,
+    MAX_VALUES,
+};
 pub use memory::Memory;
 pub use normal::fits;
-pub use read::fault::{TableFault, TableReason};
-pub use read::words::is_name;
-pub use read::{one_fault, one_text, read_table};
 pub use sequence::{Bytes, Name, Sequence};
 pub use table::{
     ChoiceValues, Choices, Enums, Field, Fields, Kind, Label, Message, Messages, Method, Methods,
     Names, Table,
 };
-pub use text::table_text;
 pub use tree::{Entries, FieldValue, Numbered, Tree, Value, Values};
+pub use words::{
+    Decimal, cut, is_full_form, is_full_name, is_name, is_name_form, is_short, is_short_full,
+    number_of,
+};
 
 #[cfg(test)]
 mod tests;

@@ -10,15 +10,10 @@ ghost use Rattle.mrpc_table.specs.Valid.{IsValid, IsMessage, IsKnown, Ascends};
 ghost use Rattle.mrpc_table.specs.View.{item_of, items_of, pairs_of, content_of};
 ghost use Rattle.mrpc_table.specs.Fits.{FitsWithin, RestFits, ContentFits, ItemFits, ItemsFit, PairsFit, is_free, taken_after, IsPlaced};
 
+use crate::limits::{MAX_DEPTH, MAX_FIELDS};
 use crate::table::{Field, Kind, Label, Message, Table};
 use crate::tree::{FieldValue, Tree, Value};
 use std::cmp::Ordering;
-
-/// The deepest nesting of messages in a normal tree, the root counting 1.
-const DEPTH: u32 = 32;
-
-/// How many fields a message has at most, and so how many oneofs.
-const FIELDS: usize = 128;
 
 /// Whether the tree is a normal tree of the message: its fields are of the message and ascend, each
 /// number is a word form of its kind, strings are UTF-8, no default stands under implicit presence, no
@@ -29,7 +24,7 @@ pub fn fits(tree: &Tree, table: &Table, msg: u32) -> bool
     requires known { msg < length table.now.messages }
     ensures { IsTrue result ↔ IsNormal table.now msg tree.now }
 {
-    tree_fits(tree, table, msg, DEPTH)
+    tree_fits(tree, table, msg, MAX_DEPTH)
 }
 
 #[cycle(fits)]
@@ -42,7 +37,7 @@ fn tree_fits(tree: &Tree, table: &Table, msg: u32, room: u32) -> bool
         return false;
     }
     let message = &table.messages.as_slice()[msg as usize];
-    let mut taken = [false; FIELDS];
+    let mut taken = [false; MAX_FIELDS];
     fields_fit(tree, message, &mut taken, table, room)
 }
 
@@ -60,7 +55,7 @@ fn fields_fit(tree: &Tree, message: &Message, taken: &mut [bool], table: &Table,
         if *number <= last {
             return false;
         }
-        let Some(field) = field_of(message.fields.as_slice(), *number) else {
+        let Some(field) = message.field(*number) else {
             return false;
         };
         if !content_fits(content, field, table, room) || !take_member(taken, field.label) {
@@ -187,27 +182,11 @@ fn is_run(kind: Kind, bytes: &[u8]) -> bool
     }
 }
 
-// Where a word stands in the order of the numbers of its kind.
-fn rank_of(kind: Kind, word: u64) -> u64
-    ensures { result ≡ rank kind word }
-{
-    match kind {
-        Kind::Int32
-        | Kind::Int64
-        | Kind::Sint32
-        | Kind::Sint64
-        | Kind::Sfixed32
-        | Kind::Sfixed64
-        | Kind::Choice(_) => word.wrapping_add(0x8000_0000_0000_0000),
-        _ => word,
-    }
-}
-
 fn is_before(kind: Kind, first: &Value, second: &Value) -> bool
     ensures { IsTrue result ↔ IsBefore kind (item_of first.now) (item_of second.now) }
 {
     match (first, second) {
-        (Value::Number(m), Value::Number(n)) => rank_of(kind, *m) < rank_of(kind, *n),
+        (Value::Number(m), Value::Number(n)) => kind.rank(*m) < kind.rank(*n),
         (Value::Run(a), Value::Run(b)) => {
             matches!(a.as_slice().cmp(&b.as_slice()), Ordering::Less)
         }
@@ -244,14 +223,4 @@ fn takes_many(label: Label) -> bool
     ensures { IsTrue result ↔ TakesMany label }
 {
     matches!(label, Label::Repeated | Label::Packed)
-}
-
-fn field_of(fields: &[Field], number: u32) -> Option<&Field>
-    requires { Ascends (λ f g. f.number < g.number) fields.now }
-    ensures { option_copied result ≡ field_at fields.now number }
-{
-    match fields.binary_search_by_key(&number, |field| field.number) {
-        Ok(i) => Some(&fields[i]),
-        Err(_) => None,
-    }
 }

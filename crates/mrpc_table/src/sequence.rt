@@ -1,8 +1,11 @@
 //! A list that is kept in a vector. Clauses see the list, and neither room nor place.
 
 ghost use Rattle.std.specs.Prelude.{◌≡◌, ◌≤◌, ◌<◌, ◌+◌, ◌↔◌, ℕ, List, [], ◌∷◌, ◌++◌, length, IsTrue, OnOk, OnErr, IfOk};
+ghost use Rattle.std.specs.Fmt.{decimal, signed_decimal};
+ghost use Rattle.hex.specs.Hex.{encode_lower};
 
 use crate::memory::Memory;
+use itoa::Buffer;
 use std::alloc::Global;
 use std::marker::Model;
 
@@ -115,5 +118,32 @@ impl Sequence<u8> {
     {
         self.items.extend_from_slice(bytes)?;
         Ok(())
+    }
+
+    /// Appends the digits of a decimal number. Without memory the list stays.
+    pub fn append_decimal(&mut self, number: u64) -> Result<(), Memory>
+        ensures ok { OnOk result (self.new ≡ self.old ++ decimal number) }
+        ensures err { OnErr result (self.new ≡ self.old) }
+    {
+        let mut buffer = Buffer::new();
+        self.append(buffer.format(number).as_bytes())
+    }
+
+    /// Appends the digits of a decimal number, behind `-` where it is negative. Without memory the list stays.
+    pub fn append_signed(&mut self, number: i32) -> Result<(), Memory>
+        ensures ok { OnOk result (self.new ≡ self.old ++ signed_decimal number) }
+        ensures err { OnErr result (self.new ≡ self.old) }
+    {
+        let mut buffer = Buffer::new();
+        self.append(buffer.format(number).as_bytes())
+    }
+
+    /// Appends bytes in lower-case hexadecimal digits, two for each byte. Without memory the list stays.
+    pub fn append_hex(&mut self, alloc: Global, bytes: &[u8]) -> Result<(), Memory>
+        ensures ok { OnOk result (self.new ≡ self.old ++ encode_lower bytes.now) }
+        ensures err { OnErr result (self.new ≡ self.old) }
+    {
+        let digits = hex::encode(alloc, bytes)?;
+        self.append(digits.as_bytes())
     }
 }

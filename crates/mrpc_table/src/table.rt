@@ -1,6 +1,13 @@
 //! What a schema says: messages with their fields, enums with their values, methods of services.
 //! Messages and enums are named by their place in the table, from 0.
 
+ghost use Rattle.std.specs.Prelude.{◌≡◌, ◌<◌, length};
+ghost use Rattle.std.specs.Option.{option_copied};
+ghost use Rattle.mrpc_table.specs.Normal.{field_at};
+ghost use Rattle.mrpc_table.specs.Valid.{Ascends, IsValid};
+ghost use Rattle.mrpc_table.specs.Calls.{message_at};
+ghost use Rattle.mrpc_table.specs.Words.{is_numeric, is_key, rank};
+
 use crate::sequence::{Name, Sequence};
 
 /// The kind of a value. A `Message` or a `Choice` names a message or an enum of the table.
@@ -40,6 +47,41 @@ pub enum Kind {
     Message(u32),
     /// An enum by its place in the table: a varint, sign extended to 64 bits.
     Choice(u32),
+}
+
+impl Kind {
+    /// Whether its values are numbers: neither text, bytes nor messages.
+    pub fn is_numeric(self) -> bool
+        ensures { result ≡ is_numeric self }
+    {
+        !matches!(self, Kind::Text | Kind::Octets | Kind::Message(_))
+    }
+
+    /// Whether a map's keys may have it: integral, bool or string.
+    pub fn is_key(self) -> bool
+        ensures { result ≡ is_key self }
+    {
+        !matches!(
+            self,
+            Kind::Float | Kind::Double | Kind::Octets | Kind::Message(_) | Kind::Choice(_)
+        )
+    }
+
+    /// Where the word form of a number stands in the order of the numbers of this kind.
+    pub fn rank(self, word: u64) -> u64
+        ensures { result ≡ rank self word }
+    {
+        match self {
+            Kind::Int32
+            | Kind::Int64
+            | Kind::Sint32
+            | Kind::Sint64
+            | Kind::Sfixed32
+            | Kind::Sfixed64
+            | Kind::Choice(_) => word.wrapping_add(0x8000_0000_0000_0000),
+            _ => word,
+        }
+    }
 }
 
 /// How often a field stands, and how it is written.
@@ -84,6 +126,20 @@ pub struct Message {
     pub oneofs: Names,
 }
 
+impl Message {
+    /// The field of a number, in time by the logarithm of the fields.
+    pub fn field(&self, number: u32) -> Option<&Field>
+        requires { Ascends (λ f g. f.number < g.number) self.now.fields }
+        ensures { option_copied result ≡ field_at self.now.fields number }
+    {
+        let fields = self.fields.as_slice();
+        match fields.binary_search_by_key(&number, |field| field.number) {
+            Ok(place) => Some(&fields[place]),
+            Err(_) => None,
+        }
+    }
+}
+
 /// The values of an enum with their names, by ascending number, then name.
 pub type ChoiceValues = Sequence<(i32, Name)>;
 
@@ -121,4 +177,22 @@ pub struct Table {
     pub messages: Messages,
     pub enums: Enums,
     pub methods: Methods,
+}
+
+impl Table {
+    /// The message that a call of a method has, by its place in the table: the method's input for a
+    /// request, whose number is 0, and its output for a reply.
+    pub fn message_of(&self, method: u16, number: u32) -> u32
+        requires valid { IsValid self.now }
+        requires known { method < length self.now.methods }
+        ensures place { result ≡ message_at self.now method number }
+        ensures within { result < length self.now.messages }
+    {
+        let method = &self.methods.as_slice()[method as usize];
+        if number == 0 {
+            method.input
+        } else {
+            method.output
+        }
+    }
 }

@@ -12,3 +12,4 @@ pub mod TextAnswers
 pub mod ThinTables
 pub mod Tracking
 pub mod Values
+mod Views

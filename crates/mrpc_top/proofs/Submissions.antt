@@ -7,7 +7,8 @@ use Rattle.graph_form.specs.Plain.{IsPlainTable}
 use Rattle.call_ledger.specs.declared.happening.Happening.{Happening}
 use Rattle.call_ledger.specs.declared.happening.Happening.TheVariants.{Took}
 use Rattle.call_ledger.specs.declared.happening.TookCopy.TheVariants.{Copy}
-use Rattle.call_ledger.specs.Calls.{took, message_at}
+use Rattle.mrpc_table.specs.Calls.{message_at}
+use Rattle.call_ledger.specs.Calls.{took}
 use Rattle.script_lang.specs.declared.script.Script.{Script}
 use Rattle.script_lang.proofs.Law.{message_of-request}
 use Rattle.mrpc_top.specs.declared.replay.Run.{Run}

@@ -2,13 +2,13 @@
 use Rattle.std.proofs.Common.{◌≡◌, ◌≢◌, ℕ, ◌+◌, List, ◌++◌, inl, inr, sym, ap, subst, ◌∙◌}
 use Rattle.std.specs.Prelude.{codes}
 use Rattle.std.proofs.lemmas.List.{append_cancel_left}
-use Rattle.mrpc_table.specs.Faults.{IsFirstFault}
-use Rattle.mrpc_table.specs.Reason.{reason_word}
+use Rattle.table_text.specs.Faults.{IsFirstFault}
+use Rattle.table_text.specs.Reason.{reason_word}
 use Rattle.mrpc_table.specs.Text.{table_text}
 use Rattle.mrpc_table.specs.Valid.{IsValid}
 use Rattle.mrpc_table.specs.declared.table.Table.{Table}
-use Rattle.mrpc_table.proofs.FirstFaults.{one_first, none_first}
-use Rattle.mrpc_table.proofs.ReadLemmas.{one_each}
+use Rattle.table_text.proofs.FirstFaults.{one_first, none_first}
+use Rattle.table_text.proofs.ReadLemmas.{one_each}
 use Rattle.script_lang.proofs.Faults.{one_behind}
 use Rattle.mrpc_top.specs.DecodeInput.{Holds, IsTextFault, IsTableText, IsFaultOfTable, first_line, second_line, head}
 use Rattle.mrpc_top.specs.DecodeInput.IsTextFault.{no_first_line, no_second_line, in_table, no_end}

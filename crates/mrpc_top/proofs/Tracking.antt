@@ -1,5 +1,5 @@
 -- A run so far: what has followed the lines that were run, whatever follows the lines that are left.
-use Rattle.std.proofs.Common.{◌≡◌, ℕ, ◌+◌, ◌<◌, ◌≤◌, List, [], ◌∷◌, ◌++◌, length, refl, sym, ap, ◌∙◌, subst, arith, append_assoc, append-nil, length-append, Option, drop, get_or, suc}
+use Rattle.std.proofs.Common.{◌≡◌, ℕ, ◌+◌, ◌<◌, ◌≤◌, ◌^◌, List, [], ◌∷◌, ◌++◌, length, refl, sym, ap, ◌∙◌, subst, arith, append_assoc, append-nil, length-append, Option, drop, get_or, suc}
 use Rattle.std.specs.Prelude.{All, map, count_by, filter}
 use Rattle.std.specs.Io.KnownBytes.{Appends}
 use Rattle.std.proofs.Math.Seq.{drop-cons}
@@ -34,6 +34,7 @@ pub record Tracks (s : Script) (rest : List Line) (run : Run) (h : History) (L :
   pub size : run.heap.size ≡ s.words
   pub races : run.heap.races ≡ []
   pub room : length rest ≤ run.heap.store_room
+  pub near : length run.heap.stores + length rest < 2 ^ 63
   pub few : run.taken + length (filter is_submit rest) ≤ 64
 
 pub record Writes (T : Table) (h : History) (out out' wire wire' : Option (List ℕ)) : Type 0 where
@@ -50,6 +51,7 @@ tracks_fresh s run few fresh = record {
   size = fresh.size;
   races = fresh.races;
   room = fresh.room;
+  near = omega (arith, fresh.near, ap length fresh.stores);
   few = omega (arith, few, fresh.taken, length-filter is_submit s.lines);
 }
 
@@ -63,6 +65,7 @@ track_store s place value rest old new h L t step = record {
   size = step.size ∙ t.size;
   races = step.races ∙ t.races;
   room = omega (arith, t.room, step.room);
+  near = omega (arith, t.near, ap length step.stores, length-append old.heap.stores ((place, value) ∷ []));
   few = omega (arith, t.few, step.taken);
 }
 
@@ -92,6 +95,7 @@ track_submit s addr rest old new h L P t step =
       size = step.own.size ∙ t.size;
       races = step.own.races ∙ t.races;
       room = omega (arith, t.room, step.own.store_room);
+      near = omega (arith, t.near, ap length step.own.stores);
       few = omega (arith, t.few, step.taken);
     }
 
@@ -110,6 +114,7 @@ track_drain s rest old new h L t step =
       size = ap (λ heap. heap.size) step.heap ∙ t.size;
       races = ap (λ heap. heap.races) step.heap ∙ t.races;
       room = omega (arith, t.room, ap (λ heap. heap.store_room) step.heap);
+      near = omega (arith, t.near, ap (λ heap. length heap.stores) step.heap);
       few = omega (arith, t.few, step.taken);
     }
 
@@ -165,7 +170,7 @@ goes_on s Drain rest old new out mid out' wire mid' wire' g d = record {
 
 -- a run may go on by the next line
 pub may_run : (s : Script) (line : Line) (rest : List Line) (run : Run) (out out' wire wire' : Option (List ℕ)) → IsThinTable s.table → IsWithin s.words (field_count s.table) line → Goes s (line ∷ rest) run out out' wire wire' → MayRun s line run
-may_run s (Store place value) rest run out out' wire wire' thin within g = (within.0, omega (arith, within.1, g.tracks.size), omega (arith, g.tracks.room))
+may_run s (Store place value) rest run out out' wire wire' thin within g = (within.0, omega (arith, within.1, g.tracks.size), omega (arith, g.tracks.room), omega (arith, g.tracks.near))
 may_run s (Submit addr) rest run out out' wire wire' thin within g = (within.0, omega (arith, within.1, count_of_thin s.table thin, g.tracks.size), omega (arith, g.tracks.few))
 may_run s Drain rest run out out' wire wire' thin within g = tt
 

@@ -2,10 +2,10 @@
 use Rattle.std.specs.Prelude.{◌≡◌, ◌≢◌, ◌⊎◌, ℕ, ◌+◌, ◌==◌, List, ◌++◌, codes, count_by}
 use Rattle.mrpc_table.specs.Valid.{IsValid}
 use Rattle.mrpc_table.specs.Text.{table_text}
-use Rattle.mrpc_table.specs.Faults.{IsFirstFault}
-use Rattle.mrpc_table.specs.Reason.{reason_word}
+use Rattle.table_text.specs.Faults.{IsFirstFault}
+use Rattle.table_text.specs.Reason.{reason_word}
 use Rattle.mrpc_table.specs.declared.table.Table.{Table}
-use Rattle.mrpc_table.specs.declared.read.fault.TableReason.{TableReason}
+use Rattle.table_text.specs.declared.fault.TableReason.{TableReason}
 use Rattle.script_lang.specs.TableText.{HasTableBehind}
 use Rattle.mrpc_top.specs.declared.decoding.Cut.{Cut}
 use Rattle.mrpc_top.specs.declared.decoding.Cut.TheVariants.{Fault, Memory, Out}

@@ -13,7 +13,7 @@ use Rattle.frame_transport.specs.Frames.{IsFrame, StandFrom, Splits, joined, fau
 use Rattle.frame_transport.specs.declared.format.Frame.{Frame}
 use Rattle.frame_transport.specs.declared.fault.FeedFault.{FeedFault}
 use Rattle.frame_transport.specs.declared.fault.FeedFault.TheVariants.{Version, Kind, TooLong, Memory}
-use Rattle.call_ledger.specs.Calls.{message_at}
+use Rattle.mrpc_table.specs.Calls.{message_at}
 use Rattle.call_ledger.specs.Audit.{hex_word}
 
 -- kinds of frames

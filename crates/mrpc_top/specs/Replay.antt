@@ -1,5 +1,5 @@
 -- A replay as it runs: what stands, and what a submission and a drain change.
-use Rattle.std.specs.Prelude.{◌≡◌, ℕ, ◌+◌, ◌*◌, ◌<◌, ◌≤◌, List, [], ◌∷◌, ◌++◌, length, All, Option}
+use Rattle.std.specs.Prelude.{◌≡◌, ℕ, ◌+◌, ◌*◌, ◌<◌, ◌≤◌, ◌^◌, List, [], ◌∷◌, ◌++◌, length, All, Option}
 use Rattle.std.specs.Io.KnownBytes.{Appends}
 use Rattle.std.specs.List.{flat_map}
 use Rattle.mrpc_table.specs.Normal.{fields_of}
@@ -8,7 +8,8 @@ use Rattle.graph_form.specs.Placed.{Placed, IsSound, loads}
 use Rattle.graph_form.specs.Forgotten.{tree_of}
 use Rattle.call_ledger.specs.declared.happening.Happening.{Happening}
 use Rattle.call_ledger.specs.declared.happening.Happening.TheVariants.{Took, Sent}
-use Rattle.call_ledger.specs.Calls.{Call, History, took, calls, message_at, standing}
+use Rattle.mrpc_table.specs.Calls.{message_at}
+use Rattle.call_ledger.specs.Calls.{Call, History, took, calls, standing}
 use Rattle.call_ledger.specs.Audit.{payload, copy_payload, took_line, sent_line, stands_line, frame_of, audit, frames, stands}
 use Rattle.call_ledger.specs.Fits.{FitsTable}
 use Rattle.call_ledger.specs.Legal.{IsLegal, IsSpelled}
@@ -64,7 +65,7 @@ pub record Submits (s : Script) (addr : ℕ) (old new : Run) (P : Placed) : Type
 
 -- what a line may need of a run
 abbrev pub MayRun : Script → Line → Run → Type 0
-MayRun s (Store place value) run = (1 ≤ place) × (place < run.heap.size) × (0 < run.heap.store_room)
+MayRun s (Store place value) run = (1 ≤ place) × (place < run.heap.size) × (0 < run.heap.store_room) × (length run.heap.stores < 2 ^ 63)
 MayRun s (Submit addr) run = (1 ≤ addr) × (addr + 2 * length (fields_of s.table 0) ≤ run.heap.size) × (run.taken < 64)
 MayRun s Drain run = Unit {0}
 
@@ -80,6 +81,7 @@ pub record IsFresh (s : Script) (run : Run) : Type 0 where
   pub stores : run.heap.stores ≡ []
   pub races : run.heap.races ≡ []
   pub room : length s.lines ≤ run.heap.store_room
+  pub near : length s.lines < 2 ^ 63
   pub standing : run.standing.items ≡ []
   pub taken : run.taken ≡ 0
 

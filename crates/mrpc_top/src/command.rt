@@ -2,7 +2,7 @@
 
 ghost use Rattle.std.specs.Prelude.{◌≡◌, ◌≢◌, ◌↔◌, ◌≤◌, ◌⊎◌, List, ℕ, length, IfOk, IfSome, IfNone, Some};
 ghost use Rattle.std.specs.Io.KnownBytes.{Appends};
-ghost use Rattle.mrpc_base.specs.Faults.{Rose};
+ghost use Rattle.mrpc_base.specs.Faults.{HasCause};
 ghost use Rattle.mrpc_table.specs.declared.table.Table.{Table};
 ghost use Rattle.script_lang.specs.declared.script.Script.{Script};
 ghost use Rattle.script_lang.specs.Thin.{Spells};
@@ -77,14 +77,10 @@ pub fn run_command<S: Source, K: Sink, W: Sink>(
     ensures done { result ≡ DONE → IsReplay words.now.items → Runs (S.left input.old) (K.written out.old) (K.written out.new) (W.written wire.old) (W.written wire.new) }
     // At the end of a decoding: the input is a table's text and whole frames; their lines were written.
     ensures decoded { result ≡ DONE → IsDecode words.now.items → Decodes (S.left input.old) (K.written out.old) (K.written out.new) }
-    ensures input_read { result ≡ DONE → S.faults input.new ≡ S.faults input.old }
-    ensures out_written { result ≡ DONE → K.faults out.new ≡ K.faults out.old }
-    ensures wire_written { result ≡ DONE → W.faults wire.new ≡ W.faults wire.old }
 
     // A faulty input: its first fault was written, and nothing else but the lines of frames in front of it.
     ensures faulty { result ≡ FAULTY_INPUT → IsReplay words.now.items → IsRefused (S.left input.old) (S.left input.new) (K.written out.old) (K.written out.new) }
     ensures cut_short { result ≡ FAULTY_INPUT → IsDecode words.now.items → IsCutShort (S.left input.old) (S.left input.new) (K.written out.old) (K.written out.new) }
-    ensures faulty_written { result ≡ FAULTY_INPUT → K.faults out.new ≡ K.faults out.old }
     ensures faulty_unsent { result ≡ FAULTY_INPUT → wire.new ≡ wire.old }
 
     // No work is done on an input that has a fault.
@@ -94,12 +90,12 @@ pub fn run_command<S: Source, K: Sink, W: Sink>(
     // A decoding sends nothing.
     ensures decode_unsent { IsDecode words.now.items → wire.new ≡ wire.old }
 
-    // Failures of the devices.
-    ensures input_failed { result ≡ INPUT_FAILED → Rose (S.faults input.old) (S.faults input.new) }
+    // Each device is answered for by its own status, and by no other.
+    ensures input_cause { HasCause (result ≡ INPUT_FAILED) (S.faults input.old) (S.faults input.new) }
+    ensures out_cause { HasCause (result ≡ OUTPUT_FAILED) (K.faults out.old) (K.faults out.new) }
+    ensures wire_cause { HasCause (result ≡ WIRE_FAILED) (W.faults wire.old) (W.faults wire.new) }
     ensures unsaid { result ≡ INPUT_FAILED → out.new ≡ out.old }
     ensures unsent { result ≡ INPUT_FAILED → wire.new ≡ wire.old }
-    ensures out_failed { result ≡ OUTPUT_FAILED → Rose (K.faults out.old) (K.faults out.new) }
-    ensures wire_failed { result ≡ WIRE_FAILED → Rose (W.faults wire.old) (W.faults wire.new) }
     ensures faultless { result ≡ WIRE_FAILED → IsReplay words.now.items × IsScript (S.left input.old) }
 {
     match command_of(words) {
@@ -139,21 +135,17 @@ fn run<S: Source, K: Sink, W: Sink>(
     ensures some { result ≢ NO_COMMAND }
     ensures done { result ≡ DONE → command ≡ Command.Replay → Runs (S.left input.old) (K.written out.old) (K.written out.new) (W.written wire.old) (W.written wire.new) }
     ensures decoded { result ≡ DONE → command ≡ Command.Decode → Decodes (S.left input.old) (K.written out.old) (K.written out.new) }
-    ensures input_read { result ≡ DONE → S.faults input.new ≡ S.faults input.old }
-    ensures out_written { result ≡ DONE → K.faults out.new ≡ K.faults out.old }
-    ensures wire_written { result ≡ DONE → W.faults wire.new ≡ W.faults wire.old }
     ensures faulty { result ≡ FAULTY_INPUT → command ≡ Command.Replay → IsRefused (S.left input.old) (S.left input.new) (K.written out.old) (K.written out.new) }
     ensures cut_short { result ≡ FAULTY_INPUT → command ≡ Command.Decode → IsCutShort (S.left input.old) (S.left input.new) (K.written out.old) (K.written out.new) }
-    ensures faulty_written { result ≡ FAULTY_INPUT → K.faults out.new ≡ K.faults out.old }
     ensures faulty_unsent { result ≡ FAULTY_INPUT → wire.new ≡ wire.old }
     ensures refused { (text : List ℕ) → S.left input.old ≡ Some text → command ≡ Command.Replay → HasFault text → (result ≢ DONE) × (result ≢ WIRE_FAILED) }
     ensures undecoded { (text : List ℕ) → S.left input.old ≡ Some text → command ≡ Command.Decode → HasDecodeFault text → result ≢ DONE }
     ensures decode_unsent { command ≡ Command.Decode → wire.new ≡ wire.old }
-    ensures input_failed { result ≡ INPUT_FAILED → Rose (S.faults input.old) (S.faults input.new) }
+    ensures input_cause { HasCause (result ≡ INPUT_FAILED) (S.faults input.old) (S.faults input.new) }
+    ensures out_cause { HasCause (result ≡ OUTPUT_FAILED) (K.faults out.old) (K.faults out.new) }
+    ensures wire_cause { HasCause (result ≡ WIRE_FAILED) (W.faults wire.old) (W.faults wire.new) }
     ensures unsaid { result ≡ INPUT_FAILED → out.new ≡ out.old }
     ensures unsent { result ≡ INPUT_FAILED → wire.new ≡ wire.old }
-    ensures out_failed { result ≡ OUTPUT_FAILED → Rose (K.faults out.old) (K.faults out.new) }
-    ensures wire_failed { result ≡ WIRE_FAILED → Rose (W.faults wire.old) (W.faults wire.new) }
     ensures faultless { result ≡ WIRE_FAILED → (command ≡ Command.Replay) × IsScript (S.left input.old) }
 {
     match read_input(alloc, input) {
@@ -196,13 +188,10 @@ fn replay_text<K: Sink, W: Sink>(alloc: Global, text: &[u8], out: &mut K, wire: 
     ensures statuses { result ≤ WIRE_FAILED }
     ensures some { (result ≢ NO_COMMAND) × (result ≢ INPUT_FAILED) }
     ensures done { result ≡ DONE → (s : Script) × Spells text.now s × Replays s (K.written out.old) (K.written out.new) (W.written wire.old) (W.written wire.new) }
-    ensures out_written { result ≡ DONE → K.faults out.new ≡ K.faults out.old }
-    ensures wire_written { result ≡ DONE → W.faults wire.new ≡ W.faults wire.old }
     ensures faulty { result ≡ FAULTY_INPUT → Refuses text.now (K.written out.old) (K.written out.new) }
-    ensures faulty_written { result ≡ FAULTY_INPUT → K.faults out.new ≡ K.faults out.old }
     ensures faulty_unsent { result ≡ FAULTY_INPUT → wire.new ≡ wire.old }
-    ensures out_failed { result ≡ OUTPUT_FAILED → Rose (K.faults out.old) (K.faults out.new) }
-    ensures wire_failed { result ≡ WIRE_FAILED → Rose (W.faults wire.old) (W.faults wire.new) }
+    ensures out_cause { HasCause (result ≡ OUTPUT_FAILED) (K.faults out.old) (K.faults out.new) }
+    ensures wire_cause { HasCause (result ≡ WIRE_FAILED) (W.faults wire.old) (W.faults wire.new) }
     ensures faultless { result ≡ WIRE_FAILED → (s : Script) × Spells text.now s }
 {
     match read_script(alloc, text) {
@@ -225,10 +214,8 @@ fn decode_text<K: Sink>(alloc: Global, text: &[u8], out: &mut K) -> u8
     ensures statuses { result ≤ OUTPUT_FAILED }
     ensures some { (result ≢ NO_COMMAND) × (result ≢ INPUT_FAILED) }
     ensures done { result ≡ DONE → DecodesText text.now (K.written out.old) (K.written out.new) }
-    ensures out_written { result ≡ DONE → K.faults out.new ≡ K.faults out.old }
     ensures cut { result ≡ FAULTY_INPUT → CutsText text.now (K.written out.old) (K.written out.new) }
-    ensures faulty_written { result ≡ FAULTY_INPUT → K.faults out.new ≡ K.faults out.old }
-    ensures out_failed { result ≡ OUTPUT_FAILED → Rose (K.faults out.old) (K.faults out.new) }
+    ensures out_cause { HasCause (result ≡ OUTPUT_FAILED) (K.faults out.old) (K.faults out.new) }
 {
     let told = match read_head(alloc, text) {
         Ok((table, stream)) => decode_stream(alloc, &table, stream, out),
@@ -246,8 +233,7 @@ fn decode_text<K: Sink>(alloc: Global, text: &[u8], out: &mut K) -> u8
 fn refuse<K: Sink>(alloc: Global, place: u64, word: &[u8], out: &mut K) -> u8
     ensures statuses { (result ≡ FAULTY_INPUT) ⊎ ((result ≡ NO_MEMORY) ⊎ (result ≡ OUTPUT_FAILED)) }
     ensures written { result ≡ FAULTY_INPUT → Appends (K.written out.old) (K.written out.new) (fault_line place word.now) }
-    ensures no_fault { result ≡ FAULTY_INPUT → K.faults out.new ≡ K.faults out.old }
-    ensures failed { result ≡ OUTPUT_FAILED → Rose (K.faults out.old) (K.faults out.new) }
+    ensures cause { HasCause (result ≡ OUTPUT_FAILED) (K.faults out.old) (K.faults out.new) }
 {
     match fault_text(alloc, place, word) {
         Err(Memory) => NO_MEMORY,

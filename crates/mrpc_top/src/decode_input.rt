@@ -6,9 +6,10 @@ ghost use Rattle.mrpc_table.specs.Text.{table_text};
 ghost use Rattle.mrpc_top.specs.DecodeInput.{OnFault, Holds, IsTextFault, IsFaultOfTable};
 
 use crate::decoding::Cut;
-use mrpc_table::{Table, TableFault, read_table};
+use mrpc_table::Table;
 use script_lang::split_table;
 use std::alloc::Global;
+use table_text::{TableFault, read_table};
 
 const FIRST_LINE: &[u8] = b"mrpc-decode 1\n";
 

@@ -2,7 +2,7 @@
 
 ghost use Rattle.std.specs.Prelude.{◌≡◌, ◌≢◌, ◌<◌, ◌+◌, ◌^◌, ◌++◌, [], List, ℕ, codes, length, OnOk, IfErr, Err};
 ghost use Rattle.std.specs.Io.KnownBytes.{Appends};
-ghost use Rattle.mrpc_base.specs.Faults.{Rose};
+ghost use Rattle.mrpc_base.specs.Faults.{HasCause};
 ghost use Rattle.mrpc_table.specs.Valid.{IsValid};
 ghost use Rattle.frame_transport.specs.Frames.{IsFrame};
 ghost use Rattle.frame_transport.specs.Feed.{total};
@@ -10,7 +10,7 @@ ghost use Rattle.mrpc_top.specs.DecodeInput.{OnFault};
 ghost use Rattle.mrpc_top.specs.Decoding.{IsLineOf, IsFaultIn, IsFaultOfHeader, IsDecoded, IsCutAt, hello, hello_line, message_in, call_line};
 ghost use Rattle.mrpc_top.specs.Telling.{Gave, StopsIn, Tells};
 
-use call_ledger::{message_of, put_hex, put_number};
+use call_ledger::{put_hex, put_number};
 use frame_transport::{Feed, FeedFault, Frame, HEADER_LEN};
 use mrpc_base::{Sink, write_all};
 use mrpc_table::{Bytes, Memory, Table};
@@ -64,8 +64,7 @@ pub(crate) fn decode_stream<K: Sink>(
     requires countable { length stream.now < 2 ^ 63 }
     ensures done { OnOk result ((text : List ℕ) × IsDecoded table.now stream.now text × Appends (K.written out.old) (K.written out.new) text) }
     ensures cut { IfErr result (OnFault (λ place word. (text : List ℕ) × IsCutAt table.now 0 stream.now text place word × Appends (K.written out.old) (K.written out.new) text)) }
-    ensures out_same { result ≢ Err Cut.Out → K.faults out.new ≡ K.faults out.old }
-    ensures out_failed { result ≡ Err Cut.Out → Rose (K.faults out.old) (K.faults out.new) }
+    ensures out_cause { HasCause (result ≡ Err Cut.Out) (K.faults out.old) (K.faults out.new) }
 {
     let mut feed = Feed::new(alloc);
     let mut rest = stream;
@@ -73,6 +72,10 @@ pub(crate) fn decode_stream<K: Sink>(
         let (piece, behind) = rest.split_at(rest.len().min(PIECE));
         let mut lines = Bytes::new(alloc);
         let told = tell_piece(alloc, table, &mut feed, piece, &mut lines);
+        // Without memory the lines may be cut anywhere, and none of them is written.
+        if matches!(told, Err(Cut::Memory)) {
+            return Err(Cut::Memory);
+        }
         if !write_all(out, lines.as_slice()) {
             return Err(Cut::Out);
         }
@@ -193,7 +196,7 @@ fn tell_call(alloc: Global, table: &Table, frame: &Frame, lines: &mut Bytes) -> 
     ensures not_out { result ≢ Err Cut.Out }
 {
     let number = if frame.kind == REQUEST { 0 } else { 1 };
-    let message = message_of(table, frame.method, number);
+    let message = table.message_of(frame.method, number);
     match decode(alloc, frame.payload.as_slice(), table, message) {
         Ok(tree) => {
             let bytes = encode(alloc, &tree, table, message)?;

@@ -1,7 +1,7 @@
 //! The whole input of a command.
 
 ghost use Rattle.std.specs.Prelude.{◌≡◌, ◌<◌, ◌≤◌, length, vec_len, IfOk};
-ghost use Rattle.mrpc_base.specs.Faults.{Rose};
+ghost use Rattle.mrpc_base.specs.Faults.{HasCause};
 ghost use Rattle.mrpc_top.specs.Reading.{OnWhole, IsAllOf, ReadsPast};
 
 use mrpc_base::{Got, Source};
@@ -30,8 +30,7 @@ pub(crate) enum Input {
 pub(crate) fn read_input<S: Source>(alloc: Global, input: &mut S) -> Input
     ensures whole { OnWhole result (λ text. (length text ≤ INPUT_LIMIT) × IsAllOf (S.left input.old) text) }
     ensures too_long { result ≡ Input.TooLong → ReadsPast INPUT_LIMIT (S.left input.old) (S.left input.new) }
-    ensures failed { result ≡ Input.Failed → Rose (S.faults input.old) (S.faults input.new) }
-    ensures no_fault { (result ≡ Input.Failed → ⊥) → S.faults input.new ≡ S.faults input.old }
+    ensures cause { HasCause (result ≡ Input.Failed) (S.faults input.old) (S.faults input.new) }
 {
     match buffer(alloc, PIECE) {
         Ok(mut piece) => read_pieces(alloc, input, &mut piece),
@@ -52,8 +51,7 @@ fn read_pieces<S: Source>(alloc: Global, input: &mut S, piece: &mut [u8]) -> Inp
     requires { 0 < length piece.old }
     ensures whole { OnWhole result (λ text. (length text ≤ INPUT_LIMIT) × IsAllOf (S.left input.old) text) }
     ensures too_long { result ≡ Input.TooLong → ReadsPast INPUT_LIMIT (S.left input.old) (S.left input.new) }
-    ensures failed { result ≡ Input.Failed → Rose (S.faults input.old) (S.faults input.new) }
-    ensures no_fault { (result ≡ Input.Failed → ⊥) → S.faults input.new ≡ S.faults input.old }
+    ensures cause { HasCause (result ≡ Input.Failed) (S.faults input.old) (S.faults input.new) }
 {
     let mut text: Vec<u8> = Vec::new(alloc);
     while text.len() <= INPUT_LIMIT {

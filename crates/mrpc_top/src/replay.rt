@@ -1,8 +1,8 @@
 //! A replay: the lines of a script, one after another.
 
-ghost use Rattle.std.specs.Prelude.{◌≡◌, ◌≢◌, ◌+◌, ◌*◌, ◌<◌, ◌≤◌, [], ◌∷◌, length, count_by, All, OnOk, OnErr, IfOk, IfErr, Err};
+ghost use Rattle.std.specs.Prelude.{◌≡◌, ◌≢◌, ◌+◌, ◌*◌, ◌<◌, ◌≤◌, [], ◌∷◌, length, count_by, All, OnOk, IfOk, IfErr, Err};
 ghost use Rattle.std.specs.Io.KnownBytes.{Appends};
-ghost use Rattle.mrpc_base.specs.Faults.{Rose};
+ghost use Rattle.mrpc_base.specs.Faults.{HasCause};
 ghost use Rattle.mrpc_table.specs.Normal.{fields_of};
 ghost use Rattle.mrpc_table.specs.Valid.{IsValid};
 ghost use Rattle.graph_form.specs.Placed.{Placed};
@@ -14,12 +14,15 @@ ghost use Rattle.script_lang.specs.Thin.{is_submit, IsConn};
 ghost use Rattle.mrpc_top.specs.Replay.{accepted, sent_lines, sent_frames, IsSendable, Submits, MayRun, IsReady, IsFresh, Does, Ran, Replays, stands_lines};
 
 use crate::copying::copy_message;
-use call_ledger::{Happening, TookCopy, audit_line, copy_bytes, message_of, stands_line};
+use call_ledger::{Happening, TookCopy, audit_line, copy_bytes, stands_line};
 use frame_transport::{ByteLink, HEADER_LEN, frame};
-use mrpc_base::{Handed, Link, PlainWords, Room, Sink, write_all};
+use mrpc_base::{Handed, Link, PlainWords, Room, Sink, Stores, write_all};
 use mrpc_table::{Memory, Table};
 use script_lang::{Line, Script};
 use std::alloc::{AllocFailed, Global};
+
+/// A heap takes no more stores than this.
+const STORE_LIMIT: u64 = 1 << 63;
 
 /// Why a replay stops before its end.
 #[derive(Clone, Copy, Debug, PartialEq, Eq)]
@@ -80,11 +83,10 @@ fn submit<K: Sink>(
     requires few { run.old.taken < 64 }
     ensures accepts { OnOk result ((P : Placed) × Submits script.now addr run.old run.new P
         × Appends (K.written out.old) (K.written out.new) (took_line script.now.table (accepted script.now run.old addr P))) }
-    ensures no_fault { result ≢ Err Stop.Out → K.faults out.new ≡ K.faults out.old }
-    ensures failed { result ≡ Err Stop.Out → Rose (K.faults out.old) (K.faults out.new) }
+    ensures cause { HasCause (result ≡ Err Stop.Out) (K.faults out.old) (K.faults out.new) }
     ensures not_wire { result ≢ Err Stop.Wire }
 {
-    let after = run.heap.stores_made();
+    let after = run.heap.made();
     let before = run.heap.loads_made();
     let tree = copy_message(alloc, &mut run.heap, &script.table, addr)?;
     let count = run.heap.loads_made() - before;
@@ -108,9 +110,8 @@ fn submit<K: Sink>(
 // A line of the audit.
 fn write_line<K: Sink>(out: &mut K, line: &[u8]) -> Result<(), Stop>
     ensures written { OnOk result (Appends (K.written out.old) (K.written out.new) line.now) }
-    ensures no_fault { OnOk result (K.faults out.new ≡ K.faults out.old) }
-    ensures failed { OnErr result (Rose (K.faults out.old) (K.faults out.new)) }
-    ensures cause { IfErr result (λ stop. stop ≡ Stop.Out) }
+    ensures out_alone { IfErr result (λ stop. stop ≡ Stop.Out) }
+    ensures cause { HasCause (result ≡ Err Stop.Out) (K.faults out.old) (K.faults out.new) }
 {
     if write_all(out, line) {
         Ok(())
@@ -122,8 +123,7 @@ fn write_line<K: Sink>(out: &mut K, line: &[u8]) -> Result<(), Stop>
 // Hands a frame to a link over the wire.
 fn send_frame<W: Sink>(wire: &mut W, frame: &[u8]) -> Result<(), Stop>
     ensures written { OnOk result (Appends (W.written wire.old) (W.written wire.new) frame.now) }
-    ensures wire_same { result ≢ Err Stop.Wire → W.faults wire.new ≡ W.faults wire.old }
-    ensures wire_failed { result ≡ Err Stop.Wire → Rose (W.faults wire.old) (W.faults wire.new) }
+    ensures wire_cause { HasCause (result ≡ Err Stop.Wire) (W.faults wire.old) (W.faults wire.new) }
     ensures not_out { result ≢ Err Stop.Out }
 {
     let mut link = ByteLink::new(wire);
@@ -146,10 +146,8 @@ fn send<K: Sink, W: Sink>(
     requires sendable { IsSendable table.now call.now }
     ensures line { OnOk result (Appends (K.written out.old) (K.written out.new) (sent_lines table.now (calls (call.now ∷ [])))) }
     ensures frame { OnOk result (Appends (W.written wire.old) (W.written wire.new) (sent_frames table.now (calls (call.now ∷ [])))) }
-    ensures out_same { result ≢ Err Stop.Out → K.faults out.new ≡ K.faults out.old }
-    ensures out_failed { result ≡ Err Stop.Out → Rose (K.faults out.old) (K.faults out.new) }
-    ensures wire_same { result ≢ Err Stop.Wire → W.faults wire.new ≡ W.faults wire.old }
-    ensures wire_failed { result ≡ Err Stop.Wire → Rose (W.faults wire.old) (W.faults wire.new) }
+    ensures out_cause { HasCause (result ≡ Err Stop.Out) (K.faults out.old) (K.faults out.new) }
+    ensures wire_cause { HasCause (result ≡ Err Stop.Wire) (W.faults wire.old) (W.faults wire.new) }
 {
     match call {
         Happening::Took {
@@ -160,7 +158,7 @@ fn send<K: Sink, W: Sink>(
             copy,
             ..
         } => {
-            let payload = copy_bytes(alloc, copy, table, message_of(table, *method, *number))?;
+            let payload = copy_bytes(alloc, copy, table, table.message_of(*method, *number))?;
             let (kind, named) = if *number == 0 {
                 (1, *seq)
             } else {
@@ -196,10 +194,8 @@ fn drain<K: Sink, W: Sink>(
     ensures none { OnOk result (run.new.standing.items ≡ []) }
     ensures heap { OnOk result (run.new.heap ≡ run.old.heap) }
     ensures taken { OnOk result (run.new.taken ≡ run.old.taken) }
-    ensures out_same { result ≢ Err Stop.Out → K.faults out.new ≡ K.faults out.old }
-    ensures out_failed { result ≡ Err Stop.Out → Rose (K.faults out.old) (K.faults out.new) }
-    ensures wire_same { result ≢ Err Stop.Wire → W.faults wire.new ≡ W.faults wire.old }
-    ensures wire_failed { result ≡ Err Stop.Wire → Rose (W.faults wire.old) (W.faults wire.new) }
+    ensures out_cause { HasCause (result ≡ Err Stop.Out) (K.faults out.old) (K.faults out.new) }
+    ensures wire_cause { HasCause (result ≡ Err Stop.Wire) (W.faults wire.old) (W.faults wire.new) }
 {
     send_each(alloc, table, &run.standing, out, wire)?;
     run.standing.clear();
@@ -217,10 +213,8 @@ fn send_each<K: Sink, W: Sink>(
     requires sendable { All (IsSendable table.now) standing.now }
     ensures lines { OnOk result (Appends (K.written out.old) (K.written out.new) (sent_lines table.now (calls standing.now))) }
     ensures frames { OnOk result (Appends (W.written wire.old) (W.written wire.new) (sent_frames table.now (calls standing.now))) }
-    ensures out_same { result ≢ Err Stop.Out → K.faults out.new ≡ K.faults out.old }
-    ensures out_failed { result ≡ Err Stop.Out → Rose (K.faults out.old) (K.faults out.new) }
-    ensures wire_same { result ≢ Err Stop.Wire → W.faults wire.new ≡ W.faults wire.old }
-    ensures wire_failed { result ≡ Err Stop.Wire → Rose (W.faults wire.old) (W.faults wire.new) }
+    ensures out_cause { HasCause (result ≡ Err Stop.Out) (K.faults out.old) (K.faults out.new) }
+    ensures wire_cause { HasCause (result ≡ Err Stop.Wire) (W.faults wire.old) (W.faults wire.new) }
 {
     for call in standing {
         send(alloc, table, call, out, wire)?;
@@ -242,10 +236,8 @@ fn run_line<K: Sink, W: Sink>(
     requires ready { IsReady script.now run.old }
     requires may { MayRun script.now line run.old }
     ensures does { OnOk result (Does script.now line run.old run.new (K.written out.old) (K.written out.new) (W.written wire.old) (W.written wire.new)) }
-    ensures out_same { result ≢ Err Stop.Out → K.faults out.new ≡ K.faults out.old }
-    ensures out_failed { result ≡ Err Stop.Out → Rose (K.faults out.old) (K.faults out.new) }
-    ensures wire_same { result ≢ Err Stop.Wire → W.faults wire.new ≡ W.faults wire.old }
-    ensures wire_failed { result ≡ Err Stop.Wire → Rose (W.faults wire.old) (W.faults wire.new) }
+    ensures out_cause { HasCause (result ≡ Err Stop.Out) (K.faults out.old) (K.faults out.new) }
+    ensures wire_cause { HasCause (result ≡ Err Stop.Wire) (W.faults wire.old) (W.faults wire.new) }
 {
     match line {
         Line::Store { place, value } => {
@@ -271,10 +263,8 @@ fn run_lines<K: Sink, W: Sink>(
     requires words { script.now.words ≤ 65536 }
     requires fresh { IsFresh script.now run.old }
     ensures ran { OnOk result (Ran script.now run.new (K.written out.old) (K.written out.new) (W.written wire.old) (W.written wire.new)) }
-    ensures out_same { result ≢ Err Stop.Out → K.faults out.new ≡ K.faults out.old }
-    ensures out_failed { result ≡ Err Stop.Out → Rose (K.faults out.old) (K.faults out.new) }
-    ensures wire_same { result ≢ Err Stop.Wire → W.faults wire.new ≡ W.faults wire.old }
-    ensures wire_failed { result ≡ Err Stop.Wire → Rose (W.faults wire.old) (W.faults wire.new) }
+    ensures out_cause { HasCause (result ≡ Err Stop.Out) (K.faults out.old) (K.faults out.new) }
+    ensures wire_cause { HasCause (result ≡ Err Stop.Wire) (W.faults wire.old) (W.faults wire.new) }
 {
     for line in script.lines.as_slice() {
         run_line(alloc, script, *line, run, out, wire)?;
@@ -285,8 +275,7 @@ fn run_lines<K: Sink, W: Sink>(
 // The lines of the calls that stand at the end.
 fn write_standing<K: Sink>(alloc: Global, standing: &[Happening], out: &mut K) -> Result<(), Stop>
     ensures written { OnOk result (Appends (K.written out.old) (K.written out.new) (stands_lines (calls standing.now))) }
-    ensures out_same { result ≢ Err Stop.Out → K.faults out.new ≡ K.faults out.old }
-    ensures out_failed { result ≡ Err Stop.Out → Rose (K.faults out.old) (K.faults out.new) }
+    ensures out_cause { HasCause (result ≡ Err Stop.Out) (K.faults out.old) (K.faults out.new) }
     ensures not_wire { result ≢ Err Stop.Wire }
 {
     for call in standing {
@@ -297,8 +286,7 @@ fn write_standing<K: Sink>(alloc: Global, standing: &[Happening], out: &mut K) -
 
 fn write_stands<K: Sink>(alloc: Global, call: &Happening, out: &mut K) -> Result<(), Stop>
     ensures written { OnOk result (Appends (K.written out.old) (K.written out.new) (stands_lines (calls (call.now ∷ [])))) }
-    ensures out_same { result ≢ Err Stop.Out → K.faults out.new ≡ K.faults out.old }
-    ensures out_failed { result ≡ Err Stop.Out → Rose (K.faults out.old) (K.faults out.new) }
+    ensures out_cause { HasCause (result ≡ Err Stop.Out) (K.faults out.old) (K.faults out.new) }
     ensures not_wire { result ≢ Err Stop.Wire }
 {
     match call {
@@ -320,7 +308,9 @@ fn begin(alloc: Global, script: &Script) -> Result<Run, Stop>
         Ok(heap) => heap,
         Err(_) => return Err(Stop::Memory),
     };
-    if heap.room_stores(script.lines.len() as u64) == Room::Memory {
+    let lines = script.lines.len() as u64;
+    // There is no room for as many stores as a heap doesn't take.
+    if lines >= STORE_LIMIT || heap.room_stores(lines) == Room::Memory {
         return Err(Stop::Memory);
     }
     Ok(Run {
@@ -343,10 +333,8 @@ pub(crate) fn replay<K: Sink, W: Sink>(
     requires lines { All (IsWithin script.now.words (field_count script.now.table)) script.now.lines }
     requires few { count_by is_submit script.now.lines ≤ 64 }
     ensures done { OnOk result (Replays script.now (K.written out.old) (K.written out.new) (W.written wire.old) (W.written wire.new)) }
-    ensures out_same { result ≢ Err Stop.Out → K.faults out.new ≡ K.faults out.old }
-    ensures out_failed { result ≡ Err Stop.Out → Rose (K.faults out.old) (K.faults out.new) }
-    ensures wire_same { result ≢ Err Stop.Wire → W.faults wire.new ≡ W.faults wire.old }
-    ensures wire_failed { result ≡ Err Stop.Wire → Rose (W.faults wire.old) (W.faults wire.new) }
+    ensures out_cause { HasCause (result ≡ Err Stop.Out) (K.faults out.old) (K.faults out.new) }
+    ensures wire_cause { HasCause (result ≡ Err Stop.Wire) (W.faults wire.old) (W.faults wire.new) }
 {
     let mut run = begin(alloc, script)?;
     run_lines(alloc, script, &mut run, out, wire)?;

@@ -2,12 +2,12 @@
 use Rattle.std.proofs.Common.{◌≡◌, ℕ, ◌+◌, ◌≤◌, List, ◌++◌, length, Result, Ok, Err, refl, ap, subst, ◌∙◌, arith}
 use Rattle.std.specs.Prelude.{codes, IfOk, MatchResult}
 use Rattle.std.proofs.lemmas.List.{length-append}
-use Rattle.mrpc_table.specs.Faults.{IsFirstFault}
+use Rattle.table_text.specs.Faults.{IsFirstFault}
 use Rattle.mrpc_table.specs.Text.{table_text}
 use Rattle.mrpc_table.specs.Valid.{IsValid}
 use Rattle.mrpc_table.specs.declared.table.Table.{Table as TheTable}
-use Rattle.mrpc_table.specs.declared.read.fault.TableReason.{TableReason}
-use Rattle.mrpc_table.proofs.FirstFaults.{one_first, none_first, first_within}
+use Rattle.table_text.specs.declared.fault.TableReason.{TableReason}
+use Rattle.table_text.proofs.FirstFaults.{one_first, none_first, first_within}
 use Rattle.script_lang.specs.declared.script.Script.{Script}
 use Rattle.script_lang.specs.declared.fault.ScriptFault.{ScriptFault}
 use Rattle.script_lang.specs.declared.fault.ScriptFault.TheVariants.{At, Memory as OutOfMemory}

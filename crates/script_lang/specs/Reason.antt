@@ -1,6 +1,6 @@
 -- The words of printed faults.
 use Rattle.std.specs.Prelude.{ℕ, List, codes}
-use Rattle.mrpc_table.specs.Reason.{reason_word as table_word}
+use Rattle.table_text.specs.Reason.{reason_word as table_word}
 use Rattle.script_lang.specs.declared.fault.ScriptReason.{ScriptReason}
 use Rattle.script_lang.specs.declared.fault.ScriptReason.TheVariants.{Table, NotYet, Close}
 

@@ -1,8 +1,8 @@
 -- The text of a table within a text, and its first fault.
 use Rattle.std.specs.Prelude.{◌≡◌, ◌≢◌, ℕ, ◌+◌, List, [], ◌∷◌, ◌++◌, codes, All, Contains}
 use Rattle.std.specs.List.{flat_map}
-use Rattle.mrpc_table.specs.Faults.{IsFirstFault}
-use Rattle.mrpc_table.specs.declared.read.fault.TableReason.{TableReason}
+use Rattle.table_text.specs.Faults.{IsFirstFault}
+use Rattle.table_text.specs.declared.fault.TableReason.{TableReason}
 
 -- the text is the head, the table's text, the first `end` line, and the rest; the table's text is whole lines
 pub record HasTableBehind (head text table rest : List ℕ) : Type 0 where

@@ -3,7 +3,8 @@
 ghost use Rattle.std.specs.Prelude.{◌≡◌};
 ghost use Rattle.script_lang.specs.declared.fault.ScriptFault.TheVariants.{Memory as OutOfMemory};
 
-use mrpc_table::{Memory, TableReason};
+use mrpc_table::Memory;
+use table_text::TableReason;
 use thiserror::Error;
 
 /// What is wrong with a line of a script.

@@ -10,13 +10,13 @@ mod form;
 mod reading;
 mod script;
 mod stage;
-mod table_text;
+mod table_cut;
 mod word;
 
 pub use fault::{ScriptFault, ScriptReason};
 pub use reading::{one_answer, read_script};
 pub use script::{Line, Lines, Script};
-pub use table_text::split_table;
+pub use table_cut::split_table;
 
 #[cfg(test)]
 mod tests;

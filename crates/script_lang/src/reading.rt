@@ -11,10 +11,10 @@ ghost use Rattle.script_lang.specs.declared.fault.ScriptFault.TheVariants.{At};
 use crate::fault::{ScriptFault, ScriptReason};
 use crate::script::Script;
 use crate::stage::Stage;
-use crate::table_text::split_table;
+use crate::table_cut::split_table;
 use crate::word::split_line;
-use mrpc_table::{TableFault, read_table};
 use std::alloc::Global;
+use table_text::{TableFault, read_table};
 
 /// The first two lines.
 const HEAD: &[u8] = b"mrpc-replay 1\ntable\n";
@@ -43,7 +43,7 @@ const HEAD: &[u8] = b"mrpc-replay 1\ntable\n";
 /// `At` has the line at fault, counted from 1, with its reason:
 ///
 /// - `Table` where the first two lines and a line `end` are there, and the lines between aren't the
-///   canonical text of a table. Line and reason are those of [`mrpc_table::read_table`] (`Syntax`,
+///   canonical text of a table. Line and reason are those of [`table_text::read_table`] (`Syntax`,
 ///   `Number`, `Duplicate`, `UnknownType`, `MapKey` or `Limit`), the line as one of the script. It comes
 ///   before the other reasons, even those of lines before it.
 /// - `NotYet` at the first line that isn't a next line of these; a last line without its line feed is none.

@@ -18,7 +18,6 @@ pub mod PairOrder
 pub mod RawTree
 pub mod Reading
 pub mod Rows
-pub mod SmallTable
 pub mod Sorting
 pub mod Sound
 pub mod SpelledNumbers
@@ -26,3 +25,4 @@ pub mod Stands
 pub mod Unique
 pub mod UsableTables
 pub mod WordForms
+mod Views

@@ -6,7 +6,7 @@ use Rattle.std.proofs.lemmas.Bool.Decides.{nat_tests, eqb_tells}
 use Rattle.std.proofs.lemmas.List.{take_more}
 use Rattle.mrpc_table.specs.Node.{Node, no_fields, field, Content, push_field}
 use Rattle.mrpc_table.specs.View.{content_of, node_of}
-use Rattle.mrpc_table.proofs.Views.{node_of-last}
+use Rattle.wire_decode.proofs.Views.{node_of-last}
 use Rattle.mrpc_table.specs.declared.tree.FieldValue.{FieldValue}
 use Rattle.mrpc_table.specs.declared.tree.FieldValue.TheVariants.{One}
 use Rattle.mrpc_table.specs.declared.tree.Value.TheVariants.{Number}

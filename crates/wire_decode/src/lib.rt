@@ -25,8 +25,6 @@ mod merge;
 mod number;
 mod oneof;
 mod read;
-#[cfg(test)]
-mod tests;
 
 use crate::look_up::fields_of;
 use crate::merge::merged;

@@ -1,5 +1,4 @@
 pub mod FieldPlaces
 pub mod Parts
-pub mod SmallTable
 pub mod Standing
 pub mod Weights

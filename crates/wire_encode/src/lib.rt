@@ -15,8 +15,6 @@ ghost use Rattle.wire_encode.specs.Written.{capped, AllAscend, FieldsAscend};
 
 mod look_up;
 mod size;
-#[cfg(test)]
-mod tests;
 mod write;
 
 use crate::look_up::fields_of;

@@ -8,5 +8,5 @@ loop-done-preserved g c = record {
   within = omega (arith, c.in-Took.ensures.count, length-drop c.loop-done.done c.args.bytes.now);
   front = rw take-add (appends-more _ _ _ _ _ c.loop-done.invariant.front (rw (rest-whole c.args.bytes.now c.loop-done.done) at c.in-Took.ensures.appended));
   untouched = λ none. absurd (omega (arith, none, c.in-Took.ensures.count));
-  no_fault = c.in-Took.ensures.no_fault (search rules) ∙ c.loop-done.invariant.no_fault;
+  no_fault = c.in-Took.ensures.cause.stays (search rules) ∙ c.loop-done.invariant.no_fault;
 }

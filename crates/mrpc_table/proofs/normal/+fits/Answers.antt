@@ -6,17 +6,17 @@ use Rattle.mrpc_table.proofs.normal.+fits.Goals as goal
 
 pub fields_fit-content_fits-requires : goal.fields_fit-content_fits-requires
 fields_fit-content_fits-requires t c =
-    let e : field_at c.args.message.now.fields c.loop-number-item.result.0 ≡ Some c.in-Some.field.now = rw (← c.as_slice.ensures) (sym c.in-Some.ensures) in
+    let e : field_at c.args.message.now.fields c.loop-number-item.result.0 ≡ Some c.in-Some.field.now = sym c.in-Some.ensures in
     (omega arith, (c.requires.valid, (kind_known c.args.table.now c.args.message.now c.loop-number-item.result.0 c.in-Some.field.now c.requires.message e, map_key_known c.args.table.now c.args.message.now c.loop-number-item.result.0 c.in-Some.field.now c.requires.message e)))
 
 pub fields_fit-take_member-requires : goal.fields_fit-take_member-requires
 fields_fit-take_member-requires t c =
-    let e : field_at c.args.message.now.fields c.loop-number-item.result.0 ≡ Some c.in-Some.field.now = rw (← c.as_slice.ensures) (sym c.in-Some.ensures) in
+    let e : field_at c.args.message.now.fields c.loop-number-item.result.0 ≡ Some c.in-Some.field.now = sym c.in-Some.ensures in
     label_placed c.args.table.now c.args.message.now c.loop-number-item.result.0 (length c.loop-number.taken) c.in-Some.field.now c.requires.message e c.loop-number.invariant.1
 
 pub fields_fit-loop-number-preserved : goal.fields_fit-loop-number-preserved
 fields_fit-loop-number-preserved t c =
-    let e : field_at c.args.message.now.fields c.loop-number-item.result.0 ≡ Some c.in-Some.field.now = rw (← c.as_slice.ensures) (sym c.in-Some.ensures) in
+    let e : field_at c.args.message.now.fields c.loop-number-item.result.0 ≡ Some c.in-Some.field.now = sym c.in-Some.ensures in
     let placed = label_placed c.args.table.now c.args.message.now c.loop-number-item.result.0 (length c.loop-number.taken) c.in-Some.field.now c.requires.message e c.loop-number.invariant.1 in
     let fits = c.if-not-content_fits.ensures.0 refl in
     let free = sym c.if-not-take_member.ensures.free in

@@ -4,7 +4,7 @@ use Rattle.mrpc_table.specs.Node.{one, number, push_field}
 use Rattle.mrpc_table.specs.View.{node_of}
 use Rattle.mrpc_table.specs.declared.tree.FieldValue.TheVariants.{One}
 use Rattle.mrpc_table.specs.declared.tree.Value.TheVariants.{Number}
-use Rattle.mrpc_table.proofs.Views.{node_of-last}
+use Rattle.mrpc_top.proofs.Views.{node_of-last}
 use Rattle.mrpc_top.proofs.copying.keep_number.Goals as goal
 
 pub returns-in_ok-push : goal.returns-in_ok-push

@@ -1,5 +1,5 @@
 use Rattle.std.proofs.Common.{arith}
-use Rattle.mrpc_table.proofs.FirstFaults.{first_within}
+use Rattle.table_text.proofs.FirstFaults.{first_within}
 use Rattle.mrpc_top.proofs.decode_input.read_lines.Goals as goal
 
 pub overflow_add-line : goal.overflow_add-line

@@ -1,5 +1,6 @@
 use Rattle.std.proofs.Common.{◌≡◌, ◌≢◌, ◌∙◌, [], ◌++◌, List, ℕ, codes, refl, sym, ap, subst, append_assoc, append-nil, arith}
 use Rattle.std.specs.Io.KnownBytes.{Appends}
+use Rattle.std.proofs.lemmas.Bool.{true≢false}
 use Rattle.std.proofs.lemmas.Bool.Decides.{nat_tests}
 use Rattle.std.proofs.lemmas.List.{nil_from_length}
 use Rattle.std.proofs.lemmas.Result.{err_from_is_err_and, IfErr-weaker}
@@ -48,7 +49,7 @@ loop-rest-preserved g c =
     let behind = c.split_at.result.1.now in
     let told = c.in_ok-told.ensures.told in
     let written : c.as_slice.result.now ≡ told.0 = c.as_slice.ensures ∙ told.1 ∙ ap (λ (bs : List ℕ). bs ++ told.0) c.new-lines.ensures in
-    let same : g.K.Sink.faults c.write_all.new.out ≡ g.K.Sink.faults c.loop-rest.out = c.if-not-write_all.ensures.no_fault refl in (
+    let same : g.K.Sink.faults c.write_all.new.out ≡ g.K.Sink.faults c.loop-rest.out = c.if-not-write_all.ensures.cause.stays true≢false in (
       record {
         done = before.0.done ++ piece;
         text = before.0.text ++ told.0;

@@ -1,7 +1,7 @@
 use Rattle.std.proofs.Common.{◌≡◌, ◌==◌, ◌+◌, ◌∙◌, ◌++◌, List, ℕ, if◌then◌else◌, arith, ap, refl, subst}
 use Rattle.std.proofs.lemmas.Bool.Decides.{nat_tests}
 use Rattle.mrpc_top.specs.Decoding.{line_of_call, message_in, call_line}
-use Rattle.call_ledger.specs.Calls.{message_at}
+use Rattle.mrpc_table.specs.Calls.{message_at}
 use Rattle.wire_base.specs.Encoding.{encoding}
 use Rattle.wire_decode.specs.Means.{Means}
 use Rattle.wire_decode.specs.Reason.{reason_word}

@@ -35,8 +35,8 @@ loop-line-preserved g c =
       goes_on s (get_or items i (Store 0 0)) (drop (i + 1) s.lines) c.loop-line.run c.run_line.new.run _ _ _ _ _ _
           (subst (λ rest. Goes s rest c.loop-line.run (g.K.Sink.written c.args.out.now) (g.K.Sink.written c.loop-line.out) (g.W.Sink.written c.args.wire.now) (g.W.Sink.written c.loop-line.wire)) (next_line items s.lines i (Store 0 0) c.as_slice-line-items.ensures c.loop-line-test.true) c.loop-line.invariant.0)
           c.in_ok-run_line.ensures.does,
-      c.in_ok-run_line.ensures.out_same (λ e. cc) ∙ c.loop-line.invariant.1,
-      c.in_ok-run_line.ensures.wire_same (λ e. cc) ∙ c.loop-line.invariant.2,
+      c.in_ok-run_line.ensures.out_cause.stays (λ e. cc) ∙ c.loop-line.invariant.1,
+      c.in_ok-run_line.ensures.wire_cause.stays (λ e. cc) ∙ c.loop-line.invariant.2,
     )
 
 pub returns-clause-ran : goal.returns-clause-ran

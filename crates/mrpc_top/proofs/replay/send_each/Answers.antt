@@ -14,6 +14,6 @@ loop-call-preserved g c =
         frames = subst (Appends (g.W.Sink.written c.args.wire.now) (g.W.Sink.written c.send.new.wire)) (sym (made-more (frame_of c.args.table.now) c.args.standing.now c.loop-call.call-index c.call-item.result c.loop-call-test.true c.call-item.is))
             (appends-more _ _ _ _ _ before.0.frames c.in_ok-send.ensures.frame);
       },
-      c.in_ok-send.ensures.out_same (λ e. cc) ∙ before.1,
-      c.in_ok-send.ensures.wire_same (λ e. cc) ∙ before.2,
+      c.in_ok-send.ensures.out_cause.stays (λ e. cc) ∙ before.1,
+      c.in_ok-send.ensures.wire_cause.stays (λ e. cc) ∙ before.2,
     )

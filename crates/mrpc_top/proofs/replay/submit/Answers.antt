@@ -8,9 +8,9 @@ use Rattle.mrpc_top.proofs.replay.submit.Goals as goal
 
 pub returns-clause-accepts : goal.returns-clause-accepts
 returns-clause-accepts g c =
-    let r : Recorded c.args.script.now c.args.addr c.args.run.now c.copy_message.new.heap c.stores_made-after.result c.loads_made-before.result c.loads_made.result c.in_ok-tree.tree = record {
+    let r : Recorded c.args.script.now c.args.addr c.args.run.now c.copy_message.new.heap c.made-after.result c.loads_made-before.result c.loads_made.result c.in_ok-tree.tree = record {
       copied = c.in_ok-tree.ensures;
-      after_is = c.stores_made-after.ensures;
+      after_is = c.made-after.ensures;
       before_is = c.loads_made-before.ensures;
       now_is = c.loads_made.ensures;
     } in

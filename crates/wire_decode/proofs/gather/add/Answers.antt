@@ -1,7 +1,7 @@
 use Rattle.std.proofs.Common.{◌∙◌, ap}
 use Rattle.mrpc_table.specs.Node.{push_field}
 use Rattle.mrpc_table.specs.View.{node_of, content_of}
-use Rattle.mrpc_table.proofs.Views.{node_of-last}
+use Rattle.wire_decode.proofs.Views.{node_of-last}
 use Rattle.wire_decode.proofs.Adding.{added-next, added-same, added-at}
 use Rattle.wire_decode.proofs.gather.add.Goals as goal
 

@@ -5,7 +5,7 @@ use Rattle.std.proofs.lemmas.Iterator.Adapters.{YieldsList-from_vec}
 use Rattle.std.proofs.lemmas.Iterator.Consumers.{YieldsList-end}
 use Rattle.mrpc_table.specs.Node.{no_fields, Item}
 use Rattle.mrpc_table.specs.View.{item_of, content_of, node_of}
-use Rattle.mrpc_table.proofs.Views.{node_of-last}
+use Rattle.wire_decode.proofs.Views.{node_of-last}
 use Rattle.mrpc_table.specs.declared.tree.FieldValue.{FieldValue}
 use Rattle.wire_decode.specs.Merged.{merged, part, singles_in, contents_of, join_fields, with_content}
 use Rattle.wire_decode.specs.Gathered.{finished_of, MeansAll}

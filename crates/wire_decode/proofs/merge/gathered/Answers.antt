@@ -5,7 +5,7 @@ use Rattle.std.proofs.lemmas.Iterator.Consumers.{YieldsList-turn, YieldsList-so_
 use Rattle.mrpc_table.specs.Node.{Node}
 use Rattle.mrpc_table.specs.View.{node_of, content_of}
 use Rattle.mrpc_table.specs.declared.tree.FieldValue.{FieldValue}
-use Rattle.mrpc_table.proofs.Views.{node_of-last}
+use Rattle.wire_decode.proofs.Views.{node_of-last}
 use Rattle.wire_decode.specs.Gathered.{IsGathered, AreAtMost}
 use Rattle.wire_decode.proofs.Adding.{gathered-more}
 use Rattle.wire_decode.proofs.Sorting.{fall-most}

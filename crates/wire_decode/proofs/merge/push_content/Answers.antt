@@ -2,7 +2,7 @@ use Rattle.std.proofs.Common.{◌∙◌, ap, sym}
 use Rattle.std.specs.Option.{option_map}
 use Rattle.mrpc_table.specs.Node.{no_fields}
 use Rattle.mrpc_table.specs.View.{node_of, content_of}
-use Rattle.mrpc_table.proofs.Views.{node_of-last}
+use Rattle.wire_decode.proofs.Views.{node_of-last}
 use Rattle.wire_decode.specs.Merged.{join_fields, with_content}
 use Rattle.wire_decode.proofs.Reading.{join-none}
 use Rattle.wire_decode.proofs.Merging.{push-join}

@@ -2,7 +2,7 @@ use Rattle.std.proofs.Common.{◌∙◌, ap, sym, subst, List}
 use Rattle.std.specs.Prelude.{reverse}
 use Rattle.mrpc_table.specs.Node.{no_fields, field}
 use Rattle.mrpc_table.specs.View.{node_of, content_of}
-use Rattle.mrpc_table.proofs.Views.{node_of-last}
+use Rattle.wire_decode.proofs.Views.{node_of-last}
 use Rattle.wire_decode.specs.declared.oneof.Behind.{Behind}
 use Rattle.wire_decode.specs.Merged.{join_fields}
 use Rattle.wire_decode.specs.Behind.{Tell}

@@ -2,7 +2,7 @@ use Rattle.std.proofs.Common.{◌≡◌, ◌≢◌, ◌∙◌, ℕ, suc, ◌-◌
 use Rattle.std.proofs.lemmas.Result.{err_from_is_err_and}
 use Rattle.mrpc_table.specs.Node.{Node, Content, one, number}
 use Rattle.std.proofs.lemmas.Option.{slice_get_read}
-use Rattle.mrpc_table.proofs.Views.{node_of-last}
+use Rattle.wire_decode.proofs.Views.{node_of-last}
 use Rattle.mrpc_table.specs.View.{content_of, node_of}
 use Rattle.mrpc_table.specs.declared.table.Field.{Field}
 use Rattle.mrpc_table.specs.declared.table.Kind.TheVariants.{Text, Octets, Message as OfMessage}

@@ -4,7 +4,7 @@ use Rattle.wire_base.specs.Records.{PayloadAt}
 use Rattle.wire_base.specs.declared.records.Payload.{Payload}
 use Rattle.mrpc_table.specs.Node.{push_item, number}
 use Rattle.mrpc_table.specs.View.{items_of}
-use Rattle.mrpc_table.proofs.Views.{items_of-last}
+use Rattle.wire_decode.proofs.Views.{items_of-last}
 use Rattle.mrpc_table.specs.declared.tree.Value.TheVariants.{Number}
 use Rattle.wire_decode.proofs.Elements.{IsElement, sofar-more, sofar-end, sofar-stuck, numbers-last}
 use Rattle.wire_decode.proofs.Faulty.{faults_as}

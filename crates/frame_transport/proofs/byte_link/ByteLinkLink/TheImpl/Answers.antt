@@ -11,7 +11,7 @@ receive-tells g c =
       ends = λ _. c.ensures.ended;
       same_ended = λ other. absurd (other c.ensures.end);
       same_handed = c.ensures.same_handed;
-      failed = λ e. cc;
-      no_fault = λ _. same_faults;
-      never_falls = omega (arith, same_faults);
+      idle = λ e. cc;
+      end = λ _. tt;
+      cause = record { rose = λ e. cc; stays = λ _. same_faults; never_falls = omega (arith, same_faults) };
     }

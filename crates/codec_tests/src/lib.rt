@@ -1,0 +1,6 @@
+//! Tests that need a table and several crates at once: the codec, the sizes of graphs, and the lines of the audit. It
+//! has no code of its own, and nothing stands on it.
+#![tactic(auto)]
+
+#[cfg(test)]
+mod tests;

@@ -1,0 +1,19 @@
+ghost use Rattle.std.specs.Prelude.{IsTrue};
+
+/// Whether a worker may give a connection a round. No clause says which answer comes.
+pub trait Gate: Sync {
+    /// Whether connection `conn` may have a round now.
+    fn open(&self, conn: u32) -> bool;
+}
+
+/// A gate that is always open.
+#[derive(Clone, Copy, Debug, PartialEq, Eq)]
+pub struct OpenGate;
+
+impl Gate for OpenGate {
+    fn open(&self, _conn: u32) -> bool
+        ensures { IsTrue result }
+    {
+        true
+    }
+}

@@ -1,9 +1,0 @@
-use Rattle.std.proofs.Common.{◌∙◌, ap, sym, List, ℕ}
-use Rattle.mrpc_table.specs.Faults.{is_below}
-use Rattle.mrpc_table.proofs.LastLemmas.{falls_last}
-use Rattle.mrpc_table.proofs.read.draft.is_below_last_message.Goals as goal
-
-pub returns-in-Some : goal.returns-in-Some
-returns-in-Some c =
-    c.is_below.ensures ∙ ap (λ (n : List ℕ). is_below c.args.name.now n) c.as_slice.ensures
-    ∙ falls_last (λ e. e.name) c.args.name.now c.args.messages.now c.in-Some.last.now (sym c.in-Some.ensures.value)

@@ -1,8 +1,0 @@
-use Rattle.mrpc_table.proofs.ReadLemmas.{is_accepted, is_only}
-use Rattle.mrpc_table.proofs.read.read_table.Goals as goal
-
-pub returns-clause-accepted : goal.returns-clause-accepted
-returns-clause-accepted c = is_accepted c.args.text.now c.read_lines.result c.read_lines.ensures.table c.read_lines.ensures.clean
-
-pub returns-clause-only : goal.returns-clause-only
-returns-clause-only c = is_only c.args.text.now c.read_lines.result c.read_lines.ensures.table c.read_lines.ensures.fault

@@ -1,0 +1,185 @@
+-- The names beside a draft, once a line was added.
+use Rattle.std.proofs.Common.{◌≡◌, ℕ, ℤ, List, [], ◌∷◌, ◌++◌, map, Option, Some, None, refl, ap, sym, subst, ◌∙◌}
+use Rattle.std.proofs.lemmas.List.{append-nil}
+use Rattle.table_text.specs.Faults.{Types, Before, nothing, values, fields, after, method_key}
+use Rattle.table_text.specs.Faults as faults
+use Rattle.table_text.specs.Places.{Holds}
+use Rattle.table_text.specs.Drafts.{open_enum, open_message, open_part, enum_names, message_names, method_names, names_in, oneofs_of, before, closed, with_enum, with_message, with_value, with_field, with_part, field_of, method_of, added}
+use Rattle.table_text.specs.Readers.{IsKept}
+use Rattle.mrpc_table.specs.declared.table.Field.{Field as TheField}
+use Rattle.mrpc_table.specs.declared.table.Message.{Message as TheMessage}
+use Rattle.mrpc_table.specs.declared.table.Choices.{Choices}
+use Rattle.mrpc_table.specs.declared.table.Method.{Method as TheMethod}
+use Rattle.table_text.specs.declared.line.Whole.{Whole}
+use Rattle.table_text.specs.declared.line.Whole.TheVariants.{Low, Within, High}
+use Rattle.table_text.specs.declared.line.FieldLine.{FieldLine}
+use Rattle.table_text.specs.declared.line.Line.{Line}
+use Rattle.table_text.specs.declared.line.Line.TheVariants.{Enum, Value, Message, Field, Method}
+use Rattle.table_text.specs.declared.draft.Open.{Open}
+use Rattle.table_text.specs.declared.draft.Open.TheVariants as open_parts
+use Rattle.table_text.specs.declared.draft.Draft.{Draft}
+use Rattle.table_text.specs.declared.places.Places.{Places}
+use Rattle.table_text.specs.declared.reader.Reader.{Reader}
+
+pub map_push : {X Y : Type 0} (f : X → Y) (xs : List X) (x : X) → map f (xs ++ x ∷ []) ≡ map f xs ++ f x ∷ []
+map_push f [] x = refl
+map_push f (y ∷ ys) x = ap (λ zs. f y ∷ zs) (map_push f ys x)
+
+pub closed_enums : (o : Open) (es : List Choices) → map (λ e. e.name) (with_enum o es) ≡ map (λ e. e.name) es ++ open_enum o
+closed_enums (open_parts.Enum c) es = map_push (λ e. e.name) es c
+closed_enums (open_parts.Message m) es = sym (append-nil (map (λ e. e.name) es))
+closed_enums open_parts.Nothing es = sym (append-nil (map (λ e. e.name) es))
+
+pub closed_messages : (o : Open) (ms : List TheMessage) → map (λ m. m.name) (with_message o ms) ≡ map (λ m. m.name) ms ++ open_message o
+closed_messages (open_parts.Enum c) ms = sym (append-nil (map (λ m. m.name) ms))
+closed_messages (open_parts.Message m) ms = map_push (λ m. m.name) ms m
+closed_messages open_parts.Nothing ms = sym (append-nil (map (λ m. m.name) ms))
+
+value_added : (d : Draft) (o : Open) (z : Whole) (name : List ℕ) → before (with_part (with_part d o) (with_value o z name)) ≡ record (before (with_part d o)) { open_part = faults.with_value (open_part o) z name }
+value_added d (open_parts.Enum c) (Within z) name = refl
+value_added d (open_parts.Enum c) Low name = refl
+value_added d (open_parts.Enum c) High name = refl
+value_added d (open_parts.Message m) (Within z) name = refl
+value_added d (open_parts.Message m) Low name = refl
+value_added d (open_parts.Message m) High name = refl
+value_added d open_parts.Nothing (Within z) name = refl
+value_added d open_parts.Nothing Low name = refl
+value_added d open_parts.Nothing High name = refl
+
+abbrev pub numbered : TheField → ℕ × List ℕ
+numbered f = (f.number, f.name)
+
+field_added : (t : Types) (d : Draft) (o : Open) (n : Option ℕ) (f : FieldLine) → before (with_part (with_part d o) (with_field t o n f)) ≡ record (before (with_part d o)) { open_part = faults.with_field (open_part o) n f.name }
+field_added t d (open_parts.Message m) (Some n) f = ap (λ (fs : List (ℕ × List ℕ)). record (before (with_part d (open_parts.Message m))) { open_part = fields fs }) (map_push numbered m.fields (field_of t m.oneofs n f))
+field_added t d (open_parts.Message m) None f = refl
+field_added t d (open_parts.Enum c) (Some n) f = refl
+field_added t d (open_parts.Enum c) None f = refl
+field_added t d open_parts.Nothing (Some n) f = refl
+field_added t d open_parts.Nothing None f = refl
+
+-- what a line adds to the names is what it adds to the draft
+pub before_added : (t : Types) (d : Draft) (l : Line) → before (added t d l) ≡ after (before d) l
+before_added t d (Enum name) =
+    let es = ap (λ (ns : List (List ℕ)). ns ++ name ∷ []) (closed_enums d.open_part d.enums) in
+    let ms = append-nil (map (λ m. m.name) (with_message d.open_part d.messages)) ∙ closed_messages d.open_part d.messages in
+    rw (es, ms) refl
+before_added t d (Value z name) = value_added d d.open_part z name
+before_added t d (Message name) =
+    let ms = ap (λ (ns : List (List ℕ)). ns ++ name ∷ []) (closed_messages d.open_part d.messages) in
+    let es = append-nil (map (λ c. c.name) (with_enum d.open_part d.enums)) ∙ closed_enums d.open_part d.enums in
+    rw (es, ms) refl
+before_added t d (Field f) = field_added t d d.open_part f.number f
+before_added t d (Method m) =
+    let es = append-nil (map (λ c. c.name) (with_enum d.open_part d.enums)) ∙ closed_enums d.open_part d.enums in
+    let ms = append-nil (map (λ m. m.name) (with_message d.open_part d.messages)) ∙ closed_messages d.open_part d.messages in
+    let ks = map_push (λ (m : TheMethod). m.service ++ 32 ∷ m.name) d.methods (method_of t m) in
+    rw (es, ms, ks) refl
+
+pub kept_enum : (t : Types) (r : Reader) (e : Draft) (name : List ℕ) (ps inner oneofs : Places) → e ≡ closed r.draft → IsKept t r → Holds ps (enum_names r.draft ++ name ∷ []) → Holds inner [] → Holds oneofs []
+    → IsKept t (record {
+      known_enums = r.known_enums;
+      known_messages = r.known_messages;
+      draft = record { enums = e.enums; messages = e.messages; methods = e.methods; open_part = open_parts.Enum (record { name = name; values = [] }) };
+      enum_names = ps;
+      message_names = r.message_names;
+      method_names = r.method_names;
+      inner_names = inner;
+      oneofs = oneofs;
+    })
+kept_enum t r e name ps inner oneofs is h added none no_oneofs = record {
+  enums = h.enums;
+  messages = h.messages;
+  enum_names = subst (λ ns. Holds ps (ns ++ name ∷ [])) (sym (ap (λ (d : Draft). map (λ c. c.name) d.enums) is ∙ closed_enums r.draft.open_part r.draft.enums)) added;
+  message_names = subst (Holds r.message_names) (sym (append-nil (map (λ m. m.name) e.messages) ∙ ap (λ (d : Draft). map (λ m. m.name) d.messages) is ∙ closed_messages r.draft.open_part r.draft.messages)) h.message_names;
+  method_names = subst (Holds r.method_names) (sym (ap method_names is)) h.method_names;
+  inner_names = none;
+  oneofs = no_oneofs;
+}
+
+pub kept_message : (t : Types) (r : Reader) (e : Draft) (name : List ℕ) (ps inner oneofs : Places) → e ≡ closed r.draft → IsKept t r → Holds ps (message_names r.draft ++ name ∷ []) → Holds inner [] → Holds oneofs []
+    → IsKept t (record {
+      known_enums = r.known_enums;
+      known_messages = r.known_messages;
+      draft = record { enums = e.enums; messages = e.messages; methods = e.methods; open_part = open_parts.Message (record { name = name; fields = []; oneofs = [] }) };
+      enum_names = r.enum_names;
+      message_names = ps;
+      method_names = r.method_names;
+      inner_names = inner;
+      oneofs = oneofs;
+    })
+kept_message t r e name ps inner oneofs is h added none no_oneofs = record {
+  enums = h.enums;
+  messages = h.messages;
+  enum_names = subst (Holds r.enum_names) (sym (append-nil (map (λ c. c.name) e.enums) ∙ ap (λ (d : Draft). map (λ c. c.name) d.enums) is ∙ closed_enums r.draft.open_part r.draft.enums)) h.enum_names;
+  message_names = subst (λ ns. Holds ps (ns ++ name ∷ [])) (sym (ap (λ (d : Draft). map (λ m. m.name) d.messages) is ∙ closed_messages r.draft.open_part r.draft.messages)) added;
+  method_names = subst (Holds r.method_names) (sym (ap method_names is)) h.method_names;
+  inner_names = none;
+  oneofs = no_oneofs;
+}
+
+pub kept_method : (t : Types) (r : Reader) (e : Draft) (methods : List TheMethod) (m : TheMethod) (ps inner oneofs : Places) → e ≡ closed r.draft → methods ≡ e.methods ++ m ∷ [] → IsKept t r → Holds ps (method_names r.draft ++ (m.service ++ 32 ∷ m.name) ∷ []) → Holds inner [] → Holds oneofs []
+    → IsKept t (record {
+      known_enums = r.known_enums;
+      known_messages = r.known_messages;
+      draft = record { enums = e.enums; messages = e.messages; methods = methods; open_part = e.open_part };
+      enum_names = r.enum_names;
+      message_names = r.message_names;
+      method_names = ps;
+      inner_names = inner;
+      oneofs = oneofs;
+    })
+kept_method t r e methods m ps inner oneofs is more h added none no_oneofs =
+    let part : e.open_part ≡ open_parts.Nothing = ap (λ (d : Draft). d.open_part) is in
+    let key : TheMethod → List ℕ = λ m. m.service ++ 32 ∷ m.name in
+    record {
+      enums = h.enums;
+      messages = h.messages;
+      enum_names = subst (Holds r.enum_names) (sym (ap (λ (o : Open). map (λ c. c.name) e.enums ++ open_enum o) part ∙ append-nil (map (λ c. c.name) e.enums) ∙ ap (λ (d : Draft). map (λ c. c.name) d.enums) is ∙ closed_enums r.draft.open_part r.draft.enums)) h.enum_names;
+      message_names = subst (Holds r.message_names) (sym (ap (λ (o : Open). map (λ m. m.name) e.messages ++ open_message o) part ∙ append-nil (map (λ m. m.name) e.messages) ∙ ap (λ (d : Draft). map (λ m. m.name) d.messages) is ∙ closed_messages r.draft.open_part r.draft.messages)) h.message_names;
+      method_names = subst (Holds ps) (sym (ap (map key) more ∙ map_push key e.methods m ∙ ap (λ (d : Draft). map key d.methods ++ key m ∷ []) is)) added;
+      inner_names = subst (λ (o : Open). Holds inner (names_in (open_part o))) (sym part) none;
+      oneofs = subst (λ (o : Open). Holds oneofs (oneofs_of o)) (sym part) no_oneofs;
+    }
+
+pub kept_value : (t : Types) (r : Reader) (c : Choices) (z : ℤ) (name : List ℕ) (vs : List (ℤ × List ℕ)) (ps : Places) → r.draft.open_part ≡ open_parts.Enum c → vs ≡ c.values ++ (z, name) ∷ [] → IsKept t r → Holds ps (map (λ v. v.1) c.values ++ name ∷ [])
+    → IsKept t (record {
+      known_enums = r.known_enums;
+      known_messages = r.known_messages;
+      draft = record { enums = r.draft.enums; messages = r.draft.messages; methods = r.draft.methods; open_part = open_parts.Enum (record { name = c.name; values = vs }) };
+      enum_names = r.enum_names;
+      message_names = r.message_names;
+      method_names = r.method_names;
+      inner_names = ps;
+      oneofs = r.oneofs;
+    })
+kept_value t r c z name vs ps is more h added = record {
+  enums = h.enums;
+  messages = h.messages;
+  enum_names = subst (λ (o : Open). Holds r.enum_names (map (λ e. e.name) r.draft.enums ++ open_enum o)) is h.enum_names;
+  message_names = subst (λ (o : Open). Holds r.message_names (map (λ m. m.name) r.draft.messages ++ open_message o)) is h.message_names;
+  method_names = h.method_names;
+  inner_names = subst (Holds ps) (sym (ap (map (λ v. v.1)) more ∙ map_push (λ v. v.1) c.values (z, name))) added;
+  oneofs = subst (λ (o : Open). Holds r.oneofs (oneofs_of o)) is h.oneofs;
+}
+
+pub kept_field : (t : Types) (r : Reader) (m : TheMessage) (f : TheField) (fs : List TheField) (oneofs : List (List ℕ)) (ps places : Places) → r.draft.open_part ≡ open_parts.Message m → fs ≡ m.fields ++ f ∷ [] → IsKept t r
+    → Holds ps (map (λ (p : ℕ × List ℕ). p.1) (map numbered m.fields) ++ f.name ∷ []) → Holds places oneofs
+    → IsKept t (record {
+      known_enums = r.known_enums;
+      known_messages = r.known_messages;
+      draft = record { enums = r.draft.enums; messages = r.draft.messages; methods = r.draft.methods; open_part = open_parts.Message (record { name = m.name; fields = fs; oneofs = oneofs }) };
+      enum_names = r.enum_names;
+      message_names = r.message_names;
+      method_names = r.method_names;
+      inner_names = ps;
+      oneofs = places;
+    })
+kept_field t r m f fs oneofs ps places is more h added no_oneofs = record {
+  enums = h.enums;
+  messages = h.messages;
+  enum_names = subst (λ (o : Open). Holds r.enum_names (map (λ e. e.name) r.draft.enums ++ open_enum o)) is h.enum_names;
+  message_names = subst (λ (o : Open). Holds r.message_names (map (λ m. m.name) r.draft.messages ++ open_message o)) is h.message_names;
+  method_names = h.method_names;
+  inner_names = subst (Holds ps) (sym (ap (λ (gs : List TheField). map (λ (p : ℕ × List ℕ). p.1) (map numbered gs)) more ∙ ap (map (λ (p : ℕ × List ℕ). p.1)) (map_push numbered m.fields f) ∙ map_push (λ (p : ℕ × List ℕ). p.1) (map numbered m.fields) (f.number, f.name))) added;
+  oneofs = no_oneofs;
+}

@@ -1,0 +1,230 @@
+//! A table while its text is read.
+
+ghost use Rattle.std.specs.Prelude.{◌≡◌, ◌<◌, ◌==◌, ◌++◌, ◌∷◌, ℕ, [], length, map, not, nat_le, option_map, IsTrue, OnOk};
+ghost use Rattle.std.specs.Prelude.{pos};
+ghost use Rattle.std.specs.Ordering.{int_eq};
+ghost use Rattle.std.specs.List.{list_any};
+ghost use Rattle.std.specs.Option.{option_copied};
+ghost use Rattle.table_text.specs.Faults.{last_of, is_below, is_empty, falls, is_value_below, lacks_value, lacks_zero, value_falls, is_field_below, field_falls, is_index, is_field_number, open_count, repeats_number};
+ghost use Rattle.table_text.specs.Drafts.{open_part, enum_names, message_names, method_names, closed, empty_draft};
+
+use crate::line::Whole;
+use mrpc_table::{
+    Choices, Enums, MAX_ENUMS, MAX_MESSAGES, Memory, Message, Messages, Methods, Name, Sequence,
+};
+use std::alloc::Global;
+use std::cmp::Ordering;
+use std::mem;
+
+/// The enum or the message to which a line may add.
+#[derive(Debug, Drop)]
+pub enum Open {
+    Nothing,
+    Enum(Choices),
+    Message(Message),
+}
+
+/// The parts that are whole, and the one that is open.
+#[derive(Debug, Drop)]
+pub struct Draft {
+    pub enums: Enums,
+    pub messages: Messages,
+    pub methods: Methods,
+    pub open_part: Open,
+}
+
+/// A name is below another, byte by byte.
+fn is_below<'a>(name: &'a [u8], other: &'a [u8]) -> bool
+    ensures { result ≡ is_below name.now other.now }
+{
+    matches!(name.cmp(&other), Ordering::Less)
+}
+
+fn is_value_below(number: Whole, name: &[u8], last: &(i32, Name)) -> bool
+    ensures { result ≡ is_value_below number name.now last.now }
+{
+    match number {
+        Whole::Low => true,
+        Whole::Within(number) => {
+            number < last.0 || (number == last.0 && is_below(name, last.1.as_slice()))
+        }
+        Whole::High => false,
+    }
+}
+
+fn has_zero(values: &[(i32, Name)]) -> bool
+    ensures { result ≡ list_any (λ v. int_eq v.0 (pos 0)) values.now }
+{
+    for value in values {
+        if value.0 == 0 {
+            return true;
+        }
+    }
+    false
+}
+
+fn is_below_last_enum(name: &[u8], enums: &[Choices]) -> bool
+    ensures { result ≡ falls name.now (map (λ e. e.name) enums.now ++ []) }
+{
+    match enums.last() {
+        Some(last) => is_below(name, last.name.as_slice()),
+        None => false,
+    }
+}
+
+fn is_below_last_message(name: &[u8], messages: &[Message]) -> bool
+    ensures { result ≡ falls name.now (map (λ m. m.name) messages.now ++ []) }
+{
+    match messages.last() {
+        Some(last) => is_below(name, last.name.as_slice()),
+        None => false,
+    }
+}
+
+impl Open {
+    /// An enum without a value.
+    pub fn lacks_value(&self) -> bool
+        ensures { result ≡ lacks_value (open_part self.now) }
+    {
+        match self {
+            Open::Enum(choices) => choices.values.is_empty(),
+            _ => false,
+        }
+    }
+
+    /// An enum without a value 0.
+    pub fn lacks_zero(&self) -> bool
+        ensures { result ≡ lacks_zero (open_part self.now) }
+    {
+        match self {
+            Open::Enum(choices) => !has_zero(choices.values.as_slice()),
+            _ => false,
+        }
+    }
+
+    /// A value doesn't go on with an enum, or is below its last one.
+    pub fn value_falls(&self, number: Whole, name: &[u8]) -> bool
+        ensures { result ≡ value_falls (open_part self.now) number name.now }
+    {
+        match self {
+            Open::Enum(choices) => match choices.values.as_slice().last() {
+                Some(last) => is_value_below(number, name, last),
+                None => false,
+            },
+            _ => true,
+        }
+    }
+
+    /// A field doesn't go on with a message, or its number is below that of the last one.
+    pub fn field_falls(&self, number: Option<u32>) -> bool
+        ensures { result ≡ field_falls (open_part self.now) number }
+    {
+        match self {
+            Open::Message(message) => match (message.fields.as_slice().last(), number) {
+                (Some(last), Some(number)) => number < last.number,
+                _ => false,
+            },
+            _ => true,
+        }
+    }
+
+    /// A field has the number of the last one.
+    pub fn repeats_number(&self, number: Option<u32>) -> bool
+        ensures { result ≡ repeats_number (open_part self.now) number }
+    {
+        match self {
+            Open::Message(message) => match (message.fields.as_slice().last(), number) {
+                (Some(last), Some(number)) => number == last.number,
+                _ => false,
+            },
+            _ => false,
+        }
+    }
+
+    /// How many values or fields there are.
+    pub fn count(&self) -> usize
+        ensures { result ≡ open_count (open_part self.now) }
+    {
+        match self {
+            Open::Nothing => 0,
+            Open::Enum(choices) => choices.values.len(),
+            Open::Message(message) => message.fields.len(),
+        }
+    }
+}
+
+impl Draft {
+    /// Nothing yet.
+    pub fn new(alloc: Global) -> Draft
+        ensures { result ≡ empty_draft }
+    {
+        Draft {
+            enums: Sequence::new(alloc),
+            messages: Sequence::new(alloc),
+            methods: Sequence::new(alloc),
+            open_part: Open::Nothing,
+        }
+    }
+
+    /// The name is below that of the last enum.
+    pub fn enum_falls(&self, name: &[u8]) -> bool
+        ensures { result ≡ falls name.now (enum_names self.now) }
+    {
+        match &self.open_part {
+            Open::Enum(choices) => is_below(name, choices.name.as_slice()),
+            _ => is_below_last_enum(name, self.enums.as_slice()),
+        }
+    }
+
+    /// The name is below that of the last message.
+    pub fn message_falls(&self, name: &[u8]) -> bool
+        ensures { result ≡ falls name.now (message_names self.now) }
+    {
+        match &self.open_part {
+            Open::Message(message) => is_below(name, message.name.as_slice()),
+            _ => is_below_last_message(name, self.messages.as_slice()),
+        }
+    }
+
+    /// There is a message.
+    pub fn has_messages(&self) -> bool
+        ensures { result ≡ not (is_empty (message_names self.now)) }
+    {
+        match self.open_part {
+            Open::Message(_) => true,
+            _ => !self.messages.is_empty(),
+        }
+    }
+
+    /// There are as many enums as a table may have.
+    pub fn is_full_of_enums(&self) -> bool
+        ensures { result ≡ nat_le MAX_ENUMS (length (enum_names self.now)) }
+    {
+        match self.open_part {
+            Open::Enum(_) => self.enums.len() >= MAX_ENUMS - 1,
+            _ => self.enums.len() >= MAX_ENUMS,
+        }
+    }
+
+    /// There are as many messages as a table may have.
+    pub fn is_full_of_messages(&self) -> bool
+        ensures { result ≡ nat_le MAX_MESSAGES (length (message_names self.now)) }
+    {
+        match self.open_part {
+            Open::Message(_) => self.messages.len() >= MAX_MESSAGES - 1,
+            _ => self.messages.len() >= MAX_MESSAGES,
+        }
+    }
+
+    /// Puts the open part among the whole ones.
+    pub fn close(&mut self) -> Result<(), Memory>
+        ensures { OnOk result (self.new ≡ closed self.old) }
+    {
+        match mem::replace(&mut self.open_part, Open::Nothing) {
+            Open::Nothing => {}
+            Open::Enum(choices) => self.enums.push(choices)?,
+            Open::Message(message) => self.messages.push(message)?,
+        }
+        Ok(())
+    }
+}

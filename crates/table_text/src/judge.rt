@@ -1,0 +1,162 @@
+//! What stands against a line.
+
+ghost use Rattle.std.specs.Prelude.{◌≡◌, ◌<◌, ◌++◌, ◌∷◌, ℕ, [], length, not, IfOk, OnOk, Some};
+ghost use Rattle.mrpc_table.specs.Names.{is_short, is_short_full};
+ghost use Rattle.mrpc_table.specs.Words.{is_numeric, is_key};
+ghost use Rattle.table_text.specs.Faults.{Types, clashes, is_message_word, is_numeric_word, is_key_word, is_short_kind, is_short_label, is_within, is_field_number, is_index, has_short_names, is_full, is_limit, is_map_key, is_unknown_kind, is_unknown_label, is_unknown, is_syntax, is_number, is_duplicate, line_fault};
+ghost use Rattle.table_text.specs.Drafts.{before, method_names, enum_names, message_names};
+ghost use Rattle.table_text.specs.Places.{Holds};
+
+use crate::draft::Draft;
+use crate::line::{KindWord, LabelWord, Line, Whole};
+use mrpc_table::{Kind, MAX_FIELDS, MAX_METHODS, MAX_TEXT, MAX_VALUES, is_short, is_short_full};
+
+fn clashes(label: &LabelWord, kind: &KindWord) -> bool
+    ensures { result ≡ clashes label.now kind.now }
+{
+    match label {
+        LabelWord::Optional => matches!(kind, KindWord::Message(_)),
+        LabelWord::Packed => match kind {
+            KindWord::Scalar(kind) => !kind.is_numeric(),
+            KindWord::Message(_) => true,
+            KindWord::Choice(_) => false,
+        },
+        _ => false,
+    }
+}
+
+fn is_field_number(number: Option<u32>) -> bool
+    ensures { result ≡ is_field_number number }
+{
+    match number {
+        Some(n) => n > 0 && n < 536_870_912 && (n < 19_000 || n > 19_999),
+        None => false,
+    }
+}
+
+fn is_index(index: Option<u32>, count: usize) -> bool
+    ensures { result ≡ is_index index count }
+{
+    match index {
+        Some(i) => i as usize == count,
+        None => false,
+    }
+}
+
+/// The order of lines, a label that clashes with its kind, an enum without a value.
+pub fn is_syntax(draft: &Draft, line: &Line) -> bool
+    ensures { result ≡ is_syntax (before draft.now) line.now }
+{
+    let part = &draft.open_part;
+    match line {
+        Line::Enum(name) => {
+            part.lacks_value()
+                || draft.has_messages()
+                || !draft.methods.is_empty()
+                || draft.enum_falls(name.as_slice())
+        }
+        Line::Value(number, name) => part.value_falls(*number, name.as_slice()),
+        Line::Message(name) => {
+            part.lacks_value() || !draft.methods.is_empty() || draft.message_falls(name.as_slice())
+        }
+        Line::Field(field) => {
+            clashes(&field.label, &field.kind) || part.field_falls(field.number)
+        }
+        Line::Method(_) => part.lacks_value(),
+    }
+}
+
+/// A number out of its range, an enum without a value 0, an index out of turn.
+pub fn is_number(draft: &Draft, line: &Line) -> bool
+    ensures { result ≡ is_number (before draft.now) line.now }
+{
+    let part = &draft.open_part;
+    match line {
+        Line::Enum(_) | Line::Message(_) => part.lacks_zero(),
+        Line::Value(number, _) => !matches!(number, Whole::Within(_)),
+        Line::Field(field) => !is_field_number(field.number),
+        Line::Method(method) => {
+            part.lacks_zero() || !is_index(method.index, draft.methods.len())
+        }
+    }
+}
+
+fn is_key_word(kind: &KindWord) -> bool
+    ensures { result ≡ is_key_word kind.now }
+{
+    match kind {
+        KindWord::Scalar(kind) => kind.is_key(),
+        _ => false,
+    }
+}
+
+/// A key that is neither integral, nor a bool, nor a string.
+pub fn is_map_key(line: &Line) -> bool
+    ensures { result ≡ is_map_key line.now }
+{
+    match line {
+        Line::Field(field) => match &field.label {
+            LabelWord::Map(key) => !is_key_word(key),
+            _ => false,
+        },
+        _ => false,
+    }
+}
+
+fn is_short_kind(kind: &KindWord) -> bool
+    ensures { result ≡ is_short_kind kind.now }
+{
+    match kind {
+        KindWord::Scalar(_) => true,
+        KindWord::Message(name) | KindWord::Choice(name) => is_short_full(name.as_slice()),
+    }
+}
+
+fn is_short_label(label: &LabelWord) -> bool
+    ensures { result ≡ is_short_label label.now }
+{
+    match label {
+        LabelWord::Map(key) => is_short_kind(key),
+        LabelWord::Member(name) => is_short(name.as_slice()),
+        _ => true,
+    }
+}
+
+fn has_short_names(line: &Line) -> bool
+    ensures { result ≡ has_short_names line.now }
+{
+    match line {
+        Line::Enum(name) | Line::Message(name) => is_short_full(name.as_slice()),
+        Line::Value(_, name) => is_short(name.as_slice()),
+        Line::Field(field) => {
+            is_short_label(&field.label)
+                && is_short_kind(&field.kind)
+                && is_short(field.name.as_slice())
+        }
+        Line::Method(method) => {
+            is_short_full(method.service.as_slice())
+                && is_short(method.name.as_slice())
+                && is_short_full(method.input.as_slice())
+                && is_short_full(method.output.as_slice())
+        }
+    }
+}
+
+fn is_full(draft: &Draft, line: &Line) -> bool
+    ensures { result ≡ is_full (before draft.now) line.now }
+{
+    match line {
+        Line::Enum(_) => draft.is_full_of_enums(),
+        Line::Value(_, _) => draft.open_part.count() >= MAX_VALUES,
+        Line::Message(_) => draft.is_full_of_messages(),
+        Line::Field(_) => draft.open_part.count() >= MAX_FIELDS,
+        Line::Method(_) => draft.methods.len() >= MAX_METHODS,
+    }
+}
+
+/// A name that is too long, one part too many, or too many bytes up to the line's end.
+pub fn is_limit(draft: &Draft, bytes: usize, line: &Line) -> bool
+    ensures { result ≡ is_limit (before draft.now) bytes line.now }
+{
+    !has_short_names(line) || is_full(draft, line) || bytes > MAX_TEXT
+}

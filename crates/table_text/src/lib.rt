@@ -1,0 +1,24 @@
+//! The canonical text of a table (this project's own format): what writes it, and what reads it.
+//!
+//! It stands on `mrpc_table`, which says what a valid table is and what its text. The layers above
+//! use one contract: a valid table and its text determine each other, and a text that is none has one
+//! first fault.
+#![tactic(auto)]
+
+mod draft;
+mod fault;
+mod forms;
+mod judge;
+mod line;
+mod places;
+mod read;
+mod reader;
+mod text;
+mod words;
+
+pub use fault::{TableFault, TableReason};
+pub use read::{one_fault, one_text, read_table};
+pub use text::table_text;
+
+#[cfg(test)]
+mod tests;

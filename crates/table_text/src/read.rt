@@ -1,0 +1,91 @@
+//! Tables from their canonical text.
+
+ghost use Rattle.std.specs.Prelude.{◌≡◌, ◌<◌, ◌≤◌, ◌+◌, ◌++◌, ℕ, List, length, IfOk, IfErr, OnOk, MatchResult, None};
+ghost use Rattle.std.specs.List.{filter_map};
+ghost use Rattle.std.specs.Option.{option_to_list};
+ghost use Rattle.mrpc_table.specs.Lines.{whole_lines};
+ghost use Rattle.table_text.specs.Lines.{behind};
+ghost use Rattle.table_text.specs.Faults.{fault_at, IsFirstFault, IsFaultOf};
+ghost use Rattle.mrpc_table.specs.Text.{table_text};
+ghost use Rattle.mrpc_table.specs.Valid.{IsValid, HaveOneTextEach};
+ghost use Rattle.mrpc_table.specs.declared.table.Table.{Table};
+ghost use Rattle.table_text.specs.declared.fault.TableReason.{TableReason};
+ghost use Rattle.table_text.specs.declared.fault.TableFault.TheVariants.{Memory as NoMemory};
+ghost use Rattle.table_text.specs.Drafts.{table_in};
+ghost use Rattle.table_text.specs.Places.{Holds};
+
+use crate::fault::TableFault;
+use crate::places::Places;
+use crate::reader::Reader;
+use crate::words::behind;
+use mrpc_table::{Memory, Table, cut};
+use std::alloc::Global;
+
+// What stands behind a prefix in the whole lines of a text.
+fn names_behind(alloc: Global, prefix: &[u8], text: &[u8]) -> Result<Places, Memory>
+    ensures { IfOk result (λ p. Holds p (filter_map (behind prefix.now) (whole_lines text.now))) }
+{
+    let mut names = Places::new(alloc);
+    let mut rest = text;
+    while let Some((line, others)) = cut(rest, b'\n') {
+        add_behind(alloc, &mut names, prefix, line)?;
+        rest = others;
+    }
+    Ok(names)
+}
+
+fn add_behind(alloc: Global, names: &mut Places, prefix: &[u8], line: &[u8]) -> Result<(), Memory>
+    ensures { (old : List (List ℕ)) → Holds names.old old → OnOk result (Holds names.new (old ++ option_to_list (behind prefix.now line.now))) }
+{
+    if let Some(name) = behind(prefix, line) {
+        names.add(alloc, name)?;
+    }
+    Ok(())
+}
+
+// The table of a text, or its first fault.
+fn read_lines(alloc: Global, text: &[u8]) -> Result<Table, TableFault>
+    ensures table { IfOk result (λ t. t ≡ table_in (whole_lines text.now)) }
+    ensures clean { OnOk result ((i : ℕ) → fault_at text.now i ≡ None) }
+    ensures fault { IfErr result (λ e. IsFaultOf text.now e) }
+{
+    let known_enums = names_behind(alloc, b"enum ", text)?;
+    let known_messages = names_behind(alloc, b"message ", text)?;
+    let mut reader = Reader::new(alloc, known_enums, known_messages);
+    let mut rest = text;
+    let mut number = 1;
+    while let Some((line, others)) = cut(rest, b'\n') {
+        reader.take(alloc, line, text.len() - others.len(), number)?;
+        rest = others;
+        number += 1;
+    }
+    reader.finish(rest, number)
+}
+
+/// The table of a canonical text (this project's own format), as [`crate::table_text`] writes it: enums
+/// with their values, messages with their fields, and methods, a line for each. A text that is none is
+/// refused with the first line at fault, and the first reason that stands against it. A text without a
+/// byte is the table without anything. `TableFault::Memory` comes where memory is wanted.
+pub fn read_table(alloc: Global, text: &[u8]) -> Result<Table, TableFault>
+    // What is read is valid, and the text is its canonical text.
+    ensures accepted { IfOk result (λ t. IsValid t × (text.now ≡ table_text t)) }
+    // The canonical text of a valid table gives this table, unless memory runs out.
+    ensures only { (t : Table) → IsValid t → text.now ≡ table_text t → MatchResult result (λ read. read ≡ t) (λ fault. fault ≡ NoMemory) }
+    // A fault is the first one of the text.
+    ensures fault { IfErr result (λ fault. IsFaultOf text.now fault) }
+{
+    read_lines(alloc, text)
+}
+
+/// The canonical text of a valid table determines it: two valid tables with one text are equal.
+pub fn one_text()
+    ensures { HaveOneTextEach }
+{}
+
+/// A text has one first fault at most, on one of its lines or right behind them, and the canonical text
+/// of a valid table has none.
+pub fn one_fault()
+    ensures one { (text : List ℕ) (m n : ℕ) (r q : TableReason) → IsFirstFault text m r → IsFirstFault text n q → (m ≡ n) × (r ≡ q) }
+    ensures none { (t : Table) (line : ℕ) (reason : TableReason) → IsValid t → IsFirstFault (table_text t) line reason → ⊥ }
+    ensures place { (text : List ℕ) (line : ℕ) (reason : TableReason) → IsFirstFault text line reason → line ≤ length text + 1 }
+{}

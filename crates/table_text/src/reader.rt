@@ -1,0 +1,413 @@
+//! A draft with the names that were met.
+
+ghost use Rattle.std.specs.Prelude.{◌≡◌, ◌++◌, ◌∷◌, ℕ, [], length, IfOk, IfErr, OnOk, Some, None};
+ghost use Rattle.table_text.specs.declared.line.Line.TheVariants.{Enum, Value, Message as MessageLine, Field as FieldOf, Method as MethodOf};
+ghost use Rattle.table_text.specs.Faults.{Types, none_before, is_type_before, is_value_before, is_field_before, method_key, is_unknown_kind, is_unknown_label, is_unknown, is_duplicate, line_fault, end_fault};
+ghost use Rattle.table_text.specs.Lines.{line_of};
+ghost use Rattle.table_text.specs.Drafts.{Blames, added_line, table_of, before, open_part, empty_draft, resolved, labeled, joined_with, new_oneof, oneofs_of, field_of, added, added_enum, added_message, added_value, added_field, added_method};
+ghost use Rattle.table_text.specs.Places.{place, Holds};
+ghost use Rattle.table_text.specs.Readers.{IsKept};
+
+use crate::draft::{Draft, Open};
+use crate::fault::{TableFault, TableReason};
+use crate::forms::line_of;
+use crate::judge::{is_limit, is_map_key, is_number, is_syntax};
+use crate::line::{FieldLine, KindWord, LabelWord, Line, MethodLine, Whole};
+use crate::places::Places;
+use mrpc_table::{
+    Bytes, Choices, Field, Kind, Label, Memory, Message, Method, Name, Names, Sequence, Table,
+};
+use std::alloc::Global;
+use std::mem;
+
+/// A table while its text is read, with the types that the text names, and the names so far: of enums,
+/// of messages, of methods with their services, of the values or fields of the open part, and of its
+/// oneofs.
+#[derive(Debug, Drop)]
+pub struct Reader {
+    pub known_enums: Places,
+    pub known_messages: Places,
+    pub draft: Draft,
+    pub enum_names: Places,
+    pub message_names: Places,
+    pub method_names: Places,
+    pub inner_names: Places,
+    pub oneofs: Places,
+}
+
+// A service and a name, with a space between.
+fn key_of(alloc: Global, method: &MethodLine) -> Result<Bytes, Memory>
+    ensures { IfOk result (λ key. key ≡ method_key method.now) }
+{
+    let mut key = method.service.copied(alloc)?;
+    key.append(b" ")?;
+    key.append(method.name.as_slice())?;
+    Ok(key)
+}
+
+impl Reader {
+    /// Nothing read yet, of a text that names these types.
+    pub fn new(alloc: Global, known_enums: Places, known_messages: Places) -> Reader
+        ensures kept { (t : Types) → Holds known_enums t.enums → Holds known_messages t.messages → IsKept t result }
+        ensures nothing { result.draft ≡ empty_draft }
+    {
+        Reader {
+            known_enums,
+            known_messages,
+            draft: Draft::new(alloc),
+            enum_names: Places::new(alloc),
+            message_names: Places::new(alloc),
+            method_names: Places::new(alloc),
+            inner_names: Places::new(alloc),
+            oneofs: Places::new(alloc),
+        }
+    }
+
+    fn is_type_before(&self, name: &[u8]) -> bool
+        ensures { (t : Types) → IsKept t self.now → result ≡ is_type_before (before self.now.draft) name.now }
+    {
+        self.enum_names.contains(name) || self.message_names.contains(name)
+    }
+
+    fn is_value_before(&self, name: &[u8]) -> bool
+        ensures { (t : Types) → IsKept t self.now → result ≡ is_value_before (open_part self.now.draft.open_part) name.now }
+    {
+        match self.draft.open_part {
+            Open::Enum(_) => self.inner_names.contains(name),
+            _ => false,
+        }
+    }
+
+    fn is_field_before(&self, name: &[u8]) -> bool
+        ensures { (t : Types) → IsKept t self.now → result ≡ is_field_before (open_part self.now.draft.open_part) name.now }
+    {
+        match self.draft.open_part {
+            Open::Message(_) => self.inner_names.contains(name),
+            _ => false,
+        }
+    }
+
+    // A name or a field number that stands before.
+    fn is_duplicate(&self, alloc: Global, line: &Line) -> Result<bool, Memory>
+        ensures { (t : Types) → IsKept t self.now → IfOk result (λ r. r ≡ is_duplicate (before self.now.draft) line.now) }
+    {
+        match line {
+            Line::Enum(name) | Line::Message(name) => Ok(self.is_type_before(name.as_slice())),
+            Line::Value(_, name) => Ok(self.is_value_before(name.as_slice())),
+            Line::Field(field) => Ok(
+                self.is_field_before(field.name.as_slice())
+                    || self.draft.open_part.repeats_number(field.number),
+            ),
+            Line::Method(method) => {
+                let key = key_of(alloc, method)?;
+                Ok(self.method_names.contains(key.as_slice()))
+            }
+        }
+    }
+
+    fn is_unknown_kind(&self, kind: &KindWord) -> bool
+        ensures { (t : Types) → IsKept t self.now → result ≡ is_unknown_kind t kind.now }
+    {
+        match kind {
+            KindWord::Scalar(_) => false,
+            KindWord::Message(name) => !self.known_messages.contains(name.as_slice()),
+            KindWord::Choice(name) => !self.known_enums.contains(name.as_slice()),
+        }
+    }
+
+    fn is_unknown_label(&self, label: &LabelWord) -> bool
+        ensures { (t : Types) → IsKept t self.now → result ≡ is_unknown_label t label.now }
+    {
+        match label {
+            LabelWord::Map(key) => self.is_unknown_kind(key),
+            _ => false,
+        }
+    }
+
+    // A type that no line names.
+    fn is_unknown(&self, line: &Line) -> bool
+        ensures { (t : Types) → IsKept t self.now → result ≡ is_unknown t line.now }
+    {
+        match line {
+            Line::Field(field) => {
+                self.is_unknown_label(&field.label) || self.is_unknown_kind(&field.kind)
+            }
+            Line::Method(method) => {
+                !self.known_messages.contains(method.input.as_slice())
+                    || !self.known_messages.contains(method.output.as_slice())
+            }
+            _ => false,
+        }
+    }
+
+    /// The first reason that stands against a line, whose end is this far into the text.
+    pub fn fault_of(
+        &self,
+        alloc: Global,
+        line: &Line,
+        bytes: usize,
+    ) -> Result<Option<TableReason>, Memory>
+        ensures { (t : Types) → IsKept t self.now → IfOk result (λ r. r ≡ line_fault t (before self.now.draft) bytes (Some line.now)) }
+    {
+        if is_syntax(&self.draft, line) {
+            return Ok(Some(TableReason::Syntax));
+        }
+        if is_number(&self.draft, line) {
+            return Ok(Some(TableReason::Number));
+        }
+        if self.is_duplicate(alloc, line)? {
+            return Ok(Some(TableReason::Duplicate));
+        }
+        if self.is_unknown(line) {
+            return Ok(Some(TableReason::UnknownType));
+        }
+        if is_map_key(line) {
+            return Ok(Some(TableReason::MapKey));
+        }
+        if is_limit(&self.draft, bytes, line) {
+            return Ok(Some(TableReason::Limit));
+        }
+        Ok(None)
+    }
+
+    /// Takes the line of a number, whose end is this far into the text.
+    pub fn take(
+        &mut self,
+        alloc: Global,
+        text: &[u8],
+        bytes: usize,
+        number: u64,
+    ) -> Result<(), TableFault>
+        ensures clean { (t : Types) → IsKept t self.old → OnOk result (line_fault t (before self.old.draft) bytes (line_of text.now) ≡ None) }
+        ensures draft { (t : Types) → IsKept t self.old → OnOk result (self.new.draft ≡ added_line t self.old.draft (line_of text.now)) }
+        ensures kept { (t : Types) → IsKept t self.old → OnOk result (IsKept t self.new) }
+        ensures fault { (t : Types) → IsKept t self.old → IfErr result (λ e. Blames e number (line_fault t (before self.old.draft) bytes (line_of text.now))) }
+    {
+        let Some(line) = line_of(alloc, text)? else {
+            return Err(TableFault::At {
+                line: number,
+                reason: TableReason::Syntax,
+            });
+        };
+        if let Some(reason) = self.fault_of(alloc, &line, bytes)? {
+            return Err(TableFault::At {
+                line: number,
+                reason,
+            });
+        }
+        self.add(alloc, line)?;
+        Ok(())
+    }
+
+    // What stands against the end of the text.
+    fn end_fault(&self, rest: &[u8]) -> Option<TableReason>
+        ensures { result ≡ end_fault (before self.now.draft) rest.now }
+    {
+        if !rest.is_empty() || self.draft.open_part.lacks_value() {
+            Some(TableReason::Syntax)
+        } else if self.draft.open_part.lacks_zero() {
+            Some(TableReason::Number)
+        } else {
+            None
+        }
+    }
+
+    /// The table, where nothing stands against the end of the text, which is the line of a number.
+    pub fn finish(self, rest: &[u8], number: u64) -> Result<Table, TableFault>
+        ensures clean { OnOk result (end_fault (before self.draft) rest.now ≡ None) }
+        ensures table { IfOk result (λ t. t ≡ table_of self.draft) }
+        ensures fault { IfErr result (λ e. Blames e number (end_fault (before self.draft) rest.now)) }
+    {
+        if let Some(reason) = self.end_fault(rest) {
+            return Err(TableFault::At {
+                line: number,
+                reason,
+            });
+        }
+        let mut draft = self.draft;
+        draft.close()?;
+        Ok(Table {
+            messages: draft.messages,
+            enums: draft.enums,
+            methods: draft.methods,
+        })
+    }
+
+    /// Adds what the line says. Of a line that no fault stands against nothing is lost.
+    pub fn add(&mut self, alloc: Global, line: Line) -> Result<(), Memory>
+        ensures draft { (t : Types) → IsKept t self.old → OnOk result (self.new.draft ≡ added t self.old.draft line) }
+        ensures kept { (t : Types) → IsKept t self.old → OnOk result (IsKept t self.new) }
+    {
+        match line {
+            Line::Enum(name) => self.add_enum(alloc, name),
+            Line::Value(number, name) => self.add_value(alloc, number, name),
+            Line::Message(name) => self.add_message(alloc, name),
+            Line::Field(field) => self.add_field(alloc, field),
+            Line::Method(method) => self.add_method(alloc, method),
+        }
+    }
+
+    fn add_enum(&mut self, alloc: Global, name: Name) -> Result<(), Memory>
+        ensures draft { OnOk result (self.new.draft ≡ added_enum self.old.draft name) }
+        ensures kept { (t : Types) → IsKept t self.old → OnOk result (IsKept t self.new) }
+    {
+        self.enum_names.add(alloc, name.as_slice())?;
+        self.inner_names = Places::new(alloc);
+        self.oneofs = Places::new(alloc);
+        self.draft.close()?;
+        self.draft.open_part = Open::Enum(Choices {
+            name,
+            values: Sequence::new(alloc),
+        });
+        Ok(())
+    }
+
+    fn add_message(&mut self, alloc: Global, name: Name) -> Result<(), Memory>
+        ensures draft { OnOk result (self.new.draft ≡ added_message self.old.draft name) }
+        ensures kept { (t : Types) → IsKept t self.old → OnOk result (IsKept t self.new) }
+    {
+        self.message_names.add(alloc, name.as_slice())?;
+        self.inner_names = Places::new(alloc);
+        self.oneofs = Places::new(alloc);
+        self.draft.close()?;
+        self.draft.open_part = Open::Message(Message {
+            name,
+            fields: Sequence::new(alloc),
+            oneofs: Sequence::new(alloc),
+        });
+        Ok(())
+    }
+
+    fn add_value(&mut self, alloc: Global, number: Whole, name: Name) -> Result<(), Memory>
+        ensures draft { OnOk result (self.new.draft ≡ added_value self.old.draft number name) }
+        ensures kept { (t : Types) → IsKept t self.old → OnOk result (IsKept t self.new) }
+    {
+        let Whole::Within(number) = number else {
+            return Ok(());
+        };
+        match mem::replace(&mut self.draft.open_part, Open::Nothing) {
+            Open::Enum(mut choices) => {
+                self.inner_names.add(alloc, name.as_slice())?;
+                choices.values.push((number, name))?;
+                self.draft.open_part = Open::Enum(choices);
+            }
+            part => self.draft.open_part = part,
+        }
+        Ok(())
+    }
+
+    fn add_method(&mut self, alloc: Global, method: MethodLine) -> Result<(), Memory>
+        ensures draft { (t : Types) → IsKept t self.old → OnOk result (self.new.draft ≡ added_method t self.old.draft method) }
+        ensures kept { (t : Types) → IsKept t self.old → OnOk result (IsKept t self.new) }
+    {
+        let key = key_of(alloc, &method)?;
+        self.method_names.add(alloc, key.as_slice())?;
+        self.inner_names = Places::new(alloc);
+        self.oneofs = Places::new(alloc);
+        self.draft.close()?;
+        let input = self.known_messages.place_or_next(method.input.as_slice());
+        let output = self.known_messages.place_or_next(method.output.as_slice());
+        self.draft.methods.push(Method {
+            service: method.service,
+            name: method.name,
+            input,
+            output,
+        })?;
+        Ok(())
+    }
+
+    // The kind that a word names, by its place in the table.
+    fn resolved(&self, kind: &KindWord) -> Kind
+        ensures { (t : Types) → IsKept t self.now → result ≡ resolved t kind.now }
+    {
+        match kind {
+            KindWord::Scalar(kind) => *kind,
+            KindWord::Message(name) => {
+                Kind::Message(self.known_messages.place_or_next(name.as_slice()))
+            }
+            KindWord::Choice(name) => {
+                Kind::Choice(self.known_enums.place_or_next(name.as_slice()))
+            }
+        }
+    }
+
+    // The label that a word names, by the place of its oneof in the message.
+    fn labeled(&self, label: &LabelWord) -> Label
+        ensures { (t : Types) → IsKept t self.now → result ≡ labeled t (oneofs_of self.now.draft.open_part) label.now }
+    {
+        match label {
+            LabelWord::Plain => Label::Plain,
+            LabelWord::Optional => Label::Optional,
+            LabelWord::Repeated => Label::Repeated,
+            LabelWord::Packed => Label::Packed,
+            LabelWord::Map(key) => Label::Map(self.resolved(key)),
+            LabelWord::Member(name) => Label::Member(self.oneofs.place_or_next(name.as_slice())),
+        }
+    }
+
+    fn field_of(&self, number: u32, line: FieldLine) -> Field
+        ensures { (t : Types) → IsKept t self.now → result ≡ field_of t (oneofs_of self.now.draft.open_part) number line }
+    {
+        let kind = self.resolved(&line.kind);
+        let label = self.labeled(&line.label);
+        Field {
+            number,
+            name: line.name,
+            kind,
+            label,
+        }
+    }
+
+    // The oneof of a label, where the open message doesn't have it yet.
+    fn new_oneof(&self, alloc: Global, label: &LabelWord) -> Result<Option<Name>, Memory>
+        ensures { (t : Types) → IsKept t self.now → IfOk result (λ r. r ≡ new_oneof (oneofs_of self.now.draft.open_part) label.now) }
+    {
+        match label {
+            LabelWord::Member(name) => {
+                if self.oneofs.contains(name.as_slice()) {
+                    Ok(None)
+                } else {
+                    Ok(Some(name.copied(alloc)?))
+                }
+            }
+            _ => Ok(None),
+        }
+    }
+
+    fn add_field(&mut self, alloc: Global, line: FieldLine) -> Result<(), Memory>
+        ensures draft { (t : Types) → IsKept t self.old → OnOk result (self.new.draft ≡ added_field t self.old.draft line) }
+        ensures kept { (t : Types) → IsKept t self.old → OnOk result (IsKept t self.new) }
+    {
+        let Some(number) = line.number else {
+            return Ok(());
+        };
+        let oneof = self.new_oneof(alloc, &line.label)?;
+        let field = self.field_of(number, line);
+        match mem::replace(&mut self.draft.open_part, Open::Nothing) {
+            Open::Message(mut message) => {
+                self.inner_names.add(alloc, field.name.as_slice())?;
+                message.fields.push(field)?;
+                add_oneof(alloc, &mut message.oneofs, &mut self.oneofs, oneof)?;
+                self.draft.open_part = Open::Message(message);
+            }
+            part => self.draft.open_part = part,
+        }
+        Ok(())
+    }
+}
+
+fn add_oneof(
+    alloc: Global,
+    oneofs: &mut Names,
+    places: &mut Places,
+    oneof: Option<Name>,
+) -> Result<(), Memory>
+    ensures names { OnOk result (oneofs.new ≡ joined_with oneofs.old oneof) }
+    ensures places { Holds places.old oneofs.old → OnOk result (Holds places.new oneofs.new) }
+{
+    if let Some(name) = oneof {
+        places.add(alloc, name.as_slice())?;
+        oneofs.push(name)?;
+    }
+    Ok(())
+}
