@@ -1,0 +1,60 @@
+use Rattle.std.specs.Prelude.{◌≡◌, ℕ, ◌==◌, List, ◌∷◌, ◌++◌, map, find, All, Contains, nat_eq, Option, unwrap_or, option_map, ◌⊎◌}
+use Rattle.std.specs.List.{IsDistinct}
+use Rattle.std.specs.List.Sorted.{IsNonDecreasingBy}
+use Rattle.qos_order.specs.declared.weights.Weight.{Weight}
+use Rattle.qos_order.specs.declared.weights.WeightFault.{WeightFault}
+use Rattle.qos_order.specs.declared.weights.WeightFault.TheVariants.{Range, Twice, Memory}
+use Rattle.qos_order.specs.Account.{IsWeight}
+
+-- the connections of a list of weights
+abbrev pub conns_of : List Weight → List ℕ
+conns_of weights = map (λ w. w.conn) weights
+
+-- the entries stand by number
+abbrev pub Ascends : List Weight → Type 0
+Ascends weights = IsNonDecreasingBy (λ w. w.conn) weights
+
+-- each weight is 1 to 100, and no connection stands twice
+pub record IsSound (weights : List Weight) : Type 0 where
+  pub ranged : All (λ w. IsWeight w.weight) weights
+  pub once : IsDistinct nat_eq (conns_of weights)
+
+-- an entry behind these entries is at fault in this way; a weight out of range comes first
+abbrev pub IsAtFault : List Weight → Weight → WeightFault → Type 0
+IsAtFault before entry (Range conn) = (conn ≡ entry.conn) × (¬ IsWeight entry.weight)
+IsAtFault before entry (Twice conn) = (conn ≡ entry.conn) × IsWeight entry.weight × Contains (conns_of before) conn
+IsAtFault before entry Memory = ⊥
+
+-- the first fault of a list: that of an entry behind entries that are sound
+pub record IsFirstFault (weights : List Weight) (fault : WeightFault) : Type 0 where
+  pub before : List Weight
+  pub entry : Weight
+  pub after : List Weight
+  pub is : weights ≡ before ++ entry ∷ after
+  pub sound : IsSound before
+  pub there : IsAtFault before entry fault
+
+-- the entry of a connection
+abbrev pub entry_of : List Weight → ℕ → Option Weight
+entry_of weights conn = find (λ w. w.conn == conn) weights
+
+-- the weight of a connection, 1 where it isn't listed
+abbrev pub weight_of : List Weight → ℕ → ℕ
+weight_of weights conn = unwrap_or (option_map (λ w. w.weight) (entry_of weights conn)) 1
+
+-- a list has one first fault at most
+abbrev pub FaultsOnce : Type 0
+FaultsOnce = (weights : List Weight) (fault other : WeightFault) → IsFirstFault weights fault → IsFirstFault weights other → fault ≡ other
+
+-- a list that is sound has none
+abbrev pub SoundHasNone : Type 0
+SoundHasNone = (weights : List Weight) (fault : WeightFault) → IsSound weights → IsFirstFault weights fault → ⊥
+
+-- a list is sound or has one
+abbrev pub SoundOrFault : Type 0
+SoundOrFault = (weights : List Weight) → IsSound weights ⊎ ((fault : WeightFault) × IsFirstFault weights fault)
+
+-- a sound list by number
+pub record IsOrdered (weights : List Weight) : Type 0 where
+  pub sound : IsSound weights
+  pub ascends : Ascends weights

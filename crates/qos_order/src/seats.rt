@@ -1,0 +1,69 @@
+//! The listed connections of a wheel, by number.
+
+ghost use Rattle.std.specs.Prelude.{◌≡◌, ◌<◌, ◌==◌, nat_eq, All, IfOk, IfSome, IsSomeAnd, find, length, map, option_and_then, slice_get};
+ghost use Rattle.std.specs.List.{IsDistinct};
+ghost use Rattle.qos_order.specs.Account.{Fits, IsBalanced, IsWeight, Visit, granted};
+ghost use Rattle.qos_order.specs.Weights.{conns_of};
+ghost use Rattle.qos_order.specs.Wheel.{SeatsAscend, listed_after, numbers_of, opened};
+
+use crate::account::{Account, Ending};
+use crate::seat::Seat;
+use crate::weights::Weight;
+use std::alloc::{AllocError, Global};
+use std::collections::VecDeque;
+
+/// Where a connection stands among those that are listed by number.
+pub fn place_of(seats: &[Seat], conn: u32) -> Option<usize>
+    requires once { IsDistinct nat_eq (numbers_of seats.now) }
+    requires ascends { SeatsAscend seats.now }
+    ensures seat { option_and_then (slice_get seats.now) result ≡ find (λ s. s.conn == conn) seats.now }
+    ensures within { IfSome result (λ place. place < length seats.now) }
+{
+    match seats.binary_search_by_key(&conn, |seat| seat.conn) {
+        Ok(place) => Some(place),
+        Err(_) => None,
+    }
+}
+
+/// Counts a visit in the account of a listed connection.
+pub fn count(seats: &mut [Seat], conn: u32, given: u64, ending: Ending)
+    requires once { IsDistinct nat_eq (numbers_of seats.old) }
+    requires ascends { SeatsAscend seats.old }
+    requires weights { All (λ s. IsWeight s.weight) seats.old }
+    requires balanced { All (λ s. IsBalanced s.weight s.account) seats.old }
+    requires fits { IsSomeAnd (find (λ s. s.conn == conn) seats.old) (λ s. Fits (granted s.weight s.account.kept) (record { given = given; ending = ending })) }
+    ensures { seats.new ≡ listed_after conn (record { given = given; ending = ending }) seats.old }
+{
+    let Some(place) = place_of(seats, conn) else {
+        unreachable!();
+    };
+    let seat = &mut seats[place];
+    let weight = seat.weight;
+    seat.account.visit(weight, given, ending);
+}
+
+/// The connections of a list, in its order.
+pub fn conns(alloc: Global, weights: &[Weight]) -> Result<VecDeque<u32>, AllocError>
+    ensures { IfOk result (λ order. order.items ≡ conns_of weights.now) }
+{
+    let mut order = VecDeque::with_capacity(alloc, weights.len())?;
+    for weight in weights {
+        order.push_back(weight.conn)?;
+    }
+    Ok(order)
+}
+
+/// The connections of a list, before their first visits.
+pub fn seats(alloc: Global, weights: &[Weight]) -> Result<Vec<Seat>, AllocError>
+    ensures { IfOk result (λ seats. seats.items ≡ map opened weights.now) }
+{
+    let mut seats = Vec::with_capacity(alloc, weights.len())?;
+    for weight in weights {
+        seats.push(Seat {
+            conn: weight.conn,
+            weight: weight.weight,
+            account: Account::new(),
+        })?;
+    }
+    Ok(seats)
+}

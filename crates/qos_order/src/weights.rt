@@ -1,0 +1,180 @@
+//! Weights of connections, as they are listed.
+
+ghost use Rattle.std.specs.Prelude.{◌≡◌, ◌≤◌, ◌↔◌, OnOk, IfOk, IfErr, IfNone, IfSome, IsTrue, All, Contains, length, take, slice_get, option_map};
+ghost use Rattle.qos_order.specs.Account.{IsWeight};
+ghost use Rattle.std.specs.List.Sorted.{IsPermutation};
+ghost use Rattle.qos_order.specs.Weights.{IsSound, IsFirstFault, Ascends, conns_of};
+
+use std::marker::Model;
+use thiserror::Error;
+
+/// The weight of a connection.
+#[derive(Clone, Copy, Debug, PartialEq, Eq)]
+pub struct Weight {
+    /// The connection's number.
+    pub conn: u32,
+    /// The rounds that each of its visits grants, 1 to 100.
+    pub weight: u64,
+}
+
+/// Why a list of weights isn't taken. The first entry at fault counts, and at one entry the weight
+/// comes before the number.
+#[derive(Clone, Copy, Debug, PartialEq, Eq, Error)]
+pub enum WeightFault {
+    /// The weight of this connection isn't 1 to 100.
+    #[error("the weight of connection {conn} isn't 1 to 100")]
+    Range {
+        /// The connection's number.
+        conn: u32,
+    },
+    /// This connection stands a second time.
+    #[error("connection {conn} stands twice")]
+    Twice {
+        /// The connection's number.
+        conn: u32,
+    },
+    /// No memory was found.
+    #[error("out of memory")]
+    Memory,
+}
+
+/// A list of weights, over a vector.
+#[derive(Drop, Debug)]
+pub struct Weights {
+    items: Vec<Weight>,
+}
+
+impl Model for Weights {
+    ghost use Rattle.std.specs.Prelude.{List};
+    ghost use Rattle.qos_order.specs.declared.weights.Weight.{Weight};
+
+    ghost Value = { List Weight };
+
+    ghost view = { λ w. w.items.items };
+}
+
+impl Weights {
+    /// The list that the vector has. It takes no memory.
+    pub fn from_vec(items: Vec<Weight>) -> Weights
+        ensures { result ≡ items.items }
+    {
+        Weights { items }
+    }
+
+    /// The vector of the weights. It takes no memory.
+    pub fn into_vec(self) -> Vec<Weight>
+        ensures { result.items ≡ self }
+    {
+        self.items
+    }
+}
+
+/// The weights by ascending number, or their first fault. It takes no memory.
+pub fn by_number(weights: Weights) -> Result<Vec<Weight>, WeightFault>
+    ensures sound { OnOk result (IsSound weights) }
+    ensures same { IfOk result (λ sorted. IsPermutation weights sorted.items) }
+    ensures ascends { IfOk result (λ sorted. Ascends sorted.items) }
+    ensures fault { IfErr result (IsFirstFault weights) }
+{
+    let mut entries = weights.items;
+    sort(&mut entries)?;
+    Ok(entries)
+}
+
+// Sorts the entries by number where they are sound; else tells their first fault.
+fn sort(entries: &mut [Weight]) -> Result<(), WeightFault>
+    ensures sound { OnOk result (IsSound entries.old) }
+    ensures same { OnOk result (IsPermutation entries.old entries.new) }
+    ensures ascends { OnOk result (Ascends entries.new) }
+    ensures fault { IfErr result (IsFirstFault entries.old) }
+{
+    let ranged = ranged_len(entries);
+    let outside = conn_at(entries, ranged);
+    if let Some(conn) = sort_distinct(&mut entries[..ranged]) {
+        return Err(WeightFault::Twice { conn });
+    }
+    match outside {
+        Some(conn) => Err(WeightFault::Range { conn }),
+        None => Ok(()),
+    }
+}
+
+// How many entries come before the first one whose weight isn't 1 to 100.
+fn ranged_len(entries: &[Weight]) -> usize
+    ensures within { result ≤ length entries.now }
+    ensures ranged { All (λ w. IsWeight w.weight) (take result entries.now) }
+    ensures next { IfSome (slice_get entries.now result) (λ w. ¬ IsWeight w.weight) }
+{
+    for (i, entry) in entries.iter().enumerate() {
+        if entry.weight < 1 || entry.weight > 100 {
+            return i;
+        }
+    }
+    entries.len()
+}
+
+// The connection of the entry at a place; none past the end.
+fn conn_at(entries: &[Weight], place: usize) -> Option<u32>
+    ensures { result ≡ option_map (λ w. w.conn) (slice_get entries.now place) }
+{
+    match entries.get(place) {
+        Some(entry) => Some(entry.conn),
+        None => None,
+    }
+}
+
+// Sorts entries by number where no connection stands twice; else tells the first one that does. Each
+// half is sorted by itself, and what the second half has in common with the first is searched for, so
+// the time is n log^2 n and no memory is taken.
+fn sort_distinct(entries: &mut [Weight]) -> Option<u32>
+    requires { All (λ w. IsWeight w.weight) entries.old }
+    ensures sound { IfNone result (IsSound entries.old) }
+    ensures same { IfNone result (IsPermutation entries.old entries.new) }
+    ensures ascends { IfNone result (Ascends entries.new) }
+    ensures twice { IfSome result (λ conn. IsFirstFault entries.old (WeightFault.Twice conn)) }
+{
+    let half = entries.len() / 2;
+    if half == 0 {
+        return None;
+    }
+    if let Some(conn) = sort_distinct(&mut entries[..half]) {
+        return Some(conn);
+    }
+    let (front, back) = entries.split_at_mut(half);
+    let apart = apart_len(front, back);
+    let met = conn_at(back, apart);
+    if let Some(conn) = sort_distinct(&mut back[..apart]) {
+        return Some(conn);
+    }
+    if met.is_some() {
+        return met;
+    }
+    entries.sort_unstable_by_key(|entry| entry.conn);
+    None
+}
+
+// How many entries of `back` come before the first one whose connection stands in `front`, too, which
+// is sorted.
+fn apart_len(front: &[Weight], back: &[Weight]) -> usize
+    requires { Ascends front.now }
+    ensures within { result ≤ length back.now }
+    ensures apart { All (λ w. ¬ Contains (conns_of front.now) w.conn) (take result back.now) }
+    ensures next { IfSome (slice_get back.now result) (λ w. Contains (conns_of front.now) w.conn) }
+{
+    for (i, entry) in back.iter().enumerate() {
+        if has_conn(front, entry.conn) {
+            return i;
+        }
+    }
+    back.len()
+}
+
+// Whether a connection stands in sorted entries.
+fn has_conn(entries: &[Weight], conn: u32) -> bool
+    requires { Ascends entries.now }
+    ensures { IsTrue result ↔ Contains (conns_of entries.now) conn }
+{
+    entries
+        .binary_search_by_key(&conn, |entry| entry.conn)
+        .is_ok()
+}
