@@ -1,0 +1,76 @@
+-- The level of a rate policy's bucket, from what happened to its attachment (this project's own).
+use Rattle.std.specs.Prelude.{ℕ, ◌+◌, ◌-◌, ◌*◌, ◌/◌, ◌≤◌, min, max, List, [], ◌∷◌}
+use Rattle.policy_rate.specs.declared.rate.Rate.{Rate}
+
+-- the numbers of a rate policy are in their ranges
+pub record IsRate (r : Rate) : Type 0 where
+  pub amount_from : 1 ≤ r.amount
+  pub amount_to : r.amount ≤ 1000000
+  pub per_from : 1 ≤ r.per
+  pub per_to : r.per ≤ 86400000
+  pub burst_from : 1 ≤ r.burst
+  pub burst_to : r.burst ≤ 1000000
+
+-- what a full bucket holds: the cost of as many calls as its burst
+abbrev pub full_level : Rate → ℕ
+full_level r = r.burst * r.per
+
+-- a level after some milliseconds: each adds `amount`, and no bucket is more than full
+abbrev pub level_after : Rate → ℕ → ℕ → ℕ
+level_after r level passed = min (full_level r) (level + r.amount * passed)
+
+-- a level under a new policy: it pays for as many calls as before, rounded down, and is no more than full
+abbrev pub converted_level : Rate → Rate → ℕ → ℕ
+converted_level old new level = min (full_level new) (level * new.per / old.per)
+
+-- what happens to an attachment: the clock shows a moment in milliseconds, a call is charged, or the
+-- policy is replaced
+pub data BucketHappening : Type 0 where
+  moment : ℕ → BucketHappening
+  charge : BucketHappening
+  upgrade : Rate → BucketHappening
+
+-- The past of an attachment is the list of what happened to it, the latest first. `first` is the policy
+-- that was attached, and `start` the moment of the attachment.
+
+-- the policy in force
+abbrev pub rate_after : Rate → List BucketHappening → Rate
+rate_after first [] = first
+rate_after first (moment now ∷ past) = rate_after first past
+rate_after first (charge ∷ past) = rate_after first past
+rate_after first (upgrade new ∷ past) = new
+
+-- the latest moment; a lower one counts as the one before
+abbrev pub moment_after : ℕ → List BucketHappening → ℕ
+moment_after start [] = start
+moment_after start (moment now ∷ past) = max (moment_after start past) now
+moment_after start (charge ∷ past) = moment_after start past
+moment_after start (upgrade new ∷ past) = moment_after start past
+
+-- the level: a bucket begins full, time fills it, a call costs `per`, and an upgrade converts it
+abbrev pub level : Rate → ℕ → List BucketHappening → ℕ
+level first start [] = full_level first
+level first start (moment now ∷ past) = level_after (rate_after first past) (level first start past) (now - moment_after start past)
+level first start (charge ∷ past) = level first start past - (rate_after first past).per
+level first start (upgrade new ∷ past) = converted_level (rate_after first past) new (level first start past)
+
+-- each call was charged where the level had its cost
+abbrev pub IsPaid : Rate → ℕ → List BucketHappening → Type 0
+IsPaid first start [] = Unit {0}
+IsPaid first start (moment now ∷ past) = IsPaid first start past
+IsPaid first start (charge ∷ past) = ((rate_after first past).per ≤ level first start past) × IsPaid first start past
+IsPaid first start (upgrade new ∷ past) = IsPaid first start past
+
+-- how many calls were charged
+abbrev pub charges : List BucketHappening → ℕ
+charges [] = 0
+charges (moment now ∷ past) = charges past
+charges (charge ∷ past) = charges past + 1
+charges (upgrade new ∷ past) = charges past
+
+-- no policy was replaced
+abbrev pub HasNoUpgrade : List BucketHappening → Type 0
+HasNoUpgrade [] = Unit {0}
+HasNoUpgrade (moment now ∷ past) = HasNoUpgrade past
+HasNoUpgrade (charge ∷ past) = HasNoUpgrade past
+HasNoUpgrade (upgrade new ∷ past) = ⊥

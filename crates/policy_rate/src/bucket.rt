@@ -1,0 +1,97 @@
+//! The bucket of one attachment of a rate policy.
+
+ghost use Rattle.std.specs.Prelude.{◌≡◌, ◌-◌, ◌<◌, ◌≤◌, min, max};
+ghost use Rattle.policy_rate.specs.Level.{IsRate, full_level, level_after, converted_level};
+
+use crate::rate::Rate;
+
+/// What an attachment of a rate policy may still spend. A call costs the `per` of the policy.
+#[derive(Clone, Copy, Debug, PartialEq, Eq)]
+pub struct Bucket {
+    /// What it holds.
+    pub level: u64,
+    /// The latest moment that it was shown, in milliseconds.
+    pub last: u64,
+}
+
+/// What became of a call that was to be charged.
+#[derive(Clone, Copy, Debug, PartialEq, Eq)]
+pub enum Step {
+    /// The call was charged, and this is the level after it.
+    Pass { level: u64 },
+    /// The level is below the cost of a call. Nothing changed.
+    Short { level: u64, cost: u64 },
+}
+
+impl Bucket {
+    /// A full bucket, at the moment of the attachment. It takes no memory, as no call of a bucket does.
+    pub fn full(rate: &Rate, now: u64) -> Bucket
+        requires { IsRate rate.now }
+        ensures level { result.level ≡ full_level rate.now }
+        ensures last { result.last ≡ now }
+    {
+        Bucket {
+            level: full_level(rate),
+            last: now,
+        }
+    }
+
+    /// Brings the bucket to a moment: what the milliseconds since the last one add, as far as the bucket
+    /// has room. A lower moment counts as the last one.
+    pub fn clock(&mut self, rate: &Rate, now: u64)
+        requires { IsRate rate.now }
+        ensures level { self.new.level ≡ level_after rate.now self.old.level (now - self.old.last) }
+        ensures last { self.new.last ≡ max self.old.last now }
+    {
+        let passed = now.saturating_sub(self.last);
+        let gain = u128::from(rate.amount) * u128::from(passed);
+        self.level = at_most_full(rate, u128::from(self.level) + gain);
+        self.last = self.last.max(now);
+    }
+
+    /// Charges a call, where the level has its cost.
+    pub fn step(&mut self, rate: &Rate) -> Step
+        ensures pass { rate.now.per ≤ self.old.level → result ≡ Step.Pass self.new.level }
+        ensures charged { rate.now.per ≤ self.old.level → self.new.level ≡ self.old.level - rate.now.per }
+        ensures short { self.old.level < rate.now.per → result ≡ Step.Short self.old.level rate.now.per }
+        ensures stays { self.old.level < rate.now.per → self.new.level ≡ self.old.level }
+        ensures last { self.new.last ≡ self.old.last }
+    {
+        let cost = rate.per;
+        if self.level < cost {
+            return Step::Short {
+                level: self.level,
+                cost,
+            };
+        }
+        self.level -= cost;
+        Step::Pass { level: self.level }
+    }
+
+    /// Takes the level over into another policy, in which a call costs the `per` of the new one: as many
+    /// calls as before may be charged, rounded down, as far as the new bucket has room.
+    pub fn convert(&mut self, old: &Rate, new: &Rate)
+        requires old { IsRate old.now }
+        requires new { IsRate new.now }
+        ensures level { self.new.level ≡ converted_level old.now new.now self.old.level }
+        ensures last { self.new.last ≡ self.old.last }
+    {
+        let level = u128::from(self.level) * u128::from(new.per) / u128::from(old.per);
+        self.level = at_most_full(new, level);
+    }
+}
+
+// What a full bucket holds.
+fn full_level(rate: &Rate) -> u64
+    requires { IsRate rate.now }
+    ensures { result ≡ full_level rate.now }
+{
+    rate.burst * rate.per
+}
+
+fn at_most_full(rate: &Rate, level: u128) -> u64
+    requires { IsRate rate.now }
+    ensures { result ≡ min (full_level rate.now) level }
+{
+    u128::from(full_level(rate)).min(level) as u64
+}

@@ -1,0 +1,20 @@
+//! What holds of each past of an attachment. These functions do nothing; their clauses hold.
+
+ghost use Rattle.std.specs.Prelude.{◌+◌, ◌-◌, ◌*◌, ◌/◌, ◌≤◌, ◌++◌, ℕ, List};
+ghost use Rattle.policy_rate.specs.Level.{IsRate, BucketHappening, full_level, level, moment_after, rate_after, charges, IsPaid, HasNoUpgrade};
+ghost use Rattle.policy_rate.specs.declared.rate.Rate.{Rate};
+
+/// A bucket never holds more than a full one of the policy then in force.
+pub fn bounded_level()
+    ensures { (first : Rate) (start : ℕ) (past : List BucketHappening) → level first start past ≤ full_level (rate_after first past) }
+{}
+
+/// Between two moments without an upgrade an attachment is charged for no more calls than a full bucket
+/// and the time between them pay for.
+pub fn bounded_charges()
+    ensures { (first : Rate) (start : ℕ) (past recent : List BucketHappening) → IsRate (rate_after first past)
+        → IsPaid first start (recent ++ past) → HasNoUpgrade recent
+        → let rate = rate_after first past in
+        let passed = moment_after start (recent ++ past) - moment_after start past in
+        charges recent ≤ (rate.burst * rate.per + rate.amount * passed) / rate.per }
+{}

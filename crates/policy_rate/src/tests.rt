@@ -1,0 +1,95 @@
+//! Buckets at their bounds, worked out by hand.
+
+use super::{Bucket, Rate, Step};
+
+const SECOND: Rate = Rate {
+    amount: 1,
+    per: 1000,
+    burst: 2,
+    hold: true,
+};
+
+#[test]
+fn calls_are_charged_until_the_bucket_is_short(rt: HostRuntime) {
+    let mut bucket = Bucket::full(&SECOND, 0);
+    assert_eq!(rt; bucket.level, 2000);
+    assert_eq!(rt; bucket.step(&SECOND), Step::Pass { level: 1000 });
+    assert_eq!(rt; bucket.step(&SECOND), Step::Pass { level: 0 });
+    assert_eq!(rt;
+        bucket.step(&SECOND),
+        Step::Short {
+            level: 0,
+            cost: 1000
+        }
+    );
+}
+
+#[test]
+fn time_fills_the_bucket(rt: HostRuntime) {
+    let mut bucket = Bucket { level: 0, last: 0 };
+    bucket.clock(&SECOND, 999);
+    assert_eq!(rt;
+        bucket.step(&SECOND),
+        Step::Short {
+            level: 999,
+            cost: 1000
+        }
+    );
+    bucket.clock(&SECOND, 1000);
+    assert_eq!(rt; bucket.step(&SECOND), Step::Pass { level: 0 });
+    bucket.clock(&SECOND, 7);
+    assert_eq!(rt;
+        bucket,
+        Bucket {
+            level: 0,
+            last: 1000
+        }
+    );
+}
+
+#[test]
+fn an_upgrade_converts_the_level(rt: HostRuntime) {
+    let half = Rate {
+        amount: 1,
+        per: 500,
+        burst: 1,
+        hold: true,
+    };
+    let mut bucket = Bucket {
+        level: 1000,
+        last: 3,
+    };
+    bucket.convert(&SECOND, &half);
+    assert_eq!(rt;
+        bucket,
+        Bucket {
+            level: 500,
+            last: 3
+        }
+    );
+}
+
+#[test]
+fn the_largest_numbers_do_not_wrap(rt: HostRuntime) {
+    let largest = Rate {
+        amount: 1000000,
+        per: 86400000,
+        burst: 1000000,
+        hold: false,
+    };
+    let mut bucket = Bucket {
+        level: u64::MAX,
+        last: 0,
+    };
+    bucket.clock(&largest, u64::MAX);
+    assert_eq!(rt;
+        bucket,
+        Bucket {
+            level: 86400000000000,
+            last: u64::MAX
+        }
+    );
+    bucket.level = u64::MAX;
+    bucket.convert(&largest, &largest);
+    assert_eq!(rt; bucket.level, 86400000000000);
+}
