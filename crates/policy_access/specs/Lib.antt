@@ -1,0 +1,12 @@
+pub mod Call
+pub mod Conditions
+pub mod Faults
+pub mod Lines
+pub mod Names
+pub mod Paths
+pub mod Rules
+pub mod Said
+pub mod Texts
+pub mod Values
+pub mod Verdict
+pub mod Reading

@@ -1,0 +1,118 @@
+-- What a line of an access policy says, by its form alone (this project's own format).
+use Rattle.std.specs.Prelude.{ℕ, ◌==◌, nat_le, Bool, true, false, ◌||◌, if◌then◌else◌, List, [], ◌∷◌, codes, length, Option, Some, None, option_map, option_and_then}
+use Rattle.std.specs.List.{slice_split, join_with_byte}
+use Rattle.std.specs.Str.{bytes_eq}
+use Rattle.mrpc_table.specs.Lines.{words_of, number_of, in_64_bits}
+use Rattle.mrpc_table.specs.declared.words.Decimal.{Decimal}
+use Rattle.policy_access.specs.declared.rule.Comparison.{Comparison}
+use Rattle.policy_access.specs.declared.rule.Comparison.TheVariants.{Equal, NotEqual, Less, Greater, Starts}
+use Rattle.policy_access.specs.declared.line.Line.{Line}
+use Rattle.policy_access.specs.declared.line.Line.TheVariants.{Rule, Default}
+use Rattle.policy_access.specs.declared.line.RuleLine.{RuleLine}
+use Rattle.policy_access.specs.declared.line.AboutLine.{AboutLine}
+use Rattle.policy_access.specs.declared.line.AboutLine.TheVariants.{Every, Calls}
+use Rattle.policy_access.specs.declared.line.CallsLine.{CallsLine}
+use Rattle.policy_access.specs.declared.line.TestLine.{TestLine}
+use Rattle.policy_access.specs.declared.line.PathLine.{PathLine}
+use Rattle.policy_access.specs.declared.line.ConditionLine.{ConditionLine}
+use Rattle.policy_access.specs.declared.line.ConditionLine.TheVariants.{Present, Compares}
+
+-- `allow` or `deny`
+abbrev pub allow_of : List ℕ → Option Bool
+allow_of word = if bytes_eq word (codes "allow") then Some true else if bytes_eq word (codes "deny") then Some false else None
+
+-- a number of any length
+abbrev pub decimal_of : List ℕ → Option Decimal
+decimal_of word = option_map in_64_bits (number_of word)
+
+-- the numbers of a path; a path has at most 32
+abbrev pub ends_path : Decimal → PathLine
+ends_path n = record { way = []; last = n }
+
+abbrev pub begins_path : Decimal → PathLine → PathLine
+begins_path n p = record { way = n ∷ p.way; last = p.last }
+
+abbrev pub path_of_parts : List (List ℕ) → Option PathLine
+path_of_parts [] = None
+path_of_parts (part ∷ []) = option_map ends_path (decimal_of part)
+path_of_parts (part ∷ other ∷ parts) = option_and_then (λ n. option_map (begins_path n) (path_of_parts (other ∷ parts))) (decimal_of part)
+
+abbrev pub path_of : List ℕ → Option PathLine
+path_of word = let parts = slice_split (λ c. c == 46) word in if nat_le (length parts) 32 then path_of_parts parts else None
+
+-- how a value is compared
+abbrev pub comparison_of : List ℕ → Option Comparison
+comparison_of word =
+    if bytes_eq word (codes "eq") then Some Equal
+    else if bytes_eq word (codes "ne") then Some NotEqual
+    else if bytes_eq word (codes "lt") then Some Less
+    else if bytes_eq word (codes "gt") then Some Greater
+    else if bytes_eq word (codes "starts") then Some Starts
+    else None
+
+-- a value is one word, or, where it begins with a quote, the rest of the line
+abbrev pub is_quoted : List ℕ → Bool
+is_quoted [] = false
+is_quoted (c ∷ cs) = c == 34
+
+abbrev pub value_of : List (List ℕ) → Option (List ℕ)
+value_of words = let value = join_with_byte 32 words in if is_quoted value || length words == 1 then Some value else None
+
+-- `present`, or another OP with a value behind it
+abbrev pub condition_of : List ℕ → List (List ℕ) → Option ConditionLine
+condition_of operation [] = if bytes_eq operation (codes "present") then Some Present else None
+condition_of operation (word ∷ words) = option_and_then (λ c. option_map (Compares c) (value_of (word ∷ words))) (comparison_of operation)
+
+abbrev pub condition_of_words : List (List ℕ) → Option ConditionLine
+condition_of_words [] = None
+condition_of_words (operation ∷ words) = condition_of operation words
+
+-- `where PATH OP [VALUE]`
+abbrev pub test_of : List (List ℕ) → Option TestLine
+test_of (first ∷ path ∷ words) =
+    if bytes_eq first (codes "where")
+    then option_and_then (λ p. option_map (λ c. record { path = p; condition = c }) (condition_of_words words)) (path_of path)
+    else None
+test_of _ = None
+
+-- nothing, or a test
+abbrev pub optional_test : List (List ℕ) → Option (Option TestLine)
+optional_test [] = Some None
+optional_test (word ∷ words) = option_map Some (test_of (word ∷ words))
+
+abbrev pub calls_with : Decimal → Bool → List (List ℕ) → Option CallsLine
+calls_with index reply words = option_map (λ t. record { index = index; reply = reply; test = t }) (optional_test words)
+
+-- behind the index: `reply` or not, and then nothing or a test
+abbrev pub calls_of : Decimal → List (List ℕ) → Option CallsLine
+calls_of index [] = calls_with index false []
+calls_of index (word ∷ words) = if bytes_eq word (codes "reply") then calls_with index true words else calls_with index false (word ∷ words)
+
+-- nothing, or `method INDEX` and what stands behind it
+abbrev pub about_of : List (List ℕ) → Option AboutLine
+about_of [] = Some Every
+about_of (first ∷ index ∷ words) =
+    if bytes_eq first (codes "method")
+    then option_and_then (λ n. option_map Calls (calls_of n words)) (decimal_of index)
+    else None
+about_of _ = None
+
+-- behind the first word of a line
+abbrev pub rule_of : List (List ℕ) → Option RuleLine
+rule_of (name ∷ verb ∷ words) = option_and_then (λ a. option_map (λ about. record { name = name; allow = a; about = about }) (about_of words)) (allow_of verb)
+rule_of _ = None
+
+abbrev pub default_of : List (List ℕ) → Option Bool
+default_of (verb ∷ []) = allow_of verb
+default_of _ = None
+
+abbrev pub line_of_words : List (List ℕ) → Option Line
+line_of_words [] = None
+line_of_words (first ∷ words) =
+    if bytes_eq first (codes "rule") then option_map Rule (rule_of words)
+    else if bytes_eq first (codes "default") then option_map Default (default_of words)
+    else None
+
+-- what a line says, if it is in form
+unfoldable pub line_of : List ℕ → Option Line
+line_of line = line_of_words (words_of line)

@@ -1,0 +1,28 @@
+-- Lines while they are read.
+use Rattle.std.specs.Prelude.{◌≡◌, ℕ, ◌<◌, ◌≤◌, Bool, List, length, map, take, All, IsTrue, Some, Ok, slice_get}
+use Rattle.mrpc_table.specs.Valid.{AreDistinct}
+use Rattle.mrpc_table.specs.declared.table.Table.{Table}
+use Rattle.policy_access.specs.Faults.{is_rule_name, IsAgainstAt}
+use Rattle.policy_access.specs.Lines.{line_of}
+use Rattle.policy_access.specs.Said.{said_in}
+use Rattle.policy_access.specs.Texts.{SayEach}
+use Rattle.policy_access.specs.declared.read.Said.TheVariants.{Default}
+use Rattle.policy_access.specs.declared.rule.Rule.{Rule}
+use Rattle.policy_access.specs.declared.fault.RuleReason.{RuleReason}
+
+abbrev pub names_in : List Rule → List (List ℕ)
+names_in rules = map (λ (r : Rule). r.name) rules
+
+-- the lines in front of a place say these rules, and none is at fault
+pub record AreRead (T : Table) (lines : List (List ℕ)) (i : ℕ) (rules : List Rule) : Type 0 where
+  pub within : i ≤ length lines
+  pub count : length rules ≡ i
+  pub few : i ≤ 64
+  pub said : SayEach T (take i lines) rules
+  pub named : All (λ r. IsTrue (is_rule_name r.name)) rules
+  pub distinct : AreDistinct (names_in rules)
+  pub clean : (j : ℕ) (q : RuleReason) → j < i → IsAgainstAt T lines j q → ⊥
+
+-- the line at a place, behind these rules, is the default's
+abbrev pub DefaultAt : Table → List (List ℕ) → ℕ → List Rule → Bool → Type 0
+DefaultAt T lines i rules allow = (line : List ℕ) × (slice_get lines i ≡ Some line) × (said_in T (names_in rules) (line_of line) ≡ Ok (Default allow))

@@ -1,0 +1,147 @@
+-- What a rule is about in a table, or the reason that stands against it (this project's own rule language).
+use Rattle.std.specs.Prelude.{ℕ, ◌^◌, nat_lt, Bool, true, false, not, ◌&&◌, if◌then◌else◌, List, [], ◌∷◌, length, Option, Some, None, option_map, option_and_then, Result, Ok, Err}
+use Rattle.std.specs.Result.{result_map_both}
+use Rattle.mrpc_table.specs.Calls.{message_at}
+use Rattle.mrpc_table.specs.Normal.{fields_of, field_at}
+use Rattle.mrpc_table.specs.declared.words.Decimal.{Decimal}
+use Rattle.mrpc_table.specs.declared.words.Decimal.TheVariants.{Small, Large}
+use Rattle.mrpc_table.specs.declared.table.Table.{Table}
+use Rattle.mrpc_table.specs.declared.table.Field.{Field}
+use Rattle.mrpc_table.specs.declared.table.Kind.{Kind}
+use Rattle.mrpc_table.specs.declared.table.Kind.TheVariants.{Text, Octets, Float, Double, Message}
+use Rattle.mrpc_table.specs.declared.table.Label.{Label}
+use Rattle.mrpc_table.specs.declared.table.Label.TheVariants.{Plain, Optional, Member}
+use Rattle.policy_access.specs.Values.{operand_of}
+use Rattle.policy_access.specs.declared.rule.Comparison.{Comparison}
+use Rattle.policy_access.specs.declared.rule.Comparison.TheVariants.{Equal, NotEqual, Less, Greater, Starts}
+use Rattle.policy_access.specs.declared.rule.Condition.{Condition}
+use Rattle.policy_access.specs.declared.rule.Condition.TheVariants as conditions
+use Rattle.policy_access.specs.declared.rule.Path.{Path}
+use Rattle.policy_access.specs.declared.rule.Test.{Test}
+use Rattle.policy_access.specs.declared.rule.Calls.{Calls}
+use Rattle.policy_access.specs.declared.rule.About.{About}
+use Rattle.policy_access.specs.declared.rule.About.TheVariants as abouts
+use Rattle.policy_access.specs.declared.line.PathLine.{PathLine}
+use Rattle.policy_access.specs.declared.line.ConditionLine.{ConditionLine}
+use Rattle.policy_access.specs.declared.line.ConditionLine.TheVariants.{Present, Compares}
+use Rattle.policy_access.specs.declared.line.TestLine.{TestLine}
+use Rattle.policy_access.specs.declared.line.CallsLine.{CallsLine}
+use Rattle.policy_access.specs.declared.line.AboutLine.{AboutLine}
+use Rattle.policy_access.specs.declared.line.AboutLine.TheVariants as lines
+use Rattle.policy_access.specs.declared.fault.PartReason.{PartReason}
+use Rattle.policy_access.specs.declared.fault.PartReason.TheVariants as reason
+
+-- ---- paths
+
+-- the field of a number in a message; no field has a number of more than 32 bits
+abbrev pub field_numbered : Table → ℕ → Decimal → Option Field
+field_numbered T msg (Small n) = if nat_lt n (2 ^ 32) then field_at (fields_of T msg) n else None
+field_numbered T msg Large = None
+
+-- the message that a field on the way has: one that is plain, or a member of a oneof
+abbrev pub message_of_kind : Kind → Option ℕ
+message_of_kind (Message i) = Some i
+message_of_kind _ = None
+
+abbrev pub is_single : Label → Bool
+is_single Plain = true
+is_single (Member o) = true
+is_single _ = false
+
+abbrev pub step_of : Field → Option (ℕ × ℕ)
+step_of f = if is_single f.label then option_map (λ i. (f.number, i)) (message_of_kind f.kind) else None
+
+abbrev pub step_in : Table → ℕ → Decimal → Option (ℕ × ℕ)
+step_in T msg n = option_and_then step_of (field_numbered T msg n)
+
+-- the numbers of a way and the message at its end
+abbrev pub way_in : Table → ℕ → List Decimal → Option (List ℕ × ℕ)
+way_in T msg [] = Some ([], msg)
+way_in T msg (n ∷ ns) = option_and_then (λ s. option_map (λ w. (s.0 ∷ w.0, w.1)) (way_in T s.1 ns)) (step_in T msg n)
+
+-- the path that a line spells, in a message
+abbrev pub path_to : List ℕ → Field → Path
+path_to way f = record { way = way; number = f.number; kind = f.kind; label = f.label }
+
+abbrev pub path_in : Table → ℕ → PathLine → Option Path
+path_in T msg p = option_and_then (λ w. option_map (path_to w.0) (field_numbered T w.1 p.last)) (way_in T msg p.way)
+
+-- ---- tests
+
+-- a value is compared where its field is plain, optional or a member of a oneof
+abbrev pub has_value : Label → Bool
+has_value Plain = true
+has_value Optional = true
+has_value (Member o) = true
+has_value _ = false
+
+-- the kinds of which values are equal or not: all but floats and messages
+abbrev pub is_comparable : Kind → Bool
+is_comparable Float = false
+is_comparable Double = false
+is_comparable (Message i) = false
+is_comparable _ = true
+
+-- the kinds of runs
+abbrev pub is_run : Kind → Bool
+is_run Text = true
+is_run Octets = true
+is_run _ = false
+
+-- which comparison goes with a kind
+abbrev pub suits : Comparison → Kind → Bool
+suits Equal k = is_comparable k
+suits NotEqual k = is_comparable k
+suits Less k = is_comparable k && not (is_run k)
+suits Greater k = is_comparable k && not (is_run k)
+suits Starts k = is_run k
+
+abbrev pub result_map : {A B : Type 0} → (A → B) → Result A PartReason → Result B PartReason
+result_map f r = result_map_both f (λ q. q) r
+
+-- what a condition asks of the field at the end of a path
+abbrev pub condition_in : Path → ConditionLine → Result Condition PartReason
+condition_in p Present = Ok conditions.Present
+condition_in p (Compares c value) =
+    if has_value p.label && suits c p.kind then result_map (conditions.Compares c) (operand_of p.kind value) else Err reason.Path
+
+-- a test of a message: Path where the message lacks the field
+abbrev pub test_of_path : ConditionLine → Option Path → Result Test PartReason
+test_of_path c None = Err reason.Path
+test_of_path c (Some p) = result_map (λ condition. record { path = p; condition = condition }) (condition_in p c)
+
+abbrev pub test_in : Table → ℕ → TestLine → Result Test PartReason
+test_in T msg t = test_of_path t.condition (path_in T msg t.path)
+
+abbrev pub tests_in : Table → ℕ → Option TestLine → Result (Option Test) PartReason
+tests_in T msg None = Ok None
+tests_in T msg (Some t) = result_map Some (test_in T msg t)
+
+-- ---- calls
+
+-- an index has 16 bits
+abbrev pub index_of : Decimal → Option ℕ
+index_of (Small n) = if nat_lt n 65536 then Some n else None
+index_of Large = None
+
+-- the message of a method's replies, or of its requests
+abbrev pub message_of : Table → ℕ → Bool → ℕ
+message_of T method reply = message_at T method (if reply then 1 else 0)
+
+-- the calls of a method: Path where the table lacks it
+abbrev pub calls_of_method : Table → ℕ → Bool → Option TestLine → Result Calls PartReason
+calls_of_method T method reply t =
+    if nat_lt method (length T.methods)
+    then result_map (λ test. record { method = method; reply = reply; test = test }) (tests_in T (message_of T method reply) t)
+    else Err reason.Path
+
+abbrev pub calls_of_index : Table → Bool → Option TestLine → Option ℕ → Result Calls PartReason
+calls_of_index T reply t None = Err reason.Number
+calls_of_index T reply t (Some method) = calls_of_method T method reply t
+
+abbrev pub calls_in : Table → CallsLine → Result Calls PartReason
+calls_in T c = calls_of_index T c.reply c.test (index_of c.index)
+
+abbrev pub about_in : Table → AboutLine → Result About PartReason
+about_in T lines.Every = Ok abouts.Every
+about_in T (lines.Calls c) = result_map abouts.Calls (calls_in T c)

@@ -1,0 +1,42 @@
+-- What a line says behind rules of some names, or the first reason against it.
+use Rattle.std.specs.Prelude.{ℕ, nat_le, Bool, true, false, List, length, Option, Some, None, Result, Ok, Err}
+use Rattle.std.specs.Result.{result_map_both}
+use Rattle.mrpc_table.specs.declared.table.Table.{Table}
+use Rattle.policy_access.specs.Faults.{is_rule_name, is_among}
+use Rattle.policy_access.specs.Rules.{about_in}
+use Rattle.policy_access.specs.Texts.{with_about}
+use Rattle.policy_access.specs.declared.line.Line.{Line}
+use Rattle.policy_access.specs.declared.line.Line.TheVariants as lines
+use Rattle.policy_access.specs.declared.line.RuleLine.{RuleLine}
+use Rattle.policy_access.specs.declared.rule.About.{About}
+use Rattle.policy_access.specs.declared.rule.Rule.{Rule as TheRule}
+use Rattle.policy_access.specs.declared.fault.PartReason.{PartReason}
+use Rattle.policy_access.specs.declared.fault.PartReason.TheVariants as part
+use Rattle.policy_access.specs.declared.fault.RuleReason.{RuleReason}
+use Rattle.policy_access.specs.declared.fault.RuleReason.TheVariants as reason
+use Rattle.policy_access.specs.declared.read.Said.{Said}
+use Rattle.policy_access.specs.declared.read.Said.TheVariants.{Rule, Default}
+
+-- by whether there are 64 rules before, what the rule is about, whether its name is one, and whether it
+-- stands before
+abbrev pub judged_rule : Bool → Result About PartReason → Bool → Bool → RuleLine → Result TheRule RuleReason
+judged_rule true about named known r = Err reason.Word
+judged_rule false (Err part.Word) named known r = Err reason.Word
+judged_rule false (Err part.Number) named known r = Err reason.Number
+judged_rule false (Err part.Path) false known r = Err reason.Name
+judged_rule false (Err part.Path) true true r = Err reason.Known
+judged_rule false (Err part.Path) true false r = Err reason.Path
+judged_rule false (Ok about) false known r = Err reason.Name
+judged_rule false (Ok about) true true r = Err reason.Known
+judged_rule false (Ok about) true false r = Ok (with_about r about)
+
+abbrev pub said_in : Table → List (List ℕ) → Option Line → Result Said RuleReason
+said_in T names None = Err reason.Word
+said_in T names (Some (lines.Default allow)) = Ok (Default allow)
+said_in T names (Some (lines.Rule r)) =
+    result_map_both Rule (λ q. q) (judged_rule (nat_le 64 (length names)) (about_in T r.about) (is_rule_name r.name) (is_among r.name names) r)
+
+-- what stands against the line behind the default
+abbrev pub reason_behind : Result Said RuleReason → RuleReason
+reason_behind (Err q) = q
+reason_behind (Ok s) = reason.Default

@@ -1,0 +1,44 @@
+-- Which lines are the text of an access policy (this project's own format).
+use Rattle.std.specs.Prelude.{◌≡◌, ℕ, ◌≤◌, List, [], ◌∷◌, ◌++◌, length, map, All, IsTrue, Option, Some, None, option_map, option_and_then}
+use Rattle.std.specs.Result.{result_ok}
+use Rattle.mrpc_table.specs.Valid.{AreDistinct}
+use Rattle.mrpc_table.specs.declared.table.Table.{Table}
+use Rattle.policy_access.specs.Faults.{is_rule_name}
+use Rattle.policy_access.specs.Lines.{line_of}
+use Rattle.policy_access.specs.Rules.{about_in}
+use Rattle.policy_access.specs.Verdict.{AccessPolicy}
+use Rattle.policy_access.specs.declared.line.Line.{Line}
+use Rattle.policy_access.specs.declared.line.Line.TheVariants.{Rule as RuleOf, Default}
+use Rattle.policy_access.specs.declared.line.RuleLine.{RuleLine}
+use Rattle.policy_access.specs.declared.rule.About.{About}
+use Rattle.policy_access.specs.declared.rule.Rule.{Rule}
+
+-- a rule with its name, whether it allows, and what it is about in the table
+abbrev pub with_about : RuleLine → About → Rule
+with_about r about = record { name = r.name; allow = r.allow; about = about }
+
+abbrev pub rule_in : Table → Line → Option Rule
+rule_in T (RuleOf r) = option_map (with_about r) (result_ok (about_in T r.about))
+rule_in T (Default allow) = None
+
+-- the rule that a line says
+abbrev pub said_rule : Table → List ℕ → Option Rule
+said_rule T line = option_and_then (rule_in T) (line_of line)
+
+-- each line says the rule at its place
+abbrev pub SayEach : Table → List (List ℕ) → List Rule → Type 0
+SayEach T [] [] = Unit {0}
+SayEach T (line ∷ lines) (rule ∷ rules) = (said_rule T line ≡ Some rule) × SayEach T lines rules
+SayEach T _ _ = ⊥
+
+-- lines are the text of a policy: a line for each rule, at most 64, whose names are distinct, and then
+-- the default's line
+pub record IsTextOf (T : Table) (lines : List (List ℕ)) (policy : AccessPolicy) : Type 0 where
+  pub rule_lines : List (List ℕ)
+  pub default_line : List ℕ
+  pub whole : lines ≡ rule_lines ++ default_line ∷ []
+  pub rules : SayEach T rule_lines policy.rules
+  pub default : line_of default_line ≡ Some (Default policy.allow)
+  pub few : length policy.rules ≤ 64
+  pub named : All (λ r. IsTrue (is_rule_name r.name)) policy.rules
+  pub distinct : AreDistinct (map (λ r. r.name) policy.rules)

@@ -1,0 +1,93 @@
+//! An access policy, as it was read.
+
+ghost use Rattle.std.specs.Prelude.{◌≡◌, ◌≤◌, length, IfOk};
+
+use crate::call::{Call, Verdict};
+use crate::condition::first_match;
+use crate::copied::copied_rules;
+use crate::rule::Rule;
+use mrpc_table::{Bytes, Memory, Name, Sequence, Table};
+use std::alloc::Global;
+use std::marker::Model;
+
+/// An access policy: up to 64 rules, and what holds for a call that none of them matches.
+#[derive(Debug, Drop)]
+pub struct Access {
+    rules: Sequence<Rule>,
+    allow: bool,
+    default_name: Name,
+}
+
+impl Model for Access {
+    ghost use Rattle.std.specs.Prelude.{◌≡◌, ◌≤◌, length, codes};
+    ghost use Rattle.policy_access.specs.Verdict.{AccessPolicy};
+
+    ghost Value = { AccessPolicy };
+
+    ghost view = { λ a. record { rules = a.rules; allow = a.allow } };
+
+    ghost invariant = { λ a. (length a.rules ≤ 64) × (a.default_name ≡ codes "default") };
+}
+
+impl Access {
+    ghost use Rattle.policy_access.specs.Call.{IsCallOf};
+    ghost use Rattle.policy_access.specs.Verdict.{verdict, rule_name};
+
+    // The policy of these rules, with this default.
+    pub(crate) fn new(alloc: Global, rules: Vec<Rule>, allow: bool) -> Result<Access, Memory>
+        requires { length rules.items ≤ 64 }
+        ensures { IfOk result (λ a. (a.rules ≡ rules.items) × (a.allow ≡ allow)) }
+    {
+        let default_name = Bytes::from_slice(alloc, b"default")?;
+        let rules = Sequence::from_vec(rules);
+        Ok(Access {
+            rules,
+            allow,
+            default_name,
+        })
+    }
+
+    /// What the policy says of a call: the first rule that matches decides, and else the default. It
+    /// takes no memory.
+    pub fn judge(&self, call: &Call, table: &Table) -> Verdict
+        requires { IsCallOf table.now call.now }
+        ensures verdict { result ≡ verdict self.now call.now }
+        ensures within { result.rule ≤ length self.now.rules }
+    {
+        prove!((call.method as usize) < table.methods.len());
+        let rules = self.rules.as_slice();
+        match first_match(rules, call) {
+            Some(place) => Verdict {
+                allow: rules[place].allow,
+                rule: place as u32,
+            },
+            None => Verdict {
+                allow: self.allow,
+                rule: rules.len() as u32,
+            },
+        }
+    }
+
+    /// The name of the rule at a place; the number of rules stands for the default, whose name is
+    /// `default`.
+    pub fn rule_name(&self, rule: u32) -> &Name
+        requires { rule ≤ length self.now.rules }
+        ensures { result.now ≡ rule_name self.now rule }
+    {
+        match self.rules.as_slice().get(rule as usize) {
+            Some(rule) => &rule.name,
+            None => &self.default_name,
+        }
+    }
+
+    /// An equal policy.
+    pub fn copied(&self, alloc: Global) -> Result<Access, Memory>
+        ensures { IfOk result (λ a. a ≡ self.now) }
+    {
+        Ok(Access {
+            rules: copied_rules(alloc, self.rules.as_slice())?,
+            allow: self.allow,
+            default_name: self.default_name.copied(alloc)?,
+        })
+    }
+}

@@ -1,0 +1,129 @@
+//! Whether a tree meets the test of a rule, and a call matches a rule.
+
+ghost use Rattle.std.specs.Prelude.{◌≡◌, false, option_map, position};
+ghost use Rattle.std.specs.Option.{option_copied, option_map_or};
+ghost use Rattle.mrpc_table.specs.Node.{number, run};
+ghost use Rattle.mrpc_table.specs.View.{content_of};
+ghost use Rattle.policy_access.specs.Paths.{IsAscending, unset_item, item_of_field};
+ghost use Rattle.policy_access.specs.Conditions.{compares, meets};
+ghost use Rattle.policy_access.specs.Verdict.{is_among, matches};
+
+use crate::call::{Call, is_reply};
+use crate::find::{content_under, message_behind};
+use crate::rule::{About, Calls, Comparison, Condition, Operand, Path, Rule, Test};
+use mrpc_table::{FieldValue, Kind, Label, Tree, Value};
+
+fn number_compares(comparison: Comparison, kind: Kind, wanted: &Operand, word: u64) -> bool
+    ensures { result ≡ compares comparison kind wanted.now (number word) }
+{
+    let Operand::Number(wanted) = wanted else {
+        return comparison == Comparison::NotEqual;
+    };
+    match comparison {
+        Comparison::Equal => word == *wanted,
+        Comparison::NotEqual => word != *wanted,
+        Comparison::Less => kind.rank(word) < kind.rank(*wanted),
+        Comparison::Greater => kind.rank(*wanted) < kind.rank(word),
+        Comparison::Starts => false,
+    }
+}
+
+fn run_compares(comparison: Comparison, kind: Kind, wanted: &Operand, bytes: &[u8]) -> bool
+    ensures { result ≡ compares comparison kind wanted.now (run bytes.now) }
+{
+    let Operand::Run(wanted) = wanted else {
+        return comparison == Comparison::NotEqual;
+    };
+    match comparison {
+        Comparison::Equal => bytes == wanted.as_slice(),
+        Comparison::NotEqual => bytes != wanted.as_slice(),
+        Comparison::Starts => bytes.starts_with(wanted.as_slice()),
+        Comparison::Less | Comparison::Greater => false,
+    }
+}
+
+// Whether the value of a field that is unset compares so.
+fn unset_compares(comparison: Comparison, path: &Path, wanted: &Operand) -> bool
+    ensures { result ≡ option_map_or (compares comparison path.now.kind wanted.now) (unset_item path.now.kind path.now.label) false }
+{
+    match (path.label, path.kind) {
+        (Label::Plain, Kind::Message(_)) => false,
+        (Label::Plain, Kind::Text | Kind::Octets) => {
+            run_compares(comparison, path.kind, wanted, &[])
+        }
+        (Label::Plain, _) => number_compares(comparison, path.kind, wanted, 0),
+        _ => false,
+    }
+}
+
+// Whether the value of a field, with what its message has of it, compares so.
+fn field_compares(
+    comparison: Comparison,
+    path: &Path,
+    wanted: &Operand,
+    content: Option<&FieldValue>,
+) -> bool
+    ensures { result ≡ option_map_or (compares comparison path.now.kind wanted.now) (item_of_field path.now.kind path.now.label (option_map content_of (option_copied content.entry))) false }
+{
+    match content {
+        None => unset_compares(comparison, path, wanted),
+        Some(FieldValue::One(Value::Number(word))) => {
+            number_compares(comparison, path.kind, wanted, *word)
+        }
+        Some(FieldValue::One(Value::Run(bytes))) => {
+            run_compares(comparison, path.kind, wanted, bytes.as_slice())
+        }
+        Some(_) => false,
+    }
+}
+
+// Whether the tree meets the test.
+fn meets(tree: &Tree, test: &Test) -> bool
+    requires { IsAscending tree.now }
+    ensures { result ≡ meets tree.now test.now }
+{
+    let path = &test.path;
+    let Some(message) = message_behind(tree, path.way.as_slice()) else {
+        return false;
+    };
+    let content = content_under(message, path.number);
+    match &test.condition {
+        Condition::Present => content.is_some(),
+        Condition::Compares(comparison, wanted) => {
+            field_compares(*comparison, path, wanted, content)
+        }
+    }
+}
+
+fn is_among(calls: &Calls, call: &Call) -> bool
+    requires { IsAscending call.now.tree }
+    ensures { result ≡ is_among calls.now call.now }
+{
+    if call.method != calls.method || is_reply(call) != calls.reply {
+        return false;
+    }
+    match &calls.test {
+        None => true,
+        Some(test) => meets(&call.tree, test),
+    }
+}
+
+// The place of the first rule that matches.
+pub fn first_match(rules: &[Rule], call: &Call) -> Option<usize>
+    requires { IsAscending call.now.tree }
+    ensures { result ≡ position (λ rule. matches rule call.now) rules.now }
+{
+    rules.iter().position(|rule| matches(rule, call))
+}
+
+/// Whether the rule is about the call, in time in proportion to its path and to the bytes that are
+/// compared.
+pub fn matches(rule: &Rule, call: &Call) -> bool
+    requires { IsAscending call.now.tree }
+    ensures { result ≡ matches rule.now call.now }
+{
+    match &rule.about {
+        About::Every => true,
+        About::Calls(calls) => is_among(calls, call),
+    }
+}

@@ -1,0 +1,281 @@
+//! Lines by their form.
+
+ghost use Rattle.std.specs.Prelude.{◌≡◌, ◌∷◌, ℕ, List, [], Some, IfOk, IfSome, MatchOption};
+ghost use Rattle.std.specs.Str.{bytes_eq};
+ghost use Rattle.mrpc_table.specs.Lines.{words_of};
+ghost use Rattle.policy_access.specs.Lines.{allow_of, path_of, comparison_of, value_of, condition_of, condition_of_words, test_of, calls_with, calls_of, about_of, rule_of, default_of, line_of, is_quoted};
+
+use crate::line::{AboutLine, CallsLine, ConditionLine, Line, PathLine, RuleLine, TestLine};
+use crate::rule::Comparison;
+use mrpc_table::{Bytes, Decimal, Memory, Sequence, cut, number_of};
+use std::alloc::Global;
+
+// The first of at least two words, and the line of the others.
+fn next_word(line: &[u8]) -> Option<(&[u8], &[u8])>
+    ensures more { IfSome result (λ p. (word : List ℕ) × (words : List (List ℕ)) × (words_of p.1.now ≡ word ∷ words)) }
+    ensures words { MatchOption result (words_of line.now ≡ line.now ∷ []) (λ p. words_of line.now ≡ p.0.now ∷ words_of p.1.now) }
+{
+    cut(line, b' ')
+}
+
+/// Whether the word is this one.
+pub fn is_word<'a>(word: &'a [u8], expected: &'a [u8]) -> bool
+    ensures { result ≡ bytes_eq word.now expected.now }
+{
+    word == expected
+}
+
+fn allow_of(word: &[u8]) -> Option<bool>
+    ensures { result ≡ allow_of word.now }
+{
+    if is_word(word, b"allow") {
+        Some(true)
+    } else if is_word(word, b"deny") {
+        Some(false)
+    } else {
+        None
+    }
+}
+
+fn comparison_of(word: &[u8]) -> Option<Comparison>
+    ensures { result ≡ comparison_of word.now }
+{
+    if is_word(word, b"eq") {
+        Some(Comparison::Equal)
+    } else if is_word(word, b"ne") {
+        Some(Comparison::NotEqual)
+    } else if is_word(word, b"lt") {
+        Some(Comparison::Less)
+    } else if is_word(word, b"gt") {
+        Some(Comparison::Greater)
+    } else if is_word(word, b"starts") {
+        Some(Comparison::Starts)
+    } else {
+        None
+    }
+}
+
+/// How many numbers a path has at most.
+const NUMBERS: usize = 32;
+
+// The numbers of a path, which are joined by dots.
+fn path_of(alloc: Global, word: &[u8]) -> Result<Option<PathLine>, Memory>
+    ensures { IfOk result (λ p. p ≡ path_of word.now) }
+{
+    let mut way = Vec::new(alloc);
+    let mut rest = word;
+    while let Some((part, others)) = cut(rest, b'.') {
+        let Some(number) = number_of(part) else {
+            return Ok(None);
+        };
+        way.push(number)?;
+        rest = others;
+    }
+    let Some(last) = number_of(rest) else {
+        return Ok(None);
+    };
+    if way.len() >= NUMBERS {
+        return Ok(None);
+    }
+    let way = Sequence::from_vec(way);
+    Ok(Some(PathLine { way, last }))
+}
+
+fn is_quoted(value: &[u8]) -> bool
+    ensures { result ≡ is_quoted value.now }
+{
+    match value {
+        [] => false,
+        [first, ..] => *first == b'"',
+    }
+}
+
+// One word, or a value that begins with a quote.
+#[tactic(auto, using(crate::proofs::Words::value_of_line))]
+fn value_of(alloc: Global, line: &[u8]) -> Result<Option<Bytes>, Memory>
+    ensures { IfOk result (λ v. v ≡ value_of (words_of line.now)) }
+{
+    if is_quoted(line) || next_word(line).is_none() {
+        Ok(Some(Bytes::from_slice(alloc, line)?))
+    } else {
+        Ok(None)
+    }
+}
+
+// An operation, and behind it its value.
+fn compares(alloc: Global, operation: &[u8], line: &[u8]) -> Result<Option<ConditionLine>, Memory>
+    ensures { (word : List ℕ) (words : List (List ℕ)) → words_of line.now ≡ word ∷ words → IfOk result (λ c. c ≡ condition_of operation.now (word ∷ words)) }
+{
+    let Some(comparison) = comparison_of(operation) else {
+        return Ok(None);
+    };
+    match value_of(alloc, line)? {
+        None => Ok(None),
+        Some(value) => Ok(Some(ConditionLine::Compares(comparison, value))),
+    }
+}
+
+// `OP [VALUE]`
+fn condition_line(alloc: Global, line: &[u8]) -> Result<Option<ConditionLine>, Memory>
+    ensures { IfOk result (λ c. c ≡ condition_of_words (words_of line.now)) }
+{
+    match next_word(line) {
+        Some((operation, value)) => compares(alloc, operation, value),
+        None if is_word(line, b"present") => Ok(Some(ConditionLine::Present)),
+        None => Ok(None),
+    }
+}
+
+// `where PATH OP [VALUE]`
+fn test_line(alloc: Global, line: &[u8]) -> Result<Option<TestLine>, Memory>
+    ensures { IfOk result (λ t. t ≡ test_of (words_of line.now)) }
+{
+    let Some((first, rest)) = next_word(line) else {
+        return Ok(None);
+    };
+    let Some((path, rest)) = next_word(rest) else {
+        return Ok(None);
+    };
+    if !is_word(first, b"where") {
+        return Ok(None);
+    }
+    let Some(path) = path_of(alloc, path)? else {
+        return Ok(None);
+    };
+    match condition_line(alloc, rest)? {
+        None => Ok(None),
+        Some(condition) => Ok(Some(TestLine { path, condition })),
+    }
+}
+
+// The calls of a method that a test, or none, picks.
+#[tactic(auto, using(crate::proofs::Words::optional_test_of_line))]
+fn tested_calls(
+    alloc: Global,
+    index: Decimal,
+    reply: bool,
+    line: &[u8],
+) -> Result<Option<CallsLine>, Memory>
+    ensures { IfOk result (λ c. c ≡ calls_with index reply (words_of line.now)) }
+{
+    match test_line(alloc, line)? {
+        None => Ok(None),
+        Some(test) => Ok(Some(CallsLine {
+            index,
+            reply,
+            test: Some(test),
+        })),
+    }
+}
+
+fn all_calls(index: Decimal, reply: bool) -> CallsLine
+    ensures { Some result ≡ calls_with index reply [] }
+{
+    CallsLine {
+        index,
+        reply,
+        test: None,
+    }
+}
+
+// `[reply] [where ..]`, behind the index.
+fn calls_line(alloc: Global, index: Decimal, line: &[u8]) -> Result<Option<CallsLine>, Memory>
+    ensures { IfOk result (λ c. c ≡ calls_of index (words_of line.now)) }
+{
+    match next_word(line) {
+        Some((first, rest)) if is_word(first, b"reply") => tested_calls(alloc, index, true, rest),
+        None if is_word(line, b"reply") => Ok(Some(all_calls(index, true))),
+        _ => tested_calls(alloc, index, false, line),
+    }
+}
+
+// `method INDEX [reply] [where ..]`
+fn about_line(alloc: Global, line: &[u8]) -> Result<Option<AboutLine>, Memory>
+    ensures { IfOk result (λ a. a ≡ about_of (words_of line.now)) }
+{
+    let Some((first, rest)) = next_word(line) else {
+        return Ok(None);
+    };
+    if !is_word(first, b"method") {
+        return Ok(None);
+    }
+    let Some((index, rest)) = next_word(rest) else {
+        return Ok(match number_of(rest) {
+            None => None,
+            Some(index) => Some(AboutLine::Calls(all_calls(index, false))),
+        });
+    };
+    let Some(index) = number_of(index) else {
+        return Ok(None);
+    };
+    match calls_line(alloc, index, rest)? {
+        None => Ok(None),
+        Some(calls) => Ok(Some(AboutLine::Calls(calls))),
+    }
+}
+
+// `NAME allow|deny ..`
+fn rule_line(alloc: Global, line: &[u8]) -> Result<Option<RuleLine>, Memory>
+    ensures { IfOk result (λ r. r ≡ rule_of (words_of line.now)) }
+{
+    let Some((name, rest)) = next_word(line) else {
+        return Ok(None);
+    };
+    let Some((verb, rest)) = next_word(rest) else {
+        return every_call(alloc, name, rest);
+    };
+    let Some(allow) = allow_of(verb) else {
+        return Ok(None);
+    };
+    let Some(about) = about_line(alloc, rest)? else {
+        return Ok(None);
+    };
+    let name = Bytes::from_slice(alloc, name)?;
+    Ok(Some(RuleLine { name, allow, about }))
+}
+
+// `NAME allow|deny`, and no more
+fn every_call(alloc: Global, name: &[u8], verb: &[u8]) -> Result<Option<RuleLine>, Memory>
+    ensures { IfOk result (λ r. r ≡ rule_of (name.now ∷ verb.now ∷ [])) }
+{
+    let Some(allow) = allow_of(verb) else {
+        return Ok(None);
+    };
+    Ok(Some(RuleLine {
+        name: Bytes::from_slice(alloc, name)?,
+        allow,
+        about: AboutLine::Every,
+    }))
+}
+
+fn default_line(line: &[u8]) -> Option<bool>
+    ensures { result ≡ default_of (words_of line.now) }
+{
+    match next_word(line) {
+        Some(_) => None,
+        None => allow_of(line),
+    }
+}
+
+/// What a line says, or `None` where it is out of form.
+#[tactic(auto, unfolding(crate::specs::Lines::line_of))]
+pub fn line_of(alloc: Global, line: &[u8]) -> Result<Option<Line>, Memory>
+    ensures { IfOk result (λ l. l ≡ line_of line.now) }
+{
+    let Some((first, rest)) = next_word(line) else {
+        return Ok(None);
+    };
+    if is_word(first, b"rule") {
+        match rule_line(alloc, rest)? {
+            None => Ok(None),
+            Some(rule) => Ok(Some(Line::Rule(rule))),
+        }
+    } else if is_word(first, b"default") {
+        match default_line(rest) {
+            None => Ok(None),
+            Some(allow) => Ok(Some(Line::Default(allow))),
+        }
+    } else {
+        Ok(None)
+    }
+}

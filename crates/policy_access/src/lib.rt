@@ -1,0 +1,29 @@
+//! Access policies: rules that allow or deny a call by its method, its sort and its tree.
+//!
+//! [`read_access`] reads a policy from its lines, or tells the first line at fault; [`Access::judge`] says
+//! what a policy says of a call. `specs/Verdict.antt` says which rule decides and when a rule matches,
+//! `specs/Texts.antt` which lines are the text of a policy, and `specs/Faults.antt` what stands against
+//! lines that are none. It stands on `mrpc_table`. The layers above use one contract: the first rule that
+//! matches decides, and else the default; and lines are the text of one policy or have one first fault.
+#![tactic(auto)]
+
+mod access;
+mod call;
+mod condition;
+mod copied;
+mod fault;
+mod find;
+mod form;
+mod laws;
+mod line;
+mod names;
+mod read;
+mod resolve;
+mod rule;
+mod value;
+
+pub use access::Access;
+pub use call::{Call, Verdict};
+pub use fault::{RuleFault, RuleReason};
+pub use laws::{one_fault, one_policy, text_or_fault};
+pub use read::{Lines, read_access};

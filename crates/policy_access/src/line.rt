@@ -1,0 +1,63 @@
+//! What a line of a policy says, by its form alone.
+
+use crate::rule::Comparison;
+use mrpc_table::{Bytes, Decimal, Sequence};
+
+/// A line in form.
+#[derive(Debug, Drop)]
+pub enum Line {
+    /// `rule NAME allow|deny ..`
+    Rule(RuleLine),
+    /// `default allow|deny`, and whether it allows.
+    Default(bool),
+}
+
+/// `rule NAME allow|deny [method INDEX [reply] [where ..]]`
+#[derive(Debug, Drop)]
+pub struct RuleLine {
+    /// The word in the name's place.
+    pub name: Bytes,
+    pub allow: bool,
+    pub about: AboutLine,
+}
+
+/// What a rule is about, as its line says it.
+#[derive(Debug, Drop)]
+pub enum AboutLine {
+    /// Nothing follows: every call.
+    Every,
+    /// `method INDEX [reply] [where ..]`
+    Calls(CallsLine),
+}
+
+/// `method INDEX [reply] [where ..]`
+#[derive(Debug, Drop)]
+pub struct CallsLine {
+    pub index: Decimal,
+    pub reply: bool,
+    pub test: Option<TestLine>,
+}
+
+/// `where PATH OP [VALUE]`
+#[derive(Debug, Drop)]
+pub struct TestLine {
+    pub path: PathLine,
+    pub condition: ConditionLine,
+}
+
+/// Field numbers joined by dots.
+#[derive(Debug, Drop)]
+pub struct PathLine {
+    /// All numbers but the last, in order.
+    pub way: Sequence<Decimal>,
+    pub last: Decimal,
+}
+
+/// `OP [VALUE]`
+#[derive(Debug, Drop)]
+pub enum ConditionLine {
+    /// `present`
+    Present,
+    /// Another OP, and the bytes of VALUE.
+    Compares(Comparison, Bytes),
+}

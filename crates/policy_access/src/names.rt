@@ -1,0 +1,41 @@
+//! The names of the rules so far.
+
+ghost use Rattle.std.specs.Prelude.{◌≡◌, ◌++◌, ◌∷◌, ℕ, List, [], OnOk};
+ghost use Rattle.policy_access.specs.Faults.{is_among};
+ghost use Rattle.policy_access.specs.Names.{Holds};
+
+use mrpc_table::Memory;
+use std::alloc::Global;
+use std::collections::BTreeMap;
+
+/// Names, found by an ordered map.
+#[derive(Debug, Drop)]
+pub struct SeenNames {
+    names: BTreeMap<Vec<u8>, ()>,
+}
+
+impl SeenNames {
+    /// No names.
+    pub fn new(alloc: Global) -> SeenNames
+        ensures { Holds result [] }
+    {
+        SeenNames {
+            names: BTreeMap::new(alloc),
+        }
+    }
+
+    /// Whether the name is among these.
+    pub fn contains(&self, name: &[u8]) -> bool
+        ensures { (names : List (List ℕ)) → Holds self.now names → result ≡ is_among name.now names }
+    {
+        self.names.contains_key(name)
+    }
+
+    /// Adds a name.
+    pub fn add(&mut self, alloc: Global, name: &[u8]) -> Result<(), Memory>
+        ensures { (names : List (List ℕ)) → Holds self.old names → OnOk result (Holds self.new (names ++ name.now ∷ [])) }
+    {
+        self.names.insert(Vec::from_slice(alloc, name)?, ())?;
+        Ok(())
+    }
+}

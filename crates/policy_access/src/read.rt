@@ -1,0 +1,194 @@
+//! Access policies from their lines.
+
+ghost use Rattle.std.specs.Prelude.{◌≡◌, ◌+◌, ◌^◌, ◌<◌, ℕ, List, length, IfOk, IfErr, MatchResult, nat_le};
+ghost use Rattle.mrpc_table.specs.Valid.{IsValid};
+ghost use Rattle.policy_access.specs.Faults.{is_rule_name, is_among, reason_of, IsFaultOf};
+ghost use Rattle.policy_access.specs.Lines.{line_of};
+ghost use Rattle.policy_access.specs.Names.{Holds};
+ghost use Rattle.policy_access.specs.Reading.{names_in, AreRead, DefaultAt};
+ghost use Rattle.policy_access.specs.Texts.{IsTextOf};
+ghost use Rattle.policy_access.specs.Verdict.{AccessPolicy};
+ghost use Rattle.policy_access.specs.declared.fault.RuleFault.TheVariants.{Memory as NoMemory};
+ghost use Rattle.policy_access.specs.Rules.{about_in};
+ghost use Rattle.policy_access.specs.Said.{judged_rule, said_in, reason_behind};
+
+use crate::access::Access;
+use crate::fault::{PartReason, RuleFault, RuleReason};
+use crate::form::{is_word, line_of};
+use crate::line::{Line, RuleLine};
+use crate::names::SeenNames;
+use crate::resolve::about_in;
+use crate::rule::Rule;
+use mrpc_table::{Bytes, Memory, Sequence, Table, is_name_form, is_short};
+use std::alloc::Global;
+
+/// What a line without a fault says.
+#[derive(Debug, Drop)]
+pub enum Said {
+    /// A rule.
+    Rule(Rule),
+    /// The default, and whether it allows.
+    Default(bool),
+}
+
+/// How many rules a policy has at most.
+const RULES: usize = 64;
+
+fn is_rule_name(name: &[u8]) -> bool
+    ensures { result ≡ is_rule_name name.now }
+{
+    is_name_form(name) && is_short(name) && !is_word(name, b"default")
+}
+
+// What a line of a rule says behind rules of these names, or its first reason.
+fn judged_rule(
+    alloc: Global,
+    table: &Table,
+    names: &SeenNames,
+    count: usize,
+    line: RuleLine,
+) -> Result<Result<Rule, RuleReason>, Memory>
+    requires { IsValid table.now }
+    ensures { (before : List (List ℕ)) → Holds names.now before → IfOk result (λ r. r ≡ judged_rule (nat_le 64 count) (about_in table.now line.about) (is_rule_name line.name) (is_among line.name before) line) }
+{
+    if count >= RULES {
+        return Ok(Err(RuleReason::Word));
+    }
+    let about = match about_in(alloc, table, &line.about)? {
+        Err(PartReason::Word) => return Ok(Err(RuleReason::Word)),
+        Err(PartReason::Number) => return Ok(Err(RuleReason::Number)),
+        Err(PartReason::Path) => None,
+        Ok(about) => Some(about),
+    };
+    if !is_rule_name(line.name.as_slice()) {
+        return Ok(Err(RuleReason::Name));
+    }
+    if names.contains(line.name.as_slice()) {
+        return Ok(Err(RuleReason::Known));
+    }
+    match about {
+        None => Ok(Err(RuleReason::Path)),
+        Some(about) => Ok(Ok(Rule {
+            name: line.name,
+            allow: line.allow,
+            about,
+        })),
+    }
+}
+
+/// What a line says behind `count` rules of these names, or its first reason.
+pub fn said_in(
+    alloc: Global,
+    table: &Table,
+    names: &SeenNames,
+    count: usize,
+    line: &[u8],
+) -> Result<Result<Said, RuleReason>, Memory>
+    requires { IsValid table.now }
+    ensures { (before : List (List ℕ)) → Holds names.now before → count ≡ length before → IfOk result (λ s. s ≡ said_in table.now before (line_of line.now)) }
+{
+    match line_of(alloc, line)? {
+        None => Ok(Err(RuleReason::Word)),
+        Some(Line::Default(allow)) => Ok(Ok(Said::Default(allow))),
+        Some(Line::Rule(rule)) => match judged_rule(alloc, table, names, count, rule)? {
+            Err(reason) => Ok(Err(reason)),
+            Ok(rule) => Ok(Ok(Said::Rule(rule))),
+        },
+    }
+}
+
+/// The lines of a policy, without their line feeds.
+pub type Lines = Sequence<Bytes>;
+
+// The fault at a place, counted from 0.
+fn fault_at(place: usize, reason: RuleReason) -> RuleFault
+    requires { place < 2 ^ 63 }
+    ensures { result ≡ RuleFault.At (place + 1) reason }
+{
+    RuleFault::At {
+        line: place as u64 + 1,
+        reason,
+    }
+}
+
+// What stands against the line behind the default.
+fn reason_behind(
+    alloc: Global,
+    table: &Table,
+    names: &SeenNames,
+    count: usize,
+    line: &[u8],
+) -> Result<RuleReason, Memory>
+    requires { IsValid table.now }
+    ensures { (before : List (List ℕ)) → Holds names.now before → count ≡ length before → IfOk result (λ q. q ≡ reason_behind (said_in table.now before (line_of line.now))) }
+{
+    match said_in(alloc, table, names, count, line)? {
+        Err(reason) => Ok(reason),
+        Ok(_) => Ok(RuleReason::Default),
+    }
+}
+
+// The policy, where the default's line at this place is the last, or the fault of the line behind it.
+fn finish(
+    alloc: Global,
+    table: &Table,
+    lines: &[Bytes],
+    place: usize,
+    names: &SeenNames,
+    rules: Vec<Rule>,
+    allow: bool,
+) -> Result<Access, RuleFault>
+    requires valid { IsValid table.now }
+    requires read { AreRead table.now lines.now place rules.items }
+    requires names { Holds names.now (names_in rules.items) }
+    requires default { DefaultAt table.now lines.now place rules.items allow }
+    ensures accepted { IfOk result (λ a. IsTextOf table.now lines.now a) }
+    ensures fault { IfErr result (λ e. IsFaultOf table.now lines.now e) }
+{
+    match lines.get(place + 1) {
+        None => Ok(Access::new(alloc, rules, allow)?),
+        Some(line) => {
+            let reason = reason_behind(alloc, table, names, rules.len(), line.as_slice())?;
+            Err(fault_at(place + 1, reason))
+        }
+    }
+}
+
+fn read_lines(alloc: Global, lines: &[Bytes], table: &Table) -> Result<Access, RuleFault>
+    requires { IsValid table.now }
+    ensures accepted { IfOk result (λ a. IsTextOf table.now lines.now a) }
+    ensures fault { IfErr result (λ e. IsFaultOf table.now lines.now e) }
+{
+    let mut rules = Vec::new(alloc);
+    let mut names = SeenNames::new(alloc);
+    for (place, line) in lines.iter().enumerate() {
+        match said_in(alloc, table, &names, rules.len(), line.as_slice())? {
+            Err(reason) => return Err(fault_at(place, reason)),
+            Ok(Said::Default(allow)) => {
+                return finish(alloc, table, lines, place, &names, rules, allow);
+            }
+            Ok(Said::Rule(rule)) => {
+                names.add(alloc, rule.name.as_slice())?;
+                rules.push(rule)?;
+            }
+        }
+    }
+    Err(fault_at(lines.len(), RuleReason::Default))
+}
+
+/// The access policy that the lines say, or their first fault. Each line but the last is a rule,
+/// `rule NAME allow|deny [method INDEX [reply] [where PATH OP [VALUE]]]`, 64 at most, and the last is
+/// `default allow|deny`. Paths and methods are those of the table. It takes time in proportion to the
+/// text, but for the look-up of names, fields and methods by search. `RuleFault::Memory` comes where
+/// memory is wanted.
+pub fn read_access(alloc: Global, lines: &Lines, table: &Table) -> Result<Access, RuleFault>
+    requires { IsValid table.now }
+    // What is read is what the lines say.
+    ensures accepted { IfOk result (λ policy. IsTextOf table.now lines.now policy) }
+    // The text of a policy gives this policy, unless memory runs out.
+    ensures only { (policy : AccessPolicy) → IsTextOf table.now lines.now policy → MatchResult result (λ read. read ≡ policy) (λ fault. fault ≡ NoMemory) }
+    // A fault is the first one of the lines.
+    ensures fault { IfErr result (λ fault. IsFaultOf table.now lines.now fault) }
+{
+    read_lines(alloc, lines.as_slice(), table)
+}

@@ -1,0 +1,247 @@
+//! What a rule is about in a table.
+
+ghost use Rattle.std.specs.Prelude.{◌≡◌, ◌<◌, ℕ, length, IfOk, option_map};
+ghost use Rattle.std.specs.Option.{option_copied};
+ghost use Rattle.mrpc_table.specs.Normal.{fields_of, field_at};
+ghost use Rattle.mrpc_table.specs.Valid.{IsValid};
+ghost use Rattle.policy_access.specs.Rules.{field_numbered, is_single, step_in, way_in, path_in, has_value, is_comparable, is_run, suits, condition_in, test_in, tests_in, message_of, calls_of_method, calls_in, about_in};
+
+use crate::fault::PartReason;
+use crate::line::{AboutLine, CallsLine, ConditionLine, PathLine, TestLine};
+use crate::rule::{About, Calls, Comparison, Condition, Path, Test};
+use crate::value::operand_of;
+use mrpc_table::{Decimal, Field, Kind, Label, Memory, Sequence, Table};
+use std::alloc::Global;
+
+fn field_of(table: &Table, msg: u32, number: u32) -> Option<&Field>
+    requires { IsValid table.now }
+    ensures { option_copied result ≡ field_at (fields_of table.now msg) number }
+{
+    match table.messages.as_slice().get(msg as usize) {
+        Some(message) => message.field(number),
+        None => None,
+    }
+}
+
+// The field of a number; no field has a number of more than 32 bits.
+fn field_numbered(table: &Table, msg: u32, number: Decimal) -> Option<&Field>
+    requires { IsValid table.now }
+    ensures { option_copied result ≡ field_numbered table.now msg number }
+{
+    match number {
+        Decimal::Small(number) if number < 0x1_0000_0000 => field_of(table, msg, number as u32),
+        _ => None,
+    }
+}
+
+fn is_single(label: Label) -> bool
+    ensures { result ≡ is_single label }
+{
+    matches!(label, Label::Plain | Label::Member(_))
+}
+
+// A field on the way: its number, and the message that it has.
+fn step_in(table: &Table, msg: u32, number: Decimal) -> Option<(u32, u32)>
+    requires { IsValid table.now }
+    ensures { result ≡ step_in table.now msg number }
+{
+    let field = field_numbered(table, msg, number)?;
+    match field.kind {
+        Kind::Message(inner) if is_single(field.label) => Some((field.number, inner)),
+        _ => None,
+    }
+}
+
+// The numbers of a way and the message at its end.
+fn way_in(
+    alloc: Global,
+    table: &Table,
+    msg: u32,
+    numbers: &[Decimal],
+) -> Result<Option<(Vec<u32>, u32)>, Memory>
+    requires { IsValid table.now }
+    ensures { IfOk result (λ w. option_map (λ p. (p.0.items, p.1)) w ≡ way_in table.now msg numbers.now) }
+{
+    let mut way = Vec::with_capacity(alloc, numbers.len())?;
+    let mut message = msg;
+    for number in numbers {
+        let Some((step, inner)) = step_in(table, message, *number) else {
+            return Ok(None);
+        };
+        way.push(step)?;
+        message = inner;
+    }
+    Ok(Some((way, message)))
+}
+
+fn path_in(alloc: Global, table: &Table, msg: u32, path: &PathLine) -> Result<Option<Path>, Memory>
+    requires { IsValid table.now }
+    ensures { IfOk result (λ p. p ≡ path_in table.now msg path.now) }
+{
+    let Some((way, message)) = way_in(alloc, table, msg, path.way.as_slice())? else {
+        return Ok(None);
+    };
+    let Some(field) = field_numbered(table, message, path.last) else {
+        return Ok(None);
+    };
+    Ok(Some(Path {
+        way: Sequence::from_vec(way),
+        number: field.number,
+        kind: field.kind,
+        label: field.label,
+    }))
+}
+
+fn has_value(label: Label) -> bool
+    ensures { result ≡ has_value label }
+{
+    matches!(label, Label::Plain | Label::Optional | Label::Member(_))
+}
+
+fn is_comparable(kind: Kind) -> bool
+    ensures { result ≡ is_comparable kind }
+{
+    !matches!(kind, Kind::Float | Kind::Double | Kind::Message(_))
+}
+
+fn is_run(kind: Kind) -> bool
+    ensures { result ≡ is_run kind }
+{
+    matches!(kind, Kind::Text | Kind::Octets)
+}
+
+fn suits(comparison: Comparison, kind: Kind) -> bool
+    ensures { result ≡ suits comparison kind }
+{
+    match comparison {
+        Comparison::Equal | Comparison::NotEqual => is_comparable(kind),
+        Comparison::Less | Comparison::Greater => is_comparable(kind) && !is_run(kind),
+        Comparison::Starts => is_run(kind),
+    }
+}
+
+fn condition_in(
+    alloc: Global,
+    path: &Path,
+    condition: &ConditionLine,
+) -> Result<Result<Condition, PartReason>, Memory>
+    ensures { IfOk result (λ c. c ≡ condition_in path.now condition.now) }
+{
+    match condition {
+        ConditionLine::Present => Ok(Ok(Condition::Present)),
+        ConditionLine::Compares(comparison, value) => {
+            if !has_value(path.label) || !suits(*comparison, path.kind) {
+                return Ok(Err(PartReason::Path));
+            }
+            match operand_of(alloc, path.kind, value.as_slice())? {
+                Err(reason) => Ok(Err(reason)),
+                Ok(operand) => Ok(Ok(Condition::Compares(*comparison, operand))),
+            }
+        }
+    }
+}
+
+fn test_in(
+    alloc: Global,
+    table: &Table,
+    msg: u32,
+    test: &TestLine,
+) -> Result<Result<Test, PartReason>, Memory>
+    requires { IsValid table.now }
+    ensures { IfOk result (λ t. t ≡ test_in table.now msg test.now) }
+{
+    let Some(path) = path_in(alloc, table, msg, &test.path)? else {
+        return Ok(Err(PartReason::Path));
+    };
+    match condition_in(alloc, &path, &test.condition)? {
+        Err(reason) => Ok(Err(reason)),
+        Ok(condition) => Ok(Ok(Test { path, condition })),
+    }
+}
+
+fn tests_in(
+    alloc: Global,
+    table: &Table,
+    msg: u32,
+    test: &Option<TestLine>,
+) -> Result<Result<Option<Test>, PartReason>, Memory>
+    requires { IsValid table.now }
+    ensures { IfOk result (λ t. t ≡ tests_in table.now msg test.now) }
+{
+    match test {
+        None => Ok(Ok(None)),
+        Some(test) => match test_in(alloc, table, msg, test)? {
+            Err(reason) => Ok(Err(reason)),
+            Ok(test) => Ok(Ok(Some(test))),
+        },
+    }
+}
+
+// The message of a method's replies, or of its requests.
+fn message_of(table: &Table, method: u16, reply: bool) -> u32
+    requires valid { IsValid table.now }
+    requires known { method < length table.now.methods }
+    ensures { result ≡ message_of table.now method reply }
+{
+    table.message_of(method, if reply { 1 } else { 0 })
+}
+
+fn calls_of_method(
+    alloc: Global,
+    table: &Table,
+    method: u16,
+    calls: &CallsLine,
+) -> Result<Result<Calls, PartReason>, Memory>
+    requires { IsValid table.now }
+    ensures { IfOk result (λ c. c ≡ calls_of_method table.now method calls.now.reply calls.now.test) }
+{
+    if method as usize >= table.methods.len() {
+        return Ok(Err(PartReason::Path));
+    }
+    let reply = calls.reply;
+    let msg = message_of(table, method, reply);
+    match tests_in(alloc, table, msg, &calls.test)? {
+        Err(reason) => Ok(Err(reason)),
+        Ok(test) => Ok(Ok(Calls {
+            method,
+            reply,
+            test,
+        })),
+    }
+}
+
+fn calls_in(
+    alloc: Global,
+    table: &Table,
+    calls: &CallsLine,
+) -> Result<Result<Calls, PartReason>, Memory>
+    requires { IsValid table.now }
+    ensures { IfOk result (λ c. c ≡ calls_in table.now calls.now) }
+{
+    match calls.index {
+        Decimal::Small(index) if index < 65536 => {
+            calls_of_method(alloc, table, index as u16, calls)
+        }
+        _ => Ok(Err(PartReason::Number)),
+    }
+}
+
+/// What a rule is about in the table: `Number` for an index of more than 16 bits or a value out of range,
+/// `Path` for a method or a field that the table lacks or an operation that doesn't go with it, `Word` for
+/// a value out of form.
+pub fn about_in(
+    alloc: Global,
+    table: &Table,
+    about: &AboutLine,
+) -> Result<Result<About, PartReason>, Memory>
+    requires { IsValid table.now }
+    ensures { IfOk result (λ a. a ≡ about_in table.now about.now) }
+{
+    match about {
+        AboutLine::Every => Ok(Ok(About::Every)),
+        AboutLine::Calls(calls) => match calls_in(alloc, table, calls)? {
+            Err(reason) => Ok(Err(reason)),
+            Ok(calls) => Ok(Ok(About::Calls(calls))),
+        },
+    }
+}

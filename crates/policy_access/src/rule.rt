@@ -1,0 +1,84 @@
+//! What one rule says.
+
+use mrpc_table::{Bytes, Kind, Label, Name, Sequence};
+
+/// One rule of a policy.
+#[derive(Debug, Drop)]
+pub struct Rule {
+    pub name: Name,
+    /// Whether a call that matches is allowed, or else denied.
+    pub allow: bool,
+    pub about: About,
+}
+
+/// Which calls a rule matches.
+#[derive(Debug, Drop)]
+pub enum About {
+    /// Every call.
+    Every,
+    /// The requests, or the replies, of a method.
+    Calls(Calls),
+}
+
+/// The requests, or the replies, of a method, or those of them that meet a test.
+#[derive(Debug, Drop)]
+pub struct Calls {
+    /// The index of the method in the table.
+    pub method: u16,
+    /// Whether the rule is about replies, and else about requests.
+    pub reply: bool,
+    pub test: Option<Test>,
+}
+
+/// What a call's tree must be for a rule to match.
+#[derive(Debug, Drop)]
+pub struct Test {
+    pub path: Path,
+    pub condition: Condition,
+}
+
+/// A way into a tree, and the field at its end.
+#[derive(Debug, Drop)]
+pub struct Path {
+    /// The numbers of the messages on the way, the outermost first.
+    pub way: Sequence<u32>,
+    /// The number of the field at the end.
+    pub number: u32,
+    /// The kind of that field.
+    pub kind: Kind,
+    /// The label of that field.
+    pub label: Label,
+}
+
+/// What is asked of the field at the end of a path.
+#[derive(Debug, Drop)]
+pub enum Condition {
+    /// `present`: the tree has the field.
+    Present,
+    /// There is a value, and it compares so with this one.
+    Compares(Comparison, Operand),
+}
+
+/// How a value compares with that of a rule.
+#[derive(Clone, Copy, Debug, PartialEq, Eq)]
+pub enum Comparison {
+    /// `eq`: it is the same.
+    Equal,
+    /// `ne`: it is another.
+    NotEqual,
+    /// `lt`: it is a smaller number.
+    Less,
+    /// `gt`: it is a greater number.
+    Greater,
+    /// `starts`: its bytes begin with those of the rule.
+    Starts,
+}
+
+/// A value that a rule compares with.
+#[derive(Debug, Drop)]
+pub enum Operand {
+    /// A number, a truth value or an enum's value, in the word form of its kind.
+    Number(u64),
+    /// The bytes of a string or of bytes.
+    Run(Bytes),
+}

@@ -1,0 +1,159 @@
+//! What a value says of a field of a kind.
+
+ghost use Rattle.std.specs.Prelude.{◌≡◌, nat_lt, IfOk};
+ghost use Rattle.std.specs.List.{list_all};
+ghost use Rattle.std.specs.Option.{option_copied};
+ghost use Rattle.std.specs.Result.{result_ok};
+ghost use Rattle.hex.specs.Hex.{decode_of};
+ghost use Rattle.policy_access.specs.Values.{depth_of, limit_of, positive_word, negative_word, number_value, is_text_byte, quoted, text_value, is_lower_digit, run_or_word, bytes_value, operand_of};
+
+use crate::fault::PartReason;
+use crate::rule::Operand;
+use hex::FromHexError;
+use mrpc_table::{Bytes, Decimal, Kind, Memory, cut, number_of};
+use std::alloc::Global;
+
+// How far below zero the numbers of a kind go.
+fn depth_of(kind: Kind) -> u64
+    ensures { result ≡ depth_of kind }
+{
+    match kind {
+        Kind::Int32 | Kind::Sint32 | Kind::Sfixed32 | Kind::Choice(_) => 0x8000_0000,
+        Kind::Int64 | Kind::Sint64 | Kind::Sfixed64 => 0x8000_0000_0000_0000,
+        _ => 0,
+    }
+}
+
+// Whether a number without a sign is one of the kind.
+fn is_below_limit(kind: Kind, number: u64) -> bool
+    ensures { result ≡ nat_lt number (limit_of kind) }
+{
+    match kind {
+        Kind::Int32 | Kind::Sint32 | Kind::Sfixed32 | Kind::Choice(_) => number < 0x8000_0000,
+        Kind::Int64 | Kind::Sint64 | Kind::Sfixed64 => number < 0x8000_0000_0000_0000,
+        Kind::Uint32 | Kind::Fixed32 => number < 0x1_0000_0000,
+        Kind::Bool => number < 2,
+        _ => true,
+    }
+}
+
+fn positive_word(kind: Kind, number: Decimal) -> Result<Operand, PartReason>
+    ensures { result ≡ positive_word kind number }
+{
+    match number {
+        Decimal::Small(number) if is_below_limit(kind, number) => Ok(Operand::Number(number)),
+        _ => Err(PartReason::Number),
+    }
+}
+
+fn negative_word(kind: Kind, number: Decimal) -> Result<Operand, PartReason>
+    ensures { result ≡ negative_word kind number }
+{
+    match number {
+        Decimal::Small(number) if number <= depth_of(kind) => {
+            Ok(Operand::Number(number.wrapping_neg()))
+        }
+        _ => Err(PartReason::Number),
+    }
+}
+
+fn number_value(kind: Kind, word: &[u8]) -> Result<Operand, PartReason>
+    ensures { result ≡ number_value kind word.now }
+{
+    match word {
+        [] => Err(PartReason::Word),
+        [b'-', digits @ ..] => match number_of(digits) {
+            None => Err(PartReason::Word),
+            Some(number) => negative_word(kind, number),
+        },
+        _ => match number_of(word) {
+            None => Err(PartReason::Word),
+            Some(number) => positive_word(kind, number),
+        },
+    }
+}
+
+fn is_text_byte(byte: u8) -> bool
+    ensures { result ≡ is_text_byte byte }
+{
+    byte >= 32 && byte != 127
+}
+
+fn are_text_bytes(text: &[u8]) -> bool
+    ensures { result ≡ list_all is_text_byte text.now }
+{
+    text.iter().all(|byte| is_text_byte(*byte))
+}
+
+// Bytes between quotes.
+fn quoted(word: &[u8]) -> Option<&[u8]>
+    ensures { option_copied result ≡ quoted word.now }
+{
+    let (before, rest) = cut(word, b'"')?;
+    let (text, after) = cut(rest, b'"')?;
+    if before.is_empty() && after.is_empty() {
+        Some(text)
+    } else {
+        None
+    }
+}
+
+fn text_value(alloc: Global, word: &[u8]) -> Result<Result<Operand, PartReason>, Memory>
+    ensures { IfOk result (λ r. r ≡ text_value word.now) }
+{
+    match quoted(word) {
+        Some(text) if are_text_bytes(text) && text.len() <= 255 => {
+            Ok(Ok(Operand::Run(Bytes::from_slice(alloc, text)?)))
+        }
+        _ => Ok(Err(PartReason::Word)),
+    }
+}
+
+fn is_lower_digit(byte: u8) -> bool
+    ensures { result ≡ is_lower_digit byte }
+{
+    (byte >= 48 && byte <= 57) || (byte >= 97 && byte <= 102)
+}
+
+fn are_lower_digits(digits: &[u8]) -> bool
+    ensures { result ≡ list_all is_lower_digit digits.now }
+{
+    digits.iter().all(|byte| is_lower_digit(*byte))
+}
+
+fn bytes_of(alloc: Global, digits: &[u8]) -> Result<Result<Operand, PartReason>, Memory>
+    ensures { IfOk result (λ r. r ≡ run_or_word (result_ok (decode_of digits.now))) }
+{
+    match hex::decode(alloc, digits) {
+        Ok(bytes) => Ok(Ok(Operand::Run(Bytes::from_vec(bytes)))),
+        Err(FromHexError::OutOfMemory) => Err(Memory),
+        Err(_) => Ok(Err(PartReason::Word)),
+    }
+}
+
+fn bytes_value(alloc: Global, word: &[u8]) -> Result<Result<Operand, PartReason>, Memory>
+    ensures { IfOk result (λ r. r ≡ bytes_value word.now) }
+{
+    match word {
+        [b'x', digits @ ..] if are_lower_digits(digits) => bytes_of(alloc, digits),
+        _ => Ok(Err(PartReason::Word)),
+    }
+}
+
+/// What a value says of a field of the kind: `Word` where it is out of form, `Number` where it is out of
+/// range. Numbers are digits, behind a `-` or not; a text stands in quotes; bytes are lower-case
+/// hexadecimal digits behind an `x`.
+pub fn operand_of(
+    alloc: Global,
+    kind: Kind,
+    word: &[u8],
+) -> Result<Result<Operand, PartReason>, Memory>
+    ensures { IfOk result (λ r. r ≡ operand_of kind word.now) }
+{
+    match kind {
+        Kind::Text => text_value(alloc, word),
+        Kind::Octets => bytes_value(alloc, word),
+        Kind::Message(_) => Ok(Err(PartReason::Word)),
+        _ => Ok(number_value(kind, word)),
+    }
+}
