@@ -1,0 +1,77 @@
+use Rattle.std.specs.Prelude.{ℕ, ◌+◌, ◌<◌, ◌^◌, ◌==◌, ◌&&◌, Bool, true, false, List, count_by}
+use Rattle.telemetry.specs.declared.counts.Counts.{Counts}
+use Rattle.telemetry.specs.declared.counts.What.{What}
+use Rattle.telemetry.specs.declared.counts.What.TheVariants.{Took, Sent, Refused, Standing}
+
+-- something that happened to a call of a method
+pub record Happened : Type 0 where
+  pub method : ℕ
+  pub what : What
+
+-- whether the two are the same
+abbrev pub is_what : What → What → Bool
+is_what Took Took = true
+is_what Sent Sent = true
+is_what Refused Refused = true
+is_what Standing Standing = true
+is_what what other = false
+
+-- how often this happened to the calls of a method
+abbrev pub count_of : List Happened → ℕ → What → ℕ
+count_of happened method what = count_by (λ h. (h.method == method) && is_what what h.what) happened
+
+-- what happened to the calls of a method
+abbrev pub counts_of : List Happened → ℕ → Counts
+counts_of happened method = record {
+  took = count_of happened method Took;
+  sent = count_of happened method Sent;
+  refused = count_of happened method Refused;
+  standing = count_of happened method Standing;
+}
+
+-- how often this happened at all
+abbrev pub count_all : List Happened → What → ℕ
+count_all happened what = count_by (λ h. is_what what h.what) happened
+
+-- what happened to calls of all methods
+abbrev pub all_counts : List Happened → Counts
+all_counts happened = record {
+  took = count_all happened Took;
+  sent = count_all happened Sent;
+  refused = count_all happened Refused;
+  standing = count_all happened Standing;
+}
+
+-- the counts of nothing
+abbrev pub no_counts : Counts
+no_counts = record { took = 0; sent = 0; refused = 0; standing = 0 }
+
+-- one of four counts
+abbrev pub number_of : What → Counts → ℕ
+number_of Took counts = counts.took
+number_of Sent counts = counts.sent
+number_of Refused counts = counts.refused
+number_of Standing counts = counts.standing
+
+-- four counts, of which this one is one more
+abbrev pub one_more : What → Counts → Counts
+one_more Took counts = record { took = counts.took + 1; sent = counts.sent; refused = counts.refused; standing = counts.standing }
+one_more Sent counts = record { took = counts.took; sent = counts.sent + 1; refused = counts.refused; standing = counts.standing }
+one_more Refused counts = record { took = counts.took; sent = counts.sent; refused = counts.refused + 1; standing = counts.standing }
+one_more Standing counts = record { took = counts.took; sent = counts.sent; refused = counts.refused; standing = counts.standing + 1 }
+
+-- the sums of four counts
+abbrev pub plus : Counts → Counts → Counts
+plus counts others = record {
+  took = counts.took + others.took;
+  sent = counts.sent + others.sent;
+  refused = counts.refused + others.refused;
+  standing = counts.standing + others.standing;
+}
+
+-- each count has 64 bits
+pub record IsSmall (counts : Counts) : Type 0 where
+  pub took : counts.took < 2 ^ 64
+  pub sent : counts.sent < 2 ^ 64
+  pub refused : counts.refused < 2 ^ 64
+  pub standing : counts.standing < 2 ^ 64

@@ -1,0 +1,48 @@
+//! The lines of counts. Their format is this project's own.
+
+ghost use Rattle.std.specs.Prelude.{◌≡◌, ◌==◌, if◌then◌else◌, [], ◌++◌, OnOk};
+ghost use Rattle.telemetry.specs.Totals.{count_words, method_line, totals_line, word};
+
+use crate::counts::Counts;
+use mrpc_table::{Bytes, Memory};
+
+/// Appends the line of a method's counts, or nothing where no call of it was taken. The only error is
+/// `Memory`.
+pub fn put_method(out: &mut Bytes, method: u16, counts: Counts) -> Result<(), Memory>
+    ensures { OnOk result (out.new ≡ out.old ++ (if counts.took == 0 then [] else method_line method counts)) }
+{
+    if counts.took == 0 {
+        return Ok(());
+    }
+    out.append(b"method")?;
+    put_word(out, u64::from(method))?;
+    put_counts(out, counts)?;
+    out.append(b"\n")
+}
+
+/// Appends the line of the counts over all methods. The only error is `Memory`.
+pub fn put_totals(out: &mut Bytes, counts: Counts) -> Result<(), Memory>
+    ensures { OnOk result (out.new ≡ out.old ++ totals_line counts) }
+{
+    out.append(b"totals")?;
+    put_counts(out, counts)?;
+    out.append(b"\n")
+}
+
+// Appends four counts as further words of a line.
+fn put_counts(out: &mut Bytes, counts: Counts) -> Result<(), Memory>
+    ensures { OnOk result (out.new ≡ out.old ++ count_words counts) }
+{
+    put_word(out, counts.took)?;
+    put_word(out, counts.sent)?;
+    put_word(out, counts.refused)?;
+    put_word(out, counts.standing)
+}
+
+// Appends a space and the decimal number behind it.
+fn put_word(out: &mut Bytes, number: u64) -> Result<(), Memory>
+    ensures { OnOk result (out.new ≡ out.old ++ word number) }
+{
+    out.append(b" ")?;
+    out.append_decimal(number)
+}
