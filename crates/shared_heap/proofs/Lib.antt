@@ -1,0 +1,5 @@
+mod LastStore
+mod Seats
+mod Steps
+mod Freshness
+mod Rows

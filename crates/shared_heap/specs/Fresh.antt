@@ -1,0 +1,60 @@
+-- What a reader knows of the stores to a heap, and what its loads say of them.
+use Rattle.std.specs.Prelude.{◌≡◌, ◌≢◌, ℕ, Bool, ◌≤◌, List, ◌++◌, All, length, take}
+use Rattle.std.specs.List.{AllZip}
+use Rattle.std.specs.List.Sorted.{IsNonDecreasing}
+use Rattle.mrpc_base.specs.Heap.{word_after}
+use Rattle.atomic_table.specs.Seated.{TableId}
+use Rattle.shared_heap.specs.declared.view.Load.{Load}
+
+-- which heap it is, with how many words it has
+abbrev pub HeapId : Type 0
+HeapId = TableId
+
+-- a list begins with another
+abbrev pub BeginsWith : {X : Type 0} → List X → List X → Type 0
+BeginsWith {X} whole front = (rest : List X) × (whole ≡ front ++ rest)
+
+-- a load's number: so many first stores gave its place the value that was loaded; they are no fewer than its reader knew
+pub record IsNumberOf (stores : List (ℕ × ℕ)) (load : Load) (number : ℕ) : Type 0 where
+  pub known : load.knew ≤ number
+  pub made : number ≤ length stores
+  pub value : load.value ≡ word_after (take number stores) load.place
+
+-- loads are fresh for a list of stores: each has its number, and the numbers never fall
+abbrev pub Fresh : List Load → List (ℕ × ℕ) → Type 0
+Fresh loads stores = (numbers : List ℕ) × IsNonDecreasing numbers × AllZip (IsNumberOf stores) loads numbers
+
+-- no store goes to a place
+abbrev pub NoneTo : ℕ → List (ℕ × ℕ) → Type 0
+NoneTo place stores = All (λ store. store.0 ≢ place) stores
+
+abbrev pub load_of : ℕ → ℕ → ℕ → Load
+load_of place value knew = record { place = place; value = value; knew = knew }
+
+-- the place and the value of a load
+abbrev pub word_of : Load → ℕ × ℕ
+word_of load = (load.place, load.value)
+
+-- the writing end of a heap
+pub record Writing : Type 0 where
+  pub heap : HeapId
+  -- every store so far, a place and a value, in order
+  pub stores : List (ℕ × ℕ)
+
+-- a note
+pub record Noting : Type 0 where
+  pub heap : HeapId
+  -- the stores that it knows, the first that there were
+  pub stores : List (ℕ × ℕ)
+  -- whether they are all that there will ever be
+  pub last : Bool
+
+-- the reading end of a heap
+pub record Reading : Type 0 where
+  pub heap : HeapId
+  -- the stores that it knows, the first that there were
+  pub known : List (ℕ × ℕ)
+  -- whether they are all that there will ever be
+  pub whole : Bool
+  -- every load so far, in order
+  pub loads : List Load

@@ -1,0 +1,36 @@
+ghost use Rattle.std.specs.Prelude.{◌≡◌, length};
+
+use crate::view::View;
+use atomic_table::Seat;
+use std::marker::Model;
+
+/// What a writer had stored when it made the note, which a reader can be told. It has no lifetime and may go to any
+/// thread. Contracts see it as a `Noting`: of which heap it is, the stores that it knows, and whether they are all
+/// that there will ever be.
+#[derive(Drop)]
+pub struct Note {
+    pub(crate) seat: Seat<(), View>,
+    pub(crate) stores: u64,
+}
+
+impl Model for Note {
+    ghost use Rattle.std.specs.Prelude.{is_some};
+    ghost use Rattle.shared_heap.specs.Fresh.{Noting};
+
+    ghost Value = { Noting };
+
+    ghost use Rattle.shared_heap.specs.Reading.{IsNote};
+
+    ghost view = { λ n. record { heap = n.seat.table_id; stores = n.seat.me.0.known; last = is_some n.seat.me.0.all } };
+
+    ghost invariant = { λ n. IsNote n.stores n.seat.me };
+}
+
+impl Note {
+    /// How many stores it knows.
+    pub fn stores(&self) -> u64
+        ensures { result ≡ length self.now.stores }
+    {
+        self.stores
+    }
+}

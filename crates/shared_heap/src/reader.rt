@@ -1,0 +1,111 @@
+ghost use Rattle.std.specs.Prelude.{◌≡◌, ◌<◌, ◌≤◌, ℕ, List, [], ◌∷◌, ◌++◌, length, take, drop, ◌||◌, IsTrue};
+ghost use Rattle.mrpc_base.specs.Heap.{word_after};
+ghost use Rattle.shared_heap.specs.Fresh.{BeginsWith, Fresh, NoneTo, load_of};
+
+use crate::note::Note;
+use crate::view::{Knowing, LoadOne, Settle, Table, View};
+use atomic_table::Seat;
+use mrpc_base::{Room, Words};
+use std::alloc::Global;
+use std::marker::Model;
+use std::sync::Arc;
+
+/// The reading end of a heap. No call of it waits, and none takes memory. Contracts see it as a `Reading`: of which
+/// heap it is, the stores that it knows, whether they are all that there will ever be, and every load so far.
+#[derive(Drop)]
+pub struct Reader {
+    pub(crate) words: Arc<Table, Global>,
+    pub(crate) seat: Seat<(), View>,
+}
+
+impl Model for Reader {
+    ghost use Rattle.std.specs.Arc.{arc_value};
+    ghost use Rattle.shared_heap.specs.Fresh.{Reading};
+
+    ghost Value = { Reading };
+
+    ghost use Rattle.std.specs.Prelude.{is_some};
+    ghost use Rattle.shared_heap.specs.Reading.{IsReading};
+
+    ghost view = { λ r. record { heap = r.seat.table_id; known = r.seat.me.0.known; whole = is_some r.seat.me.0.all; loads = r.seat.me.0.loads } };
+
+    ghost invariant = { λ r. IsReading r.seat.table_id (arc_value r.words).shared.table_id (arc_value r.words).shared.key r.seat.me };
+}
+
+impl Words for Reader {
+    ghost use Rattle.std.specs.Prelude.{◌-◌, ◌^◌, Some, map};
+    ghost use Rattle.shared_heap.specs.Fresh.{word_of};
+
+    ghost size = { λ r. r.heap.words };
+
+    ghost loads = { λ r. map word_of r.loads };
+
+    ghost stores = { λ r. Some r.known };
+
+    ghost room = { λ _. 2 ^ 64 - 1 };
+
+    fn words(&self) -> u64
+        ensures { result ≡ self.now.heap.words }
+    {
+        self.words.word_count() as u64
+    }
+
+    /// There is always room: the loads exist for contracts alone.
+    fn room_loads(&mut self, n: u64) -> Room
+        ensures made { result ≡ Room.Made }
+        ensures enough { n ≤ 2 ^ 64 - 1 }
+        ensures same { self.new ≡ self.old }
+    {
+        let _ = n;
+        Room::Made
+    }
+
+    /// Loads the word at `place`, which is counted from 0. It waits for nobody.
+    fn load(&mut self, place: u64) -> u64
+        requires in_heap { place < self.old.heap.words }
+
+        ensures loaded { self.new.loads ≡ self.old.loads ++ load_of place result (length self.old.known) ∷ [] }
+        // The reader then knows all stores that there were at the load, and the word is that of all of them.
+        ensures grows { BeginsWith self.new.known self.old.known }
+        ensures last { result ≡ word_after self.new.known place }
+        // A word to which no store went after so many that the reader knew is the one that those made, whatever
+        // list of stores goes on from what is known.
+        ensures untouched { (all : List (ℕ × ℕ)) (after : ℕ) → BeginsWith all self.new.known → after ≤ length self.old.known → NoneTo place (drop after all) → result ≡ word_after (take after all) place }
+
+        ensures heap { self.new.heap ≡ self.old.heap }
+        ensures whole { self.new.whole ≡ self.old.whole }
+        ensures none_left { IsTrue self.old.whole → self.new.known ≡ self.old.known }
+    {
+        let words = &self.words.shared;
+        words.load::<LoadOne>(&mut self.seat, place as usize)
+    }
+}
+
+impl Reader {
+    /// Learns what a note of the same heap knows. It waits for nobody and takes no memory.
+    pub fn meet(&mut self, note: Note)
+        requires { note.heap ≡ self.old.heap }
+
+        ensures told { BeginsWith self.new.known note.stores }
+        ensures grows { BeginsWith self.new.known self.old.known }
+        ensures last { IsTrue note.last → self.new.known ≡ note.stores }
+        ensures none_left { IsTrue self.old.whole → self.new.known ≡ self.old.known }
+        ensures whole { self.new.whole ≡ (self.old.whole || note.last) }
+        ensures loads { self.new.loads ≡ self.old.loads }
+        ensures heap { self.new.heap ≡ self.old.heap }
+    {
+        let Note { seat, stores: _ } = note;
+        let words = &self.words.shared;
+        words.join_seat::<Knowing>(&mut self.seat, seat);
+        // The join leaves what was told beside what is known; this load makes one list of both.
+        words.load::<Settle>(&mut self.seat, 0);
+    }
+
+    /// The law of loads: those of a reader are fresh for the stores that it knows. Where the writer's last note was
+    /// met, these are all stores that there will ever be.
+    pub fn loads_are_fresh(&self)
+        ensures { Fresh self.now.loads self.now.known }
+    {
+        let _ = &self.seat;
+    }
+}

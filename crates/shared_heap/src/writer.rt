@@ -1,0 +1,115 @@
+ghost use Rattle.std.specs.Prelude.{◌≡◌, ◌<◌, ◌≤◌, ◌+◌, ◌^◌, true, false, [], ◌∷◌, ◌++◌, length};
+
+use crate::note::Note;
+use crate::view::{Knowing, Store, Table, View};
+use atomic_table::Seat;
+use mrpc_base::{Room, Stores};
+use std::alloc::Global;
+use std::marker::Model;
+use std::sync::Arc;
+
+/// The writing end of a heap. No call of it waits, and none takes memory. Contracts see it as a `Writing`: of which
+/// heap it is, and every store so far.
+#[derive(Drop)]
+pub struct Writer {
+    pub(crate) words: Arc<Table, Global>,
+    pub(crate) seat: Seat<(), View>,
+    pub(crate) made: u64,
+}
+
+impl Model for Writer {
+    ghost use Rattle.std.specs.Arc.{arc_value};
+    ghost use Rattle.shared_heap.specs.Fresh.{Writing};
+
+    ghost Value = { Writing };
+
+    ghost use Rattle.shared_heap.specs.Reading.{IsWriting};
+
+    ghost view = { λ w. record { heap = w.seat.table_id; stores = w.seat.me.0.known } };
+
+    ghost invariant = { λ w. IsWriting w.seat.table_id (arc_value w.words).shared.table_id (arc_value w.words).shared.key w.made w.seat.me };
+}
+
+impl Stores for Writer {
+    ghost use Rattle.std.specs.Prelude.{◌-◌, ◌^◌};
+
+    ghost words = { λ w. w.heap.words };
+
+    ghost stores = { λ w. w.stores };
+
+    ghost room = { λ _. 2 ^ 64 - 1 };
+
+    fn size(&self) -> u64
+        ensures { result ≡ self.now.heap.words }
+    {
+        self.words.word_count() as u64
+    }
+
+    fn made(&self) -> u64
+        ensures { result ≡ length self.now.stores }
+    {
+        self.made
+    }
+
+    /// There is always room: the list of stores exists for contracts alone.
+    fn room_stores(&mut self, n: u64) -> Room
+        ensures made { result ≡ Room.Made }
+        ensures enough { n ≤ 2 ^ 64 - 1 }
+        ensures same { self.new ≡ self.old }
+    {
+        let _ = n;
+        Room::Made
+    }
+
+    /// Stores `value` at `place`, which is counted from 0. Place 0 is never stored. It waits for nobody and takes no
+    /// memory.
+    fn store(&mut self, place: u64, value: u64)
+        requires not_first { 1 ≤ place }
+        requires in_heap { place < self.old.heap.words }
+        requires few { length self.old.stores < 2 ^ 63 }
+
+        ensures stored { self.new.stores ≡ self.old.stores ++ (place, value) ∷ [] }
+        ensures heap { self.new.heap ≡ self.old.heap }
+    {
+        let words = &self.words.shared;
+        words.store::<Store>(&mut self.seat, place as usize, value);
+        self.made += 1;
+    }
+}
+
+impl Writer {
+    /// How many stores there were.
+    pub fn stores(&self) -> u64
+        ensures { result ≡ length self.now.stores }
+    {
+        self.made
+    }
+
+    /// A note that knows all stores so far. It waits for nobody and takes no memory.
+    pub fn note(&mut self) -> Note
+        ensures stores { result.stores ≡ self.old.stores }
+        ensures heap { result.heap ≡ self.old.heap }
+        ensures more_may_come { result.last ≡ false }
+        ensures same { self.new ≡ self.old }
+    {
+        let seat = self.words.shared.split_seat::<Knowing>(&mut self.seat);
+        Note {
+            seat,
+            stores: self.made,
+        }
+    }
+
+    /// The last note, which knows all stores that there will ever be. It waits for nobody and takes no memory.
+    pub fn finish(self) -> Note
+        ensures stores { result.stores ≡ self.stores }
+        ensures heap { result.heap ≡ self.heap }
+        ensures last { result.last ≡ true }
+    {
+        let Writer {
+            words: _,
+            seat,
+            made,
+        } = self;
+        Note { seat, stores: made }
+    }
+}
