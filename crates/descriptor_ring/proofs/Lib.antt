@@ -1,0 +1,3 @@
+mod Passes
+mod Rows
+mod Moves

@@ -1,0 +1,19 @@
+-- What the fields of a ring's ends keep.
+use Rattle.std.specs.Prelude.{◌≡◌, ℕ, ◌≤◌, Bool, true, false, length}
+use Rattle.descriptor_ring.specs.declared.line.View.{View}
+use Rattle.descriptor_ring.specs.Line.{sender}
+
+-- the view of a sender that has not closed
+abbrev pub IsSender : {T : Type 0} → View T → Type 0
+IsSender v = v ≡ sender v.heap v.sent false
+
+-- the view of a receiver, which took no more than the most items
+pub record IsReceiver {T : Type 0} (most : ℕ) (closed : Bool) (v : View T) : Type 0 where
+  pub takes : v.takes ≡ true
+  pub ended : v.ended ≡ closed
+  pub few : length v.taken ≤ most
+
+-- the pass of a sender that has closed
+pub record HasClosed {T : Type 0} (v : View T) : Type 0 where
+  pub sends : v.sends ≡ true
+  pub closed : v.closed ≡ true

@@ -1,0 +1,84 @@
+-- The rule of a ring, over what its queue holds and what each pass knows: what was sent is what was taken and then what waits.
+use Rattle.std.specs.Prelude.{◌≡◌, ℕ, ◌≤◌, Bool, true, false, List, [], ◌∷◌, ◌++◌, All, length}
+use mathlib.Core.Option.{some}
+use lib.ListN.{get_elem?}
+use Rattle.shared_heap.specs.Fresh.{HeapId}
+use Rattle.descriptor_ring.specs.declared.line.Slip.{Slip}
+use Rattle.descriptor_ring.specs.declared.line.Slip.TheVariants.{Item, Closing}
+use Rattle.descriptor_ring.specs.declared.line.View.{View}
+use Rattle.descriptor_ring.specs.Heaps.{no_heap}
+
+module _ {T : Type 0} where
+  -- the items in order, and behind them the closing where it was sent
+  abbrev pub slips : List T → Bool → List (Slip T)
+  slips [] false = []
+  slips [] true = Closing ∷ []
+  slips (x ∷ xs) closed = Item x ∷ slips xs closed
+
+  -- what the queue holds, of the items that wait: nothing, once the closing was taken
+  abbrev pub queued : List T → Bool → Bool → List (Slip T)
+  queued waiting closed true = []
+  queued waiting closed false = slips waiting closed
+
+  abbrev pub view_of : HeapId → Bool → List T → Bool → Bool → List T → Bool → View T
+  view_of heap sends sent closed takes taken ended = record { heap = heap; sends = sends; sent = sent; closed = closed; takes = takes; taken = taken; ended = ended }
+
+  -- the first pass of a ring, whose heap was not told yet
+  abbrev pub first : View T
+  first = view_of no_heap true [] false true [] false
+
+  abbrev pub sender : HeapId → List T → Bool → View T
+  sender heap sent closed = view_of heap true sent closed false [] false
+
+  abbrev pub receiver : HeapId → List T → Bool → View T
+  receiver heap taken ended = view_of heap false [] false true taken ended
+
+  abbrev pub nobody : View T
+  nobody = view_of no_heap false [] false false [] false
+
+  -- the receiver's pass, with what the sender's knew
+  abbrev pub both : View T → View T → View T
+  both v u = view_of v.heap u.sends u.sent u.closed v.takes v.taken v.ended
+
+  -- a view after a push, and after a pop
+  abbrev pub put : View T → Slip T → View T
+  put v (Item x) = view_of v.heap v.sends (v.sent ++ x ∷ []) v.closed v.takes v.taken v.ended
+  put v Closing = view_of v.heap v.sends v.sent true v.takes v.taken v.ended
+
+  abbrev pub got : View T → Slip T → View T
+  got v (Item x) = view_of v.heap v.sends v.sent v.closed v.takes (v.taken ++ x ∷ []) v.ended
+  got v Closing = view_of v.heap v.sends v.sent v.closed v.takes v.taken true
+
+  abbrev pub Put : View T → Slip T → View T → Type 0
+  Put v x w = w ≡ put v x
+
+module _ {T : Type 0} (fits : HeapId → T → Type 0) (most : ℕ) where
+  -- an item fits the ring's heap
+  abbrev pub Fits : HeapId → Slip T → Type 0
+  Fits heap (Item x) = fits heap x
+  Fits heap Closing = Unit {0}
+
+  -- a pop gives an item that fits the heap, and no more than the most items come
+  abbrev pub Got : View T → Slip T → View T → Type 0
+  Got v x w = (w ≡ got v x) × Fits v.heap x × (length w.taken ≤ most)
+
+  -- one pass at most sends, and one takes; the sender knows all that was sent, the receiver all that was taken
+  pub record Knows (sender receiver : ℕ) (heap : HeapId) (sent : List T) (closed : Bool) (taken : List T) (ended : Bool) (pass : ℕ) (v : View T) : Type 0 where
+    pub sends : v.sends ≡ true → (pass ≡ sender) × (v.heap ≡ heap) × (v.sent ≡ sent) × (v.closed ≡ closed)
+    pub takes : v.takes ≡ true → (pass ≡ receiver) × (v.heap ≡ heap) × (v.taken ≡ taken) × (v.ended ≡ ended)
+
+  pub record IsLine (items : List (Slip T)) (views : List (View T)) : Type 0 where
+    pub heap : HeapId
+    pub sent : List T
+    pub closed : Bool
+    pub taken : List T
+    pub ended : Bool
+    pub waiting : List T
+    pub sender : ℕ
+    pub receiver : ℕ
+    pub in_order : sent ≡ taken ++ waiting
+    pub holds : items ≡ queued waiting closed ended
+    pub last : ended ≡ true → (closed ≡ true) × (waiting ≡ [])
+    pub fit : All (fits heap) waiting
+    pub few : length sent ≤ most
+    pub passes : (pass : ℕ) (v : View T) → get_elem? views pass ≡ some v → Knows sender receiver heap sent closed taken ended pass v

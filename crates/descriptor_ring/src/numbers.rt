@@ -1,0 +1,207 @@
+ghost use Rattle.std.specs.Prelude.{◌≡◌, ◌<◌, ◌≤◌, ◌^◌, ◌↔◌, ◌++◌, ◌∷◌, [], false, length, IfOk, IfErr, OnOk, IsTrue};
+ghost use Rattle.descriptor_ring.specs.NumberAnswers.{OnItem, OnEmpty, OnNone};
+
+use crate::calls;
+use crate::lesson::Lesson;
+use crate::line::{Goods, Line, LinePass, Slip};
+use std::alloc::{AllocError, Global};
+use std::marker::{Brand, Model};
+use std::sync::{Arc, Wait};
+
+/// The ring was full.
+#[derive(Debug, Drop)]
+pub struct NumberFull {
+    /// The number that was to be sent.
+    pub item: u64,
+    pub lesson: Lesson,
+}
+
+/// What a receiver took.
+#[derive(Debug, Drop)]
+pub enum NumberTaken {
+    /// The next number.
+    Item(u64),
+    /// All numbers were taken, and none comes.
+    Closed,
+    /// The ring was empty.
+    Empty(Lesson),
+}
+
+impl Goods for u64 {
+    ghost use Rattle.std.specs.Prelude.{◌^◌};
+
+    ghost fits = { λ _ _. Unit {0} };
+
+    ghost most = { 2 ^ 61 };
+}
+
+/// The sending end of a ring of numbers. Contracts see it as a `NumberSending`: which ring it is, how many numbers the
+/// ring holds, and the numbers that were sent.
+#[derive(Drop)]
+pub struct NumberSender {
+    line: Arc<Line<u64>, Global>,
+    pass: LinePass<u64>,
+}
+
+impl Model for NumberSender {
+    ghost use Rattle.std.specs.Arc.{arc_value};
+    ghost use Rattle.crossbeam_queue.specs.Passes.{view as known, IsPassOf, ruled_capacity};
+    ghost use Rattle.descriptor_ring.specs.Ends.{IsSender};
+    ghost use Rattle.descriptor_ring.specs.Rings.{NumberSending};
+
+    ghost Value = { NumberSending };
+
+    ghost view = { λ s. record { ring = s.pass.table_id; capacity = ruled_capacity (arc_value s.line); sent = (known s.pass).sent } };
+
+    ghost invariant = { λ s. IsPassOf (arc_value s.line) s.pass × IsSender (known s.pass) };
+}
+
+/// The receiving end of a ring of numbers. Contracts see it as a `NumberReceiving`: which ring it is, the numbers that
+/// were taken, and whether the closing was.
+#[derive(Drop)]
+pub struct NumberReceiver {
+    line: Arc<Line<u64>, Global>,
+    pass: LinePass<u64>,
+    closed: bool,
+}
+
+impl Model for NumberReceiver {
+    ghost use Rattle.std.specs.Prelude.{◌^◌};
+    ghost use Rattle.std.specs.Arc.{arc_value};
+    ghost use Rattle.crossbeam_queue.specs.Passes.{view as known, IsPassOf};
+    ghost use Rattle.descriptor_ring.specs.Ends.{IsReceiver};
+    ghost use Rattle.descriptor_ring.specs.Rings.{NumberReceiving};
+
+    ghost Value = { NumberReceiving };
+
+    ghost view = { λ r. record { ring = r.pass.table_id; taken = (known r.pass).taken; closed = r.closed } };
+
+    ghost invariant = { λ r. IsPassOf (arc_value r.line) r.pass × IsReceiver (2 ^ 61) r.closed (known r.pass) };
+}
+
+/// What a sender of numbers leaves when it has closed. Contracts see it as an `AllNumbersSent`: which ring it is of,
+/// and all numbers that were sent.
+#[derive(Drop)]
+pub struct NumbersSent {
+    pass: LinePass<u64>,
+}
+
+impl Model for NumbersSent {
+    ghost use Rattle.std.specs.Prelude.{◌≡◌, []};
+    ghost use Rattle.crossbeam_queue.specs.Passes.{view as known};
+    ghost use Rattle.descriptor_ring.specs.Ends.{HasClosed};
+    ghost use Rattle.descriptor_ring.specs.Rings.{AllNumbersSent};
+
+    ghost Value = { AllNumbersSent };
+
+    ghost view = { λ s. record { ring = s.pass.table_id; items = (known s.pass).sent } };
+
+    ghost invariant = { λ s. (s.pass.me.1 ≡ []) × HasClosed (known s.pass) };
+}
+
+/// Opens a ring that holds up to `cap` numbers.
+pub fn open_numbers(alloc: Global, cap: u64) -> Result<(NumberSender, NumberReceiver), AllocError>
+    requires at_least { 1 ≤ cap }
+    requires at_most { cap ≤ 1024 }
+
+    ensures one_ring { IfOk result (λ ends. ends.1.ring ≡ ends.0.ring) }
+    ensures capacity { IfOk result (λ ends. ends.0.capacity ≡ cap) }
+    ensures sent { IfOk result (λ ends. ends.0.sent ≡ []) }
+    ensures taken { IfOk result (λ ends. (ends.1.taken ≡ []) × (ends.1.closed ≡ false)) }
+{
+    let (line, first) = Line::ruled(alloc, cap as usize)?;
+    let line = Arc::new(alloc, line)?;
+    let theirs = Arc::try_clone(&line)?;
+    let (sending, taking) = calls::ends::<u64, Brand>(&line, first);
+    let sender = NumberSender {
+        line,
+        pass: sending,
+    };
+    let receiver = NumberReceiver {
+        line: theirs,
+        pass: taking,
+        closed: false,
+    };
+    Ok((sender, receiver))
+}
+
+impl NumberSender {
+    /// Sends a number. It comes back where the ring was full at the call's own step, and then the ring held the last
+    /// `capacity` numbers that were sent.
+    pub fn send<R: Wait>(&mut self, rt: &R, item: u64) -> Result<(), NumberFull>
+        requires { length self.old.sent < 2 ^ 61 }
+
+        ensures sent { OnOk result (self.new.sent ≡ self.old.sent ++ item ∷ []) }
+        ensures back { IfErr result (λ full. full.item ≡ item) }
+        ensures full { IfErr result (λ full. full.lesson ≡ self.old.capacity) }
+        ensures many { IfErr result (λ full. full.lesson ≤ length self.old.sent) }
+        ensures kept { IfErr result (λ full. self.new.sent ≡ self.old.sent) }
+
+        ensures ring { self.new.ring ≡ self.old.ring }
+        ensures capacity { self.new.capacity ≡ self.old.capacity }
+    {
+        match calls::send(rt, &self.line, &mut self.pass, item) {
+            Ok(()) => Ok(()),
+            Err(item) => {
+                let lesson = Lesson::new(self.line.capacity() as u64);
+                Err(NumberFull { item, lesson })
+            }
+        }
+    }
+
+    /// Sends the closing behind all numbers. The sender comes back where the ring was full at the call's own step.
+    pub fn close<R: Wait>(self, rt: &R) -> Result<NumbersSent, (NumberSender, Lesson)>
+        ensures sent { IfOk result (λ sent. sent.items ≡ self.sent) }
+        ensures ring { IfOk result (λ sent. sent.ring ≡ self.ring) }
+        ensures back { IfErr result (λ refused. refused.0 ≡ self) }
+        ensures full { IfErr result (λ refused. refused.1 ≡ self.capacity) }
+        ensures many { IfErr result (λ refused. refused.1 ≤ length self.sent) }
+    {
+        let NumberSender { line, mut pass } = self;
+        if calls::close(rt, &line, &mut pass) {
+            Ok(NumbersSent { pass })
+        } else {
+            let lesson = Lesson::new(line.capacity() as u64);
+            Err((NumberSender { line, pass }, lesson))
+        }
+    }
+}
+
+impl NumberReceiver {
+    /// Takes the next number, in the order in which they were sent.
+    pub fn take<R: Wait>(&mut self, rt: &R) -> NumberTaken
+        ensures item { OnItem result (λ n. self.new.taken ≡ self.old.taken ++ n ∷ []) }
+        ensures few { length self.new.taken ≤ 2 ^ 61 }
+        ensures kept { OnNone result (self.new.taken ≡ self.old.taken) }
+        // It answers Closed exactly from the closing on.
+        ensures closed { (result ≡ NumberTaken.Closed) ↔ IsTrue self.new.closed }
+        ensures stays_closed { IsTrue self.old.closed → IsTrue self.new.closed }
+        ensures empty { OnEmpty result (λ lesson. lesson ≡ 0) }
+
+        ensures ring { self.new.ring ≡ self.old.ring }
+    {
+        if self.closed {
+            return NumberTaken::Closed;
+        }
+        match calls::take(rt, &self.line, &mut self.pass) {
+            Some(Slip::Item(item)) => NumberTaken::Item(item),
+            Some(Slip::Closing) => {
+                self.closed = true;
+                NumberTaken::Closed
+            }
+            None => NumberTaken::Empty(Lesson::new(0)),
+        }
+    }
+
+    /// Compares what was taken with what the sender sent: it is the same.
+    pub fn meet(&mut self, sent: NumbersSent)
+        requires one_ring { sent.ring ≡ self.old.ring }
+        requires closed { IsTrue self.old.closed }
+
+        ensures all { self.old.taken ≡ sent.items }
+        ensures same { self.new ≡ self.old }
+    {
+        let NumbersSent { pass } = sent;
+        calls::meet(&self.line, &mut self.pass, pass);
+    }
+}

@@ -1,0 +1,207 @@
+ghost use Rattle.std.specs.Prelude.{◌≡◌, ◌≢◌, ◌<◌, ◌≤◌, ◌↔◌, ◌++◌, ◌∷◌, [], false, length, IfOk, IfErr, OnOk, IsTrue};
+ghost use Rattle.descriptor_ring.specs.Answers.{OnItem, OnEmpty, OnNone};
+ghost use Rattle.descriptor_ring.specs.Rings.{IsOf};
+ghost use Rattle.crossbeam_queue.specs.Passes.{view as known, IsPassOf};
+ghost use Rattle.descriptor_ring.specs.Line.{first as no_view, sender, receiver};
+
+use crate::calls;
+use crate::descriptor::{Descriptor, Full, Taken};
+use crate::lesson::Lesson;
+use crate::line::{Line, LinePass, Named, Slip};
+use shared_heap::Reader;
+use std::alloc::{AllocError, Global};
+use std::marker::{Brand, Model};
+use std::sync::{Arc, Wait};
+
+/// The sending end of a ring of descriptors. Contracts see it as a `Sending`: which ring it is, of which heap, how
+/// many items the ring holds, and the descriptors that were sent.
+#[derive(Drop)]
+pub struct Sender {
+    line: Arc<Line<Descriptor>, Global>,
+    pass: LinePass<Descriptor>,
+}
+
+impl Model for Sender {
+    ghost use Rattle.std.specs.Arc.{arc_value};
+    ghost use Rattle.crossbeam_queue.specs.Passes.{view as known, IsPassOf, ruled_capacity};
+    ghost use Rattle.descriptor_ring.specs.Ends.{IsSender};
+    ghost use Rattle.descriptor_ring.specs.Rings.{Sending};
+
+    ghost Value = { Sending };
+
+    ghost view = { λ s. record { ring = s.pass.table_id; heap = (known s.pass).heap; capacity = ruled_capacity (arc_value s.line); sent = (known s.pass).sent } };
+
+    ghost invariant = { λ s. IsPassOf (arc_value s.line) s.pass × IsSender (known s.pass) };
+}
+
+/// The receiving end of a ring of descriptors. Contracts see it as a `Receiving`: which ring it is, of which heap,
+/// the descriptors that were taken, and whether the closing was.
+#[derive(Drop)]
+pub struct Receiver {
+    line: Arc<Line<Descriptor>, Global>,
+    pass: LinePass<Descriptor>,
+    closed: bool,
+}
+
+impl Model for Receiver {
+    ghost use Rattle.std.specs.Arc.{arc_value};
+    ghost use Rattle.crossbeam_queue.specs.Passes.{view as known, IsPassOf};
+    ghost use Rattle.descriptor_ring.specs.Ends.{IsReceiver};
+    ghost use Rattle.descriptor_ring.specs.Rings.{Receiving};
+
+    ghost Value = { Receiving };
+
+    ghost view = { λ r. record { ring = r.pass.table_id; heap = (known r.pass).heap; taken = (known r.pass).taken; closed = r.closed } };
+
+    ghost invariant = { λ r. IsPassOf (arc_value r.line) r.pass × IsReceiver 4294967294 r.closed (known r.pass) };
+}
+
+/// What a sender leaves when it has closed. Contracts see it as an `AllSent`: which ring it is of, and all
+/// descriptors that were sent.
+#[derive(Drop)]
+pub struct Sent {
+    pass: LinePass<Descriptor>,
+}
+
+impl Model for Sent {
+    ghost use Rattle.std.specs.Prelude.{◌≡◌, []};
+    ghost use Rattle.crossbeam_queue.specs.Passes.{view as known};
+    ghost use Rattle.descriptor_ring.specs.Ends.{HasClosed};
+    ghost use Rattle.descriptor_ring.specs.Rings.{AllSent};
+
+    ghost Value = { AllSent };
+
+    ghost view = { λ s. record { ring = s.pass.table_id; items = (known s.pass).sent } };
+
+    ghost invariant = { λ s. (s.pass.me.1 ≡ []) × HasClosed (known s.pass) };
+}
+
+/// Opens a ring that holds up to `cap` descriptors, for notes of the reader's heap.
+pub fn open(alloc: Global, cap: u64, reader: &Reader) -> Result<(Sender, Receiver), AllocError>
+    requires at_least { 1 ≤ cap }
+    requires at_most { cap ≤ 1024 }
+
+    ensures one_ring { IfOk result (λ ends. ends.1.ring ≡ ends.0.ring) }
+    ensures heap { IfOk result (λ ends. (ends.0.heap ≡ reader.now.heap) × (ends.1.heap ≡ reader.now.heap)) }
+    ensures capacity { IfOk result (λ ends. ends.0.capacity ≡ cap) }
+    ensures sent { IfOk result (λ ends. ends.0.sent ≡ []) }
+    ensures taken { IfOk result (λ ends. (ends.1.taken ≡ []) × (ends.1.closed ≡ false)) }
+{
+    let (line, first) = Line::ruled(alloc, cap as usize)?;
+    let line = Arc::new(alloc, line)?;
+    let theirs = Arc::try_clone(&line)?;
+    let (sending, taking) = ends::<Brand>(&line, first, reader);
+    let sender = Sender {
+        line,
+        pass: sending,
+    };
+    let receiver = Receiver {
+        line: theirs,
+        pass: taking,
+        closed: false,
+    };
+    Ok((sender, receiver))
+}
+
+impl Sender {
+    /// Sends a descriptor. It comes back where the ring was full at the call's own step, and then the ring held the
+    /// last `capacity` descriptors that were sent.
+    pub fn send<R: Wait>(&mut self, rt: &R, descriptor: Descriptor) -> Result<(), Full>
+        requires of_heap { IsOf self.old.heap descriptor }
+        requires few { length self.old.sent < 4294967294 }
+
+        ensures sent { OnOk result (self.new.sent ≡ self.old.sent ++ descriptor ∷ []) }
+        ensures back { IfErr result (λ full. full.descriptor ≡ descriptor) }
+        ensures full { IfErr result (λ full. full.lesson ≡ self.old.capacity) }
+        ensures many { IfErr result (λ full. full.lesson ≤ length self.old.sent) }
+        ensures kept { IfErr result (λ full. self.new.sent ≡ self.old.sent) }
+
+        ensures ring { self.new.ring ≡ self.old.ring }
+        ensures heap { self.new.heap ≡ self.old.heap }
+        ensures capacity { self.new.capacity ≡ self.old.capacity }
+    {
+        match calls::send(rt, &self.line, &mut self.pass, descriptor) {
+            Ok(()) => Ok(()),
+            Err(descriptor) => {
+                let lesson = Lesson::new(self.line.capacity() as u64);
+                Err(Full { descriptor, lesson })
+            }
+        }
+    }
+
+    /// Sends the closing behind all descriptors. The sender comes back where the ring was full at the call's own step.
+    pub fn close<R: Wait>(self, rt: &R) -> Result<Sent, (Sender, Lesson)>
+        ensures sent { IfOk result (λ sent. sent.items ≡ self.sent) }
+        ensures ring { IfOk result (λ sent. sent.ring ≡ self.ring) }
+        ensures back { IfErr result (λ refused. refused.0 ≡ self) }
+        ensures full { IfErr result (λ refused. refused.1 ≡ self.capacity) }
+        ensures many { IfErr result (λ refused. refused.1 ≤ length self.sent) }
+    {
+        let Sender { line, mut pass } = self;
+        if calls::close(rt, &line, &mut pass) {
+            Ok(Sent { pass })
+        } else {
+            let lesson = Lesson::new(line.capacity() as u64);
+            Err((Sender { line, pass }, lesson))
+        }
+    }
+}
+
+impl Receiver {
+    /// Takes the next descriptor, in the order in which they were sent.
+    pub fn take<R: Wait>(&mut self, rt: &R) -> Taken
+        ensures item { OnItem result (λ d. self.new.taken ≡ self.old.taken ++ d ∷ []) }
+        ensures of_heap { OnItem result (λ d. IsOf self.old.heap d) }
+        ensures few { length self.new.taken ≤ 4294967294 }
+        ensures kept { OnNone result (self.new.taken ≡ self.old.taken) }
+        // It answers Closed exactly from the closing on.
+        ensures closed { (result ≡ Taken.Closed) ↔ IsTrue self.new.closed }
+        ensures stays_closed { IsTrue self.old.closed → IsTrue self.new.closed }
+        ensures empty { OnEmpty result (λ lesson. lesson ≡ 0) }
+
+        ensures ring { self.new.ring ≡ self.old.ring }
+        ensures heap { self.new.heap ≡ self.old.heap }
+    {
+        if self.closed {
+            return Taken::Closed;
+        }
+        match calls::take(rt, &self.line, &mut self.pass) {
+            Some(Slip::Item(descriptor)) => Taken::Item(descriptor),
+            Some(Slip::Closing) => {
+                self.closed = true;
+                Taken::Closed
+            }
+            None => Taken::Empty(Lesson::new(0)),
+        }
+    }
+
+    /// Compares what was taken with what the sender sent: it is the same.
+    pub fn meet(&mut self, sent: Sent)
+        requires one_ring { sent.ring ≡ self.old.ring }
+        requires closed { IsTrue self.old.closed }
+
+        ensures all { self.old.taken ≡ sent.items }
+        ensures same { self.new ≡ self.old }
+    {
+        let Sent { pass } = sent;
+        calls::meet(&self.line, &mut self.pass, pass);
+    }
+}
+
+// The two ends of a new ring, for the reader's heap.
+fn ends<N: Named>(
+    line: &Line<Descriptor>,
+    first: LinePass<Descriptor>,
+    reader: &Reader,
+) -> (LinePass<Descriptor>, LinePass<Descriptor>)
+    requires line { IsPassOf line.now first }
+    requires new { known first ≡ no_view }
+    requires heap { N.heap ≡ reader.now.heap }
+
+    ensures line { IsPassOf line.now result.0 × IsPassOf line.now result.1 }
+    ensures sender { known result.0 ≡ sender reader.now.heap [] false }
+    ensures receiver { known result.1 ≡ receiver reader.now.heap [] false }
+{
+    let _ = reader;
+    calls::ends::<Descriptor, N>(line, first)
+}

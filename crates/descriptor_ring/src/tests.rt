@@ -1,0 +1,206 @@
+ghost use Rattle.std.specs.Prelude.{◌≡◌, ◌≤◌, ◌<◌, ◌+◌, ◌^◌, ◌++◌, ◌∷◌, [], false, IsTrue, length};
+ghost use Rattle.std.specs.Thread.{IsSync};
+ghost use Rattle.descriptor_ring.specs.Rings.{IsOf};
+
+use super::*;
+use mrpc_base::{Stores, Words};
+use shared_heap::{Note, Reader, Writer};
+use std::sync::Wait;
+use std::test::Fail;
+use std::thread;
+use std::thread::{Threads, join};
+
+#[test]
+fn a_full_ring_of_one_number_refuses(rt: HostRuntime) -> Result<(), Fail> {
+    let (mut sender, mut receiver) = open_numbers(rt.alloc(), 1)?;
+    assert!(rt; sender.send(&rt, 7).is_ok());
+    let full = sender.send(&rt, 8).err().ok_or("it was full")?;
+    assert_eq!(rt; (full.item, full.lesson.held()), (8, 1));
+    assert!(rt; matches!(receiver.take(&rt), NumberTaken::Item(7)));
+    let NumberTaken::Empty(lesson) = receiver.take(&rt) else {
+        return Err(Fail::from("it was empty"));
+    };
+    assert_eq!(rt; lesson.held(), 0);
+    Ok(())
+}
+
+#[test]
+fn a_ring_of_two_numbers_is_closed_once_there_is_room(rt: HostRuntime) -> Result<(), Fail> {
+    let (mut sender, mut receiver) = open_numbers(rt.alloc(), 2)?;
+    assert!(rt; sender.send(&rt, 7).is_ok() && sender.send(&rt, 8).is_ok());
+    let Err((sender, lesson)) = sender.close(&rt) else {
+        return Err(Fail::from("it was full"));
+    };
+    assert_eq!(rt; lesson.held(), 2);
+    assert!(rt; matches!(receiver.take(&rt), NumberTaken::Item(7)));
+    let Ok(sent) = sender.close(&rt) else {
+        return Err(Fail::from("there was room"));
+    };
+    assert!(rt; matches!(receiver.take(&rt), NumberTaken::Item(8)));
+    let NumberTaken::Closed = receiver.take(&rt) else {
+        return Err(Fail::from("it was closed"));
+    };
+    receiver.meet(sent);
+    assert!(rt; matches!(receiver.take(&rt), NumberTaken::Closed));
+    Ok(())
+}
+
+// Sends a descriptor, however often the ring is full.
+fn send_whole<R: Wait>(rt: &R, sender: &mut Sender, mut descriptor: Descriptor)
+    requires of_heap { IsOf sender.old.heap descriptor }
+    requires few { length sender.old.sent < 4294967294 }
+    ensures sent { length sender.new.sent ≡ length sender.old.sent + 1 }
+    ensures ring { sender.new.ring ≡ sender.old.ring }
+    ensures heap { sender.new.heap ≡ sender.old.heap }
+{
+    for _ in rt.forever() {
+        match sender.send(rt, descriptor) {
+            Ok(()) => return,
+            Err(full) => {
+                let Full {
+                    descriptor: back,
+                    lesson: _,
+                } = full;
+                descriptor = back;
+                thread::yield_now();
+            }
+        }
+    }
+}
+
+// Closes a ring, however often it is full.
+fn close_whole<R: Wait>(rt: &R, mut sender: Sender) -> Sent
+    ensures { result.ring ≡ sender.ring }
+{
+    for _ in rt.forever() {
+        match sender.close(rt) {
+            Ok(sent) => return sent,
+            Err((back, _)) => sender = back,
+        }
+        thread::yield_now();
+    }
+    unreachable!()
+}
+
+// What the writer has stored at place 2.
+fn submission(writer: &mut Writer) -> Descriptor
+    ensures of_heap { IsOf writer.old.heap result }
+    ensures same { writer.new ≡ writer.old }
+{
+    Descriptor {
+        kind: 1,
+        method: 0,
+        number: 0,
+        addr: 2,
+        stores: writer.stores(),
+        note: writer.note(),
+    }
+}
+
+// Stores 1 to 1000 at place 2, and sends a descriptor after every hundredth.
+fn write_all<R: Wait>(rt: &R, mut writer: Writer, mut sender: Sender) -> (Note, Sent)
+    requires words { writer.heap.words ≡ 4 }
+    requires one_heap { sender.heap ≡ writer.heap }
+    requires stores { writer.stores ≡ [] }
+    requires sent { sender.sent ≡ [] }
+    ensures heap { result.0.heap ≡ writer.heap }
+    ensures ring { result.1.ring ≡ sender.ring }
+{
+    for value in 1..1001 {
+        writer.store(2, value);
+        if value % 100 == 0 {
+            let descriptor = submission(&mut writer);
+            send_whole(rt, &mut sender, descriptor);
+        }
+    }
+    (writer.finish(), close_whole(rt, sender))
+}
+
+// What a reader of descriptors found.
+#[derive(Drop)]
+struct Found {
+    descriptors: u64,
+    // Whether each loaded value was one that its note knew or a later one, and none fell.
+    fresh: bool,
+}
+
+// Takes descriptors until the closing, and loads place 2 after each has been met.
+fn read_all<R: Wait>(rt: &R, reader: &mut Reader, receiver: &mut Receiver) -> Found
+    requires words { reader.old.heap.words ≡ 4 }
+    requires one_heap { receiver.old.heap ≡ reader.old.heap }
+    requires taken { receiver.old.taken ≡ [] }
+    ensures closed { IsTrue receiver.new.closed }
+    ensures ring { receiver.new.ring ≡ receiver.old.ring }
+    ensures heap { reader.new.heap ≡ reader.old.heap }
+{
+    let mut found = Found {
+        descriptors: 0,
+        fresh: true,
+    };
+    let mut last = 0;
+    for _ in rt.forever() {
+        match receiver.take(rt) {
+            Taken::Item(descriptor) => {
+                let least = descriptor.stores;
+                meet(reader, descriptor);
+                let value = reader.load(2);
+                found.fresh &= least <= value && last <= value;
+                last = value;
+                found.descriptors += 1;
+            }
+            Taken::Closed => return found,
+            Taken::Empty(_) => thread::yield_now(),
+        }
+    }
+    unreachable!()
+}
+
+fn meet(reader: &mut Reader, descriptor: Descriptor)
+    requires { IsOf reader.old.heap descriptor }
+    ensures { reader.new.heap ≡ reader.old.heap }
+{
+    let Descriptor { note, .. } = descriptor;
+    reader.meet(note);
+}
+
+// A writer in one thread, a reader in another, and a ring between them.
+fn run<R: Threads + Wait + Sync>(
+    rt: &R,
+    writer: Writer,
+    sender: Sender,
+    mut reader: Reader,
+    mut receiver: Receiver,
+) -> (Found, u64)
+    requires words { writer.heap.words ≡ 4 }
+    requires heaps { (sender.heap ≡ writer.heap) × (reader.heap ≡ writer.heap) × (receiver.heap ≡ writer.heap) }
+    requires rings { receiver.ring ≡ sender.ring }
+    requires first { (writer.stores ≡ []) × (sender.sent ≡ []) × (receiver.taken ≡ []) }
+{
+    let ((note, sent), (found, mut reader, mut receiver)) = join(
+        rt,
+        move || -> (Note, Sent)
+            requires { IsSync R.row × (writer.heap.words ≡ 4) × (sender.heap ≡ writer.heap) × (writer.stores ≡ []) × (sender.sent ≡ []) }
+            ensures { (result.0.heap ≡ writer.heap) × (result.1.ring ≡ sender.ring) }
+        { write_all(rt, writer, sender) },
+        move || -> (Found, Reader, Receiver)
+            requires { IsSync R.row × (reader.heap.words ≡ 4) × (receiver.heap ≡ reader.heap) × (receiver.taken ≡ []) }
+            ensures { (result.1.heap ≡ reader.heap) × (result.2.ring ≡ receiver.ring) × IsTrue result.2.closed }
+        {
+            let found = read_all(rt, &mut reader, &mut receiver);
+            (found, reader, receiver)
+        },
+    );
+    receiver.meet(sent);
+    reader.meet(note);
+    (found, reader.load(2))
+}
+
+#[test]
+fn a_reader_meets_the_notes_of_descriptors(rt: HostRuntime) -> Result<(), Fail> {
+    let (writer, reader) = shared_heap::open(rt.alloc(), 4)?;
+    let (sender, receiver) = open(rt.alloc(), 2, &reader)?;
+    let (found, last) = run(&rt, writer, sender, reader, receiver);
+    assert!(rt; found.fresh);
+    assert_eq!(rt; (found.descriptors, last), (10, 1000));
+    Ok(())
+}
