@@ -1,0 +1,2 @@
+mod Outgoing
+mod Search

@@ -1,0 +1,7 @@
+-- The calls of a device in memory, and those that are to fail.
+use Rattle.std.specs.Prelude.{ℕ, List}
+
+-- the numbers of the calls that are to fail, counted from 1, and how many calls there were, at most 2^64 - 1
+pub record Listed : Type 0 where
+  pub failing : List ℕ
+  pub calls : ℕ

@@ -1,0 +1,182 @@
+// A fabric in memory.
+ghost use Rattle.std.specs.Prelude.{◌≡◌, ◌<◌, ◌+◌, ◌≤◌, ◌↔◌, [], ◌∷◌, false, Contains, IfOk, IsErrOf, IsPermutation, OnErr, length, slice_get};
+ghost use Rattle.mrpc_base.specs.Faults.{HasCause, raised};
+ghost use Rattle.mem_fabric.specs.Fabric.{IsNewEnd, numbers_of};
+ghost use Rattle.mem_fabric.specs.Pair.{ArePair};
+
+use crate::PairLink;
+use crate::listed::ListedCalls;
+use crate::pair_link::MOST_PIECES;
+use mrpc_base::{Fabric, OpenFault};
+use std::alloc::{AllocError, Global};
+use std::marker::Model;
+use std::sync::Wait;
+
+/// Which calls of a fabric in memory and its links are to fail, each counted from 1, in any order.
+#[derive(Debug, Drop)]
+pub struct ListedFaults {
+    /// Openings, by number.
+    pub openings: Vec<u64>,
+    /// Sends, by connection and number.
+    pub sends: Vec<(u32, u64)>,
+    /// Receives, by connection and number.
+    pub receives: Vec<(u32, u64)>,
+}
+
+/// A fabric in memory. Contracts see it as a `FabricState`: the links that it has back and how many it doesn't have
+/// back, which calls are to fail, and how many openings there were and failed.
+#[derive(Drop)]
+pub struct MemFabric<'r, R> {
+    rt: &'r R,
+    alloc: Global,
+    // With room for the links that are away, too.
+    back: Vec<(u32, PairLink<'r, R>)>,
+    away: usize,
+    openings: ListedCalls,
+    sends: Vec<(u32, u64)>,
+    receives: Vec<(u32, u64)>,
+    faults: u64,
+}
+
+impl<'r, R> Model for MemFabric<'r, R> {
+    ghost use Rattle.std.specs.Prelude.{◌+◌, ◌≤◌, vec_len, vec_capacity};
+    ghost use Rattle.mem_fabric.specs.Fabric.{FabricState};
+
+    ghost Value = { FabricState };
+
+    ghost view = { λ f. record { back = f.back.items; away = f.away; failing_openings = f.openings.failing; failing_sends = f.sends.items; failing_receives = f.receives.items; openings = f.openings.calls; faults = f.faults } };
+
+    ghost invariant = { λ f. vec_len f.back + f.away ≤ vec_capacity f.back };
+}
+
+impl<'r, R: Wait> MemFabric<'r, R> {
+    /// A fabric that has opened nothing.
+    pub fn new(rt: &'r R, alloc: Global, faults: ListedFaults) -> MemFabric<'r, R>
+        ensures back { result.back ≡ [] }
+        ensures away { result.away ≡ 0 }
+        ensures failing_openings { IsPermutation faults.openings.items result.failing_openings }
+        ensures failing_sends { result.failing_sends ≡ faults.sends.items }
+        ensures failing_receives { result.failing_receives ≡ faults.receives.items }
+        ensures openings { result.openings ≡ 0 }
+        ensures faults { result.faults ≡ 0 }
+    {
+        MemFabric {
+            rt,
+            alloc,
+            back: Vec::new(alloc),
+            away: 0,
+            openings: ListedCalls::new(faults.openings),
+            sends: faults.sends,
+            receives: faults.receives,
+            faults: 0,
+        }
+    }
+
+    /// The links that it has back, each with its connection.
+    pub fn links(&self) -> &[(u32, PairLink<'r, R>)]
+        ensures { result.now ≡ self.now.back }
+    {
+        self.back.as_slice()
+    }
+
+    /// How many openings failed; it stands still at 2^64 - 1.
+    pub fn faults(&self) -> u64
+        ensures { result ≡ self.now.faults }
+    {
+        self.faults
+    }
+
+    /// Gives away again a link that it has back, with its connection. Two ends of one pair that were given away so
+    /// can [`meet`](crate::meet).
+    pub fn take_back(&mut self, at: usize) -> (u32, PairLink<'r, R>)
+        requires { at < length self.old.back }
+        ensures link { slice_get self.old.back at ≡ Some result }
+        ensures back { IsPermutation self.old.back (result ∷ self.new.back) }
+        ensures away { self.new.away ≡ self.old.away + 1 }
+        ensures same { self.new ≡ record self.old { back = self.new.back; away = self.new.away } }
+    {
+        self.away += 1;
+        self.back.swap_remove(at)
+    }
+
+    // The two ends of a new pair.
+    fn new_pair(&self, a: u32, b: u32) -> Result<(PairLink<'r, R>, PairLink<'r, R>), AllocError>
+        ensures pair { IfOk result (λ ends. ArePair ends.0 ends.1) }
+        ensures handed { IfOk result (λ ends. (ends.0.handed ≡ []) × (ends.1.handed ≡ [])) }
+        ensures not_ended { IfOk result (λ ends. (ends.0.ended ≡ false) × (ends.1.ended ≡ false)) }
+        ensures no_faults { IfOk result (λ ends. (ends.0.faults ≡ 0) × (ends.1.faults ≡ 0)) }
+        ensures first { IfOk result (λ ends. IsNewEnd (numbers_of a self.now.failing_sends) (numbers_of a self.now.failing_receives) ends.0) }
+        ensures second { IfOk result (λ ends. IsNewEnd (numbers_of b self.now.failing_sends) (numbers_of b self.now.failing_receives) ends.1) }
+    {
+        let (from_a, to_b) = one_way_queue::open(self.alloc, MOST_PIECES + 1)?;
+        let (from_b, to_a) = one_way_queue::open(self.alloc, MOST_PIECES + 1)?;
+        let sends_a = listed_for(self.alloc, &self.sends, a)?;
+        let sends_b = listed_for(self.alloc, &self.sends, b)?;
+        let receives_a = listed_for(self.alloc, &self.receives, a)?;
+        let receives_b = listed_for(self.alloc, &self.receives, b)?;
+        let first = PairLink::new(self.rt, self.alloc, from_a, to_a, sends_a, receives_a);
+        let second = PairLink::new(self.rt, self.alloc, from_b, to_b, sends_b, receives_b);
+        Ok((first, second))
+    }
+}
+
+// The numbers that are listed for a connection.
+fn listed_for(alloc: Global, listed: &[(u32, u64)], conn: u32) -> Result<Vec<u64>, AllocError>
+    ensures { IfOk result (λ numbers. numbers.items ≡ numbers_of conn listed.now) }
+{
+    listed
+        .iter()
+        .filter(|entry| entry.0 == conn)
+        .map(|entry| entry.1)
+        .collect(alloc)
+}
+
+impl<'r, R: Wait + Sync> Fabric for MemFabric<'r, R> {
+    type L = PairLink<'r, R>;
+
+    ghost back = { λ f. f.back };
+
+    ghost away = { λ f. f.away };
+
+    ghost faults = { λ f. f.faults };
+
+    fn open_pair(&mut self, a: u32, b: u32) -> Result<(PairLink<'r, R>, PairLink<'r, R>), OpenFault>
+        // An opening fails exactly where its number is listed.
+        ensures fails { IsErrOf result OpenFault.Failed ↔ Contains self.old.failing_openings self.new.openings }
+        ensures pair { IfOk result (λ ends. ArePair ends.0 ends.1) }
+        ensures handed { IfOk result (λ ends. (ends.0.handed ≡ []) × (ends.1.handed ≡ [])) }
+        ensures not_ended { IfOk result (λ ends. (ends.0.ended ≡ false) × (ends.1.ended ≡ false)) }
+        ensures no_faults { IfOk result (λ ends. (ends.0.faults ≡ 0) × (ends.1.faults ≡ 0)) }
+        ensures first { IfOk result (λ ends. IsNewEnd (numbers_of a self.old.failing_sends) (numbers_of a self.old.failing_receives) ends.0) }
+        ensures second { IfOk result (λ ends. IsNewEnd (numbers_of b self.old.failing_sends) (numbers_of b self.old.failing_receives) ends.1) }
+
+        ensures away { IfOk result (λ ends. self.new.away ≡ self.old.away + 2) }
+        ensures same_away { OnErr result (self.new.away ≡ self.old.away) }
+        ensures openings { self.new.openings ≡ raised self.old.openings }
+        ensures cause { HasCause (IsErrOf result OpenFault.Failed) self.old.faults self.new.faults }
+        ensures same { self.new ≡ record self.old { away = self.new.away; openings = self.new.openings; faults = self.new.faults } }
+    {
+        if self.openings.next() {
+            self.faults = self.faults.saturating_add(1);
+            return Err(OpenFault::Failed);
+        }
+        let Ok(ends) = self.new_pair(a, b) else {
+            return Err(OpenFault::Memory);
+        };
+        if self.back.reserve(self.away + 2).is_err() {
+            return Err(OpenFault::Memory);
+        }
+        self.away += 2;
+        Ok(ends)
+    }
+
+    fn keep(&mut self, conn: u32, link: PairLink<'r, R>)
+        requires opened { 0 < self.old.away }
+        ensures back { IsPermutation self.new.back ((conn, link.entry) ∷ self.old.back) }
+        ensures away { self.new.away + 1 ≡ self.old.away }
+        ensures same { self.new ≡ record self.old { back = self.new.back; away = self.new.away } }
+    {
+        self.back.push_reserved((conn, link));
+        self.away -= 1;
+    }
+}

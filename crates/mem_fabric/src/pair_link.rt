@@ -1,0 +1,239 @@
+// One end of a link in memory.
+ghost use Rattle.std.specs.Prelude.{◌≡◌, ◌≢◌, ◌<◌, ◌≤◌, ◌↔◌, ◌⊎◌, [], ◌∷◌, ◌++◌, Contains, IsPermutation, IsTrue, length, take, true, false};
+ghost use mathlib.Core.List.{IsPrefix};
+ghost use Rattle.one_way_queue.specs.Ends.{put_of, taken_of, told_of, producer_queue, consumer_queue};
+ghost use Rattle.mrpc_base.specs.Faults.{HasCause, raised};
+ghost use Rattle.mrpc_base.specs.Linking.{OnCame, OnNoneCame};
+ghost use Rattle.mem_fabric.specs.Pair.{ArePair, IsHandedOn, told_of_all};
+
+use crate::listed::ListedCalls;
+use mrpc_base::{Came, Handed, Link};
+use mrpc_table::Bytes;
+use one_way_queue::{Consumer, Found, Piece, PieceReader, Producer};
+use std::alloc::Global;
+use std::marker::Model;
+use std::sync::Wait;
+
+// How many pieces wait in one direction at most. The queue has a place more, for the end mark.
+pub(crate) const MOST_PIECES: usize = 65535;
+
+// The mark behind the last piece.
+#[derive(Debug, Drop)]
+pub(crate) struct EndMark;
+
+/// One end of a link in memory. Contracts see it as a `PairEnd`: the frames that it was handed, the bytes that it
+/// gave, and whether either side has finished; the numbers of the sends and receives that are to fail, and how many
+/// there were and failed; and which two queues it has.
+#[derive(Drop)]
+pub struct PairLink<'r, R> {
+    rt: &'r R,
+    alloc: Global,
+    out: Producer<Piece<EndMark>>,
+    incoming: PieceReader<EndMark>,
+    sends: ListedCalls,
+    receives: ListedCalls,
+    // Of both.
+    faults: u64,
+    finished: bool,
+    ended: bool,
+}
+
+impl<'r, R> Model for PairLink<'r, R> {
+    ghost use Rattle.std.specs.Prelude.{◌≡◌, Bool, true};
+    ghost use Rattle.one_way_queue.specs.Ends.{put_of, producer_queue};
+    ghost use Rattle.one_way_queue.specs.Pieces.{bytes_of};
+    ghost use Rattle.one_way_queue.specs.Readers.{given_by, taken_by, told_by, reader_queue};
+    ghost use Rattle.mem_fabric.specs.Pair.{PairEnd, frames_of, IsOutgoing, HasTakenAll};
+
+    ghost Value = { PairEnd };
+
+    ghost view = { λ l. record { handed = frames_of (put_of l.out); finished = l.finished; given = given_by l.incoming; ended = l.ended; told = bytes_of (told_by l.incoming); failing_sends = l.sends.failing; failing_receives = l.receives.failing; sends = l.sends.calls; receives = l.receives.calls; faults = l.faults; outward = producer_queue l.out; inward = reader_queue l.incoming } };
+
+    ghost invariant = { λ l. IsOutgoing l.finished (put_of l.out)
+        × ((f : Bool) × IsOutgoing f (told_by l.incoming))
+        × (l.ended ≡ true → HasTakenAll (taken_by l.incoming) (told_by l.incoming) (given_by l.incoming)) };
+}
+
+impl<'r, R: Wait> PairLink<'r, R> {
+    // An end that was handed and given nothing.
+    pub(crate) fn new(
+        rt: &'r R,
+        alloc: Global,
+        out: Producer<Piece<EndMark>>,
+        incoming: Consumer<Piece<EndMark>>,
+        failing_sends: Vec<u64>,
+        failing_receives: Vec<u64>,
+    ) -> PairLink<'r, R>
+        requires put { put_of out ≡ [] }
+        requires taken { taken_of incoming ≡ [] }
+        requires told { told_of incoming ≡ [] }
+        ensures handed { result.handed ≡ [] }
+        ensures finished { result.finished ≡ false }
+        ensures given { result.given ≡ [] }
+        ensures ended { result.ended ≡ false }
+        ensures told_nothing { result.told ≡ [] }
+        ensures failing_sends { IsPermutation failing_sends.items result.failing_sends }
+        ensures failing_receives { IsPermutation failing_receives.items result.failing_receives }
+        ensures sends { result.sends ≡ 0 }
+        ensures receives { result.receives ≡ 0 }
+        ensures faults { result.faults ≡ 0 }
+        ensures outward { result.outward ≡ producer_queue out }
+        ensures inward { result.inward ≡ consumer_queue incoming }
+    {
+        PairLink {
+            rt,
+            alloc,
+            out,
+            incoming: PieceReader::new(alloc, incoming),
+            sends: ListedCalls::new(failing_sends),
+            receives: ListedCalls::new(failing_receives),
+            faults: 0,
+            finished: false,
+            ended: false,
+        }
+    }
+
+    // Counts a send or a receive that failed.
+    fn fault(&mut self)
+        ensures faults { self.new ≡ record self.old { faults = raised self.old.faults } }
+        ensures never_falls { self.old.faults ≤ self.new.faults }
+    {
+        self.faults = self.faults.saturating_add(1);
+    }
+
+    #[tactic(auto, using(crate::proofs::Outgoing::frames_snoc_bytes, crate::proofs::Outgoing::outgoing_frame))]
+    // Puts a copy of the frame, and waits while as many pieces wait as may.
+    fn put(&mut self, frame: &[u8]) -> Handed
+        requires { self.old.finished ≡ false }
+        ensures done { result ≡ Handed.Done → self.new ≡ record self.old { handed = self.old.handed ++ frame.now ∷ [] } }
+        ensures other { result ≢ Handed.Done → (result ≡ Handed.Memory) × (self.new ≡ self.old) }
+    {
+        let Ok(copy) = Bytes::from_slice(self.alloc, frame) else {
+            return Handed::Memory;
+        };
+        self.out.put_below(self.rt, MOST_PIECES, Piece::Bytes(copy));
+        Handed::Done
+    }
+
+    // Gives the next bytes, or finds the end.
+    #[tactic(auto, using(crate::proofs::Outgoing::told_taken, crate::proofs::Outgoing::bytes_of_prefix))]
+    fn read(&mut self, buf: &mut [u8]) -> Came
+        requires room { 0 < length buf.old }
+        requires before_end { self.old.ended ≡ false }
+        ensures answer { (result ≢ Came.Failed) × (result ≢ Came.Memory) }
+        ensures count { OnCame result (λ n. (0 < n) × (n ≤ length buf.old)) }
+        ensures appended { OnCame result (λ n. self.new.given ≡ self.old.given ++ take n buf.new) }
+        ensures kept { OnNoneCame result (self.new.given ≡ self.old.given) }
+        ensures ends { result ≡ Came.End → IsTrue self.new.ended }
+        ensures same_ended { result ≢ Came.End → self.new.ended ≡ self.old.ended }
+        ensures told { OnNoneCame result (IsPrefix self.old.told self.new.given) }
+        ensures same { self.new ≡ record self.old { given = self.new.given; ended = self.new.ended } }
+    {
+        match self.incoming.read(self.rt, buf) {
+            Found::Bytes(count) => Came::Bytes(count),
+            Found::Nothing => Came::Idle,
+            Found::Mark(EndMark) => {
+                self.ended = true;
+                Came::End
+            }
+        }
+    }
+}
+
+impl<'r, R: Wait> Link for PairLink<'r, R> {
+    ghost use Rattle.std.specs.Prelude.{Some};
+    ghost use mathlib.Core.List.{IsPrefix};
+
+    ghost handed = { λ l. l.handed };
+
+    ghost given = { λ l. Some l.given };
+
+    ghost ended = { λ l. l.ended };
+
+    // All that it was told of has come.
+    ghost nothing_ready = { λ old new. IsPrefix old.told new.given };
+
+    ghost peer_finished = { λ old new. IsPrefix old.told new.given };
+
+    ghost faults = { λ l. l.faults };
+
+    fn send(&mut self, frame: &[u8]) -> Handed
+        // A send fails exactly where its number is listed, or the sending side was ended.
+        ensures fails { (result ≡ Handed.Failed) ↔ (Contains self.old.failing_sends self.new.sends ⊎ IsTrue self.old.finished) }
+
+        ensures appended { result ≡ Handed.Done → self.new.handed ≡ self.old.handed ++ frame.now ∷ [] }
+        ensures kept { result ≢ Handed.Done → self.new.handed ≡ self.old.handed }
+
+        // What is counted, and what stays.
+        ensures sends { self.new.sends ≡ raised self.old.sends }
+        ensures faults { result ≡ Handed.Failed → self.new.faults ≡ raised self.old.faults }
+        ensures cause { HasCause (result ≡ Handed.Failed) self.old.faults self.new.faults }
+        ensures same { self.new ≡ record self.old { handed = self.new.handed; sends = self.new.sends; faults = self.new.faults } }
+    {
+        if self.sends.next() {
+            self.fault();
+            return Handed::Failed;
+        }
+        if self.finished {
+            self.fault();
+            return Handed::Failed;
+        }
+        self.put(frame)
+    }
+
+    fn receive(&mut self, buf: &mut [u8]) -> Came
+        requires room { 0 < length buf.old }
+
+        // A receive fails exactly where its number is listed. After the end it finds the end again.
+        ensures fails { (result ≡ Came.Failed) ↔ Contains self.old.failing_receives self.new.receives }
+        ensures after_end { IsTrue self.old.ended → result ≢ Came.Failed → result ≡ Came.End }
+        ensures memory { result ≢ Came.Memory }
+
+        ensures count { OnCame result (λ n. (0 < n) × (n ≤ length buf.old)) }
+        ensures appended { OnCame result (λ n. self.new.given ≡ self.old.given ++ take n buf.new) }
+        ensures kept { OnNoneCame result (self.new.given ≡ self.old.given) }
+        ensures ends { result ≡ Came.End → IsTrue self.new.ended }
+        ensures same_ended { result ≢ Came.End → self.new.ended ≡ self.old.ended }
+        // Nothing is ready, or the end comes, only where all that it was told of has come.
+        ensures idle { result ≡ Came.Idle → IsPrefix self.old.told self.new.given }
+        ensures end { result ≡ Came.End → IsPrefix self.old.told self.new.given }
+
+        // What is counted, and what stays.
+        ensures receives { self.new.receives ≡ raised self.old.receives }
+        ensures faults { result ≡ Came.Failed → self.new.faults ≡ raised self.old.faults }
+        ensures cause { HasCause (result ≡ Came.Failed) self.old.faults self.new.faults }
+        ensures same { self.new ≡ record self.old { given = self.new.given; receives = self.new.receives; faults = self.new.faults; ended = self.new.ended } }
+    {
+        if self.receives.next() {
+            self.fault();
+            return Came::Failed;
+        }
+        if self.ended {
+            return Came::End;
+        }
+        self.read(buf)
+    }
+
+    #[tactic(auto, using(crate::proofs::Outgoing::frames_snoc_mark, crate::proofs::Outgoing::outgoing_mark))]
+    fn finish(&mut self)
+        ensures { self.new ≡ record self.old { finished = true } }
+    {
+        if !self.finished {
+            self.out.put_waiting(self.rt, Piece::Mark(EndMark));
+            self.finished = true;
+        }
+    }
+}
+
+/// Brings the two ends of one pair together. What each was given is a beginning of what the other handed over, and
+/// all of it after the end. From now on each end knows of all that was handed over at the other.
+pub fn meet<R>(first: &mut PairLink<R>, second: &mut PairLink<R>)
+    requires { ArePair first.old second.old }
+    ensures to_second { IsHandedOn first.new second.new }
+    ensures to_first { IsHandedOn second.new first.new }
+    ensures first { first.new ≡ told_of_all second.old first.old }
+    ensures second { second.new ≡ told_of_all first.old second.old }
+{
+    first.incoming.meet(&mut second.out);
+    second.incoming.meet(&mut first.out);
+}
