@@ -1,0 +1,5 @@
+mod Lists
+mod Tickets
+mod Steps
+mod Cap
+mod Tenants

@@ -1,0 +1,83 @@
+-- The rule of a quota's table, and what each step tells. A window's word is the number of its draws modulo 2^64.
+use Rattle.std.specs.Prelude.{◌≡◌, ℕ, ◌+◌, ◌-◌, ◌/◌, ◌%◌, ◌^◌, ◌<◌, ◌≤◌, List, [], ◌∷◌, ◌++◌, length, slice_index, sum_by, flat_map}
+use mathlib.Core.Option.{some}
+use lib.ListN.{get_elem?}
+use Rattle.atomic_table.specs.Table.{State, Me, Step}
+use Rattle.atomic_table.specs.Seated.{TableId}
+use Rattle.tenant_quota.specs.declared.view.View.{View}
+use Rattle.tenant_quota.specs.Drawing.{tickets_in, EachOnce, AllOnce, all_shares}
+
+-- the view of the seat that opens a quota
+abbrev pub opener : ℕ → View
+opener windows = record { windows = windows; draws = []; share = all_shares }
+
+-- a word that counts these tickets
+pub record Counts (word : ℕ) (tickets : List ℕ) : Type 0 where
+  pub counted : word ≡ length tickets % 2 ^ 64
+  pub once : length tickets < 2 ^ 64 → EachOnce tickets
+
+-- the tickets of a window that all seats have
+abbrev pub tickets_out : ℕ → List View → List ℕ
+tickets_out window views = flat_map (λ v. tickets_in window v.draws) views
+
+abbrev pub shares_out : List View → ℕ
+shares_out views = sum_by (λ v. v.share) views
+
+-- a seat with a share knows how many windows there are, and one without has no draws
+pub record Fits (windows : ℕ) (v : View) : Type 0 where
+  pub knows : 0 < v.share → v.windows ≡ windows
+  pub none : v.share ≡ 0 → v.draws ≡ []
+
+-- each word counts the tickets that all seats have of its window, and the seats have all shares together
+pub record IsQuota (windows : ℕ) (s : State (Unit {0}) View) : Type 0 where
+  pub sized : length s.words ≡ windows
+  pub words : (window : ℕ) → window < windows → Counts (slice_index s.words window) (tickets_out window s.views)
+  pub shares : shares_out s.views ≡ all_shares
+  pub seats : (seat : ℕ) (v : View) → get_elem? s.views seat ≡ some v → Fits windows v
+
+abbrev pub Seated : Type 0
+Seated = Me (Unit {0}) View
+
+-- the draws of a seat that has all shares
+abbrev pub Told : View → Type 0
+Told v = v.share ≡ all_shares → AllOnce v.windows v.draws
+
+abbrev pub drew : View → ℕ → ℕ → View
+drew v window ticket = record { windows = v.windows; draws = v.draws ++ (window, ticket) ∷ []; share = v.share }
+
+-- the draw of the ticket n in the step's window
+pub record Drawn (st : Step (Unit {0})) (m : Seated) (n : ℕ) (m' : Seated) : Type 0 where
+  pub view : m'.0 ≡ drew m.0 st.word n
+  pub slots : m'.1 ≡ m.1
+  pub told : Told m'.0
+
+-- a load that leaves the seat as it is
+pub record Settled (st : Step (Unit {0})) (m : Seated) (n : ℕ) (m' : Seated) : Type 0 where
+  pub same : m' ≡ m
+  pub told : Told m'.0
+
+-- what a seat keeps when it is split
+abbrev pub kept_half : View → View
+kept_half v = record { windows = v.windows; draws = v.draws; share = v.share - v.share / 2 }
+
+-- what the new seat has
+abbrev pub new_half : View → View
+new_half v = record { windows = v.windows; draws = []; share = v.share / 2 }
+
+-- a seat that has taken in another
+abbrev pub together : View → View → View
+together v u = record { windows = v.windows; draws = v.draws ++ u.draws; share = v.share + u.share }
+
+-- a seat that was taken in
+abbrev pub nobody : View
+nobody = record { windows = 0; draws = []; share = 0 }
+
+-- the seat of this table
+pub record IsSeat (of table : TableId) (windows : ℕ) (me : Seated) : Type 0 where
+  pub of_table : of ≡ table
+  pub sized : windows ≡ of.words
+  pub some_windows : 1 ≤ of.words
+  pub knows : me.0.windows ≡ of.words
+  pub empty : me.1 ≡ []
+  pub shares : 1 ≤ me.0.share
+  pub told : Told me.0

@@ -1,0 +1,99 @@
+ghost use Rattle.std.specs.Prelude.{◌≡◌, ◌<◌, ◌≤◌, ◌+◌, ◌/◌, [], ◌∷◌, ◌++◌, IfOk, OnErr, ◌^◌, length};
+ghost use Rattle.tenant_quota.specs.Drawing.{AllOnce, all_shares, allowed, tickets_in};
+
+use crate::view::{Draw, Halves, Settle, Table, View};
+use atomic_table::Seat as TableSeat;
+use std::alloc::{AllocError, Global};
+use std::marker::Model;
+use std::sync::Arc;
+
+/// A place to draw tickets of a quota from. No call of it waits, and none but a split takes memory. It may go to any
+/// thread. Contracts see it as a `Drawing`: of which quota it is, its draws, and its share.
+#[derive(Drop)]
+pub struct Seat {
+    pub(crate) words: Arc<Table, Global>,
+    pub(crate) seat: TableSeat<(), View>,
+}
+
+impl Model for Seat {
+    ghost use Rattle.std.specs.Arc.{arc_value};
+    ghost use Rattle.tenant_quota.specs.Drawing.{Drawing};
+
+    ghost Value = { Drawing };
+
+    ghost use Rattle.tenant_quota.specs.Rule.{IsSeat};
+
+    ghost view = { λ s. record { quota = s.seat.table_id; draws = s.seat.me.0.draws; share = s.seat.me.0.share } };
+
+    ghost invariant = { λ s. IsSeat s.seat.table_id (arc_value s.words).shared.table_id (arc_value s.words).shared.key s.seat.me };
+}
+
+impl Seat {
+    /// Draws a ticket in a window, which is counted from 0: the number of the window's draws before, modulo 2^64. It
+    /// waits for nobody and takes no memory.
+    pub fn draw(&mut self, window: u64) -> u64
+        requires { window < self.old.quota.words }
+
+        ensures drawn { self.new.draws ≡ self.old.draws ++ (window, result) ∷ [] }
+        ensures quota { self.new.quota ≡ self.old.quota }
+        ensures share { self.new.share ≡ self.old.share }
+    {
+        let words = &self.words.shared;
+        words.fetch_add::<Draw>(&mut self.seat, window as usize, 1)
+    }
+
+    /// A new seat of the same quota, which has no draws and half of this one's share, rounded down. Where there is no
+    /// memory, nothing changes.
+    pub fn split(&mut self) -> Result<Seat, AllocError>
+        requires { 2 ≤ self.old.share }
+
+        ensures undrawn { IfOk result (λ seat. seat.draws ≡ []) }
+        ensures half { IfOk result (λ seat. seat.share ≡ self.old.share / 2) }
+        ensures shares { IfOk result (λ seat. self.new.share + seat.share ≡ self.old.share) }
+        ensures one_quota { IfOk result (λ seat. seat.quota ≡ self.old.quota) }
+        ensures draws { self.new.draws ≡ self.old.draws }
+        ensures quota { self.new.quota ≡ self.old.quota }
+        ensures same { OnErr result (self.new ≡ self.old) }
+    {
+        let theirs = Arc::try_clone(&self.words)?;
+        let words = &self.words.shared;
+        let seat = words.split_seat::<Halves>(&mut self.seat);
+        words.load::<Settle>(&mut self.seat, 0);
+        Ok(Seat {
+            words: theirs,
+            seat,
+        })
+    }
+
+    /// Takes in another seat of the same quota, with its draws and its share. It waits for nobody and takes no memory.
+    pub fn join(&mut self, other: Seat)
+        requires { other.quota ≡ self.old.quota }
+
+        ensures draws { self.new.draws ≡ self.old.draws ++ other.draws }
+        ensures share { self.new.share ≡ self.old.share + other.share }
+        ensures quota { self.new.quota ≡ self.old.quota }
+    {
+        let Seat { seat, words: _ } = other;
+        let words = &self.words.shared;
+        words.join_seat::<Halves>(&mut self.seat, seat);
+        words.load::<Settle>(&mut self.seat, 0);
+    }
+
+    /// The law of tickets: where a seat has all shares, the tickets of each window are 0, 1, 2 and so on, each once,
+    /// if they are fewer than 2^64. They are all that were drawn from the quota.
+    pub fn tickets_are_distinct(&self)
+        ensures { self.now.share ≡ all_shares → AllOnce self.now.quota.words self.now.draws }
+    {
+        let _ = &self.seat;
+    }
+
+    /// The law of a cap: of all tickets of a window, no more than `cap` are below it, so that one cap over all seats
+    /// allows no more calls than it says.
+    pub fn cap_is_kept(&self, window: u64, cap: u64)
+        requires { window < self.now.quota.words }
+        ensures { self.now.share ≡ all_shares → length (tickets_in window self.now.draws) < 2 ^ 64 → allowed cap (tickets_in window self.now.draws) ≤ cap }
+    {
+        let _ = (window, cap);
+        self.tickets_are_distinct();
+    }
+}

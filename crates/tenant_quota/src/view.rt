@@ -1,0 +1,64 @@
+// What each seat of a quota's table knows, and what its steps tell. No value of these types but the table is made.
+use atomic_table::{Join, Play, Split, TableRule};
+use std::alloc::Global;
+use std::collections::LinkedList;
+
+// What one seat knows.
+pub struct View {
+    // How many windows the quota has.
+    pub windows: u64,
+    // Each draw of the seat, and of the seats that were joined to it: the window, and the ticket.
+    pub draws: LinkedList<(u64, u64)>,
+    // Its part of the shares, of which the table's seats have a fixed number together.
+    pub share: u64,
+}
+
+pub struct Rule;
+
+// Its key is the number of windows.
+impl TableRule<(), View, u64> for Rule {
+    ghost use Rattle.tenant_quota.specs.Rule.{IsQuota, opener};
+
+    ghost holds = { IsQuota };
+
+    ghost first = { opener };
+}
+
+// The draw of a ticket.
+pub struct Draw;
+
+impl Play<(), View> for Draw {
+    ghost use Rattle.tenant_quota.specs.Rule.{Drawn};
+
+    ghost then = { Drawn };
+}
+
+// A load that tells what the draws of a seat with all shares are.
+pub struct Settle;
+
+impl Play<(), View> for Settle {
+    ghost use Rattle.tenant_quota.specs.Rule.{Settled};
+
+    ghost then = { Settled };
+}
+
+// A new seat, which has half of this one's share and no draws.
+pub struct Halves;
+
+impl Split<View> for Halves {
+    ghost use Rattle.tenant_quota.specs.Rule.{kept_half, new_half};
+
+    ghost left = { kept_half };
+
+    ghost right = { new_half };
+}
+
+impl Join<View> for Halves {
+    ghost use Rattle.tenant_quota.specs.Rule.{together, nobody};
+
+    ghost both = { together };
+
+    ghost spent = { nobody };
+}
+
+pub type Table = atomic_table::Table<(), View, u64, Rule, Global>;
