@@ -1,0 +1,4 @@
+mod Calls
+mod Joins
+mod Kept
+mod Places

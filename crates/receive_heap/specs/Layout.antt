@@ -1,0 +1,76 @@
+use Rattle.std.specs.Prelude.{◌≡◌, ℕ, ◌+◌, ◌<◌, ◌≤◌, ◌⊎◌, ◌&&◌, Bool, nat_le, nat_lt, List, ◌∷◌, ◌++◌, All, map, Result, Ok, Err}
+use Rattle.std.specs.List.{Any, AllPairs, count_by}
+use Rattle.std.specs.List.Sorted.{IsStrictlyIncreasing}
+use Rattle.receive_heap.specs.declared.holes.Span.{Span}
+use Rattle.receive_heap.specs.declared.extents.Block.{Block}
+use Rattle.receive_heap.specs.declared.extents.TakeFault.{TakeFault}
+use Rattle.receive_heap.specs.declared.extents.TakeFault.TheVariants.{NoHole, Memory}
+
+-- the words of a heap, its holes by place, its held blocks by number, and the number of the next block
+pub record Layout : Type 0 where
+  pub words : ℕ
+  pub holes : List Span
+  pub held : List Block
+  pub next : ℕ
+
+-- whether the places from `at` on, so many, have this one among them
+abbrev pub has_place : ℕ → ℕ → ℕ → Bool
+has_place at words place = nat_le at place && nat_lt place (at + words)
+
+-- how many of the holes and held blocks have a place
+abbrev pub owners_of : Layout → ℕ → ℕ
+owners_of layout place = count_by (λ hole. has_place hole.at hole.words place) layout.holes + count_by (λ block. has_place block.at block.words place) layout.held
+
+-- each place from 1 on is in one hole or one held block, and they have no other place
+pub record IsPartition (layout : Layout) : Type 0 where
+  pub inside : (place : ℕ) → 1 ≤ place → place < layout.words → owners_of layout place ≡ 1
+  pub outside : (place : ℕ) → (place < 1) ⊎ (layout.words ≤ place) → owners_of layout place ≡ 0
+
+-- the holes stand by place, and no two touch
+abbrev pub AreApart : List Span → Type 0
+AreApart holes = AllPairs (λ hole later. hole.at + hole.words < later.at) holes
+
+-- the first hole with so many words begins at this place
+pub record IsFirstFit (holes : List Span) (words at : ℕ) : Type 0 where
+  pub before : List Span
+  pub hole : Span
+  pub after : List Span
+  pub is : holes ≡ before ++ hole ∷ after
+  pub too_small : All (λ small. small.words < words) before
+  pub fits : words ≤ hole.words
+  pub at_front : at ≡ hole.at
+
+-- no hole has more words, and a hole has as many, or it is 0
+pub record IsLargest (holes : List Span) (words : ℕ) : Type 0 where
+  pub most : All (λ hole. hole.words ≤ words) holes
+  pub reached : Any (λ hole. hole.words ≡ words) holes ⊎ (words ≡ 0)
+
+-- an answer that no hole is large enough
+abbrev pub IsNoHole : Result Block TakeFault → Type 0
+IsNoHole (Ok _) = ⊥
+IsNoHole (Err (NoHole _ _)) = Unit {0}
+IsNoHole (Err Memory) = ⊥
+
+-- what such an answer says: the words that were asked for, and those of the largest hole
+abbrev pub SaysLargest : List Span → ℕ → TakeFault → Type 0
+SaysLargest holes words (NoHole need largest) = (need ≡ words) × IsLargest holes largest
+SaysLargest holes words Memory = Unit {0}
+
+-- one list of blocks is the other without the block of this number
+pub record IsWithout (number : ℕ) (old new : List Block) : Type 0 where
+  pub before : List Block
+  pub block : Block
+  pub after : List Block
+  pub was : old ≡ before ++ block ∷ after
+  pub has : block.number ≡ number
+  pub is : new ≡ before ++ after
+
+-- what holds of each heap: held blocks and holes are a partition of the places, no two holes touch, and
+-- the numbers of the held blocks rise and are below the next
+pub record IsSound (layout : Layout) : Type 0 where
+  pub partition : IsPartition layout
+  pub apart : AreApart layout.holes
+  pub hole_words : All (λ hole. 1 ≤ hole.words) layout.holes
+  pub block_words : All (λ block. 1 ≤ block.words) layout.held
+  pub numbers : IsStrictlyIncreasing (map (λ block. block.number) layout.held)
+  pub numbered : All (λ block. (1 ≤ block.number) × (block.number < layout.next)) layout.held

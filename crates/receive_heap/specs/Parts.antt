@@ -1,0 +1,73 @@
+-- How the lists of holes and of held blocks are kept.
+use Rattle.std.specs.Prelude.{◌≡◌, ℕ, ◌+◌, ◌<◌, ◌≤◌, ◌⊎◌, cond, List, All, length, slice_index_or}
+use Rattle.std.specs.List.{AllWithin, count_by}
+use Rattle.receive_heap.specs.declared.holes.Span.{Span}
+use Rattle.receive_heap.specs.declared.extents.Block.{Block}
+use Rattle.receive_heap.specs.Layout.{Layout, AreApart, has_place, IsPartition}
+
+-- the words of a heap at most
+abbrev pub most_words : ℕ
+most_words = 65536
+
+-- how many of the holes have a place
+abbrev pub holes_at : List Span → ℕ → ℕ
+holes_at holes place = count_by (λ hole. has_place hole.at hole.words place) holes
+
+-- 1 where the span has the place, else 0
+abbrev pub one_at : Span → ℕ → ℕ
+one_at span place = cond (has_place span.at span.words place) 1 0
+
+-- holes that are kept: by place and apart, none empty, none past the heap
+pub record AreHoles (holes : List Span) : Type 0 where
+  pub apart : AreApart holes
+  pub some : All (λ hole. 1 ≤ hole.words) holes
+  pub small : All (λ hole. hole.at + hole.words ≤ most_words) holes
+
+-- the hole at an index is the first with so many words
+pub record FitsAt (holes : List Span) (words index : ℕ) : Type 0 where
+  pub within : index < length holes
+  pub before : AllWithin (λ hole. hole.words < words) holes 0 index
+  pub there : (d : Span) → words ≤ (slice_index_or holes index d).words
+
+-- a span that isn't empty stands behind the holes before an index and before the others
+pub record Stands (holes : List Span) (index : ℕ) (span : Span) : Type 0 where
+  pub within : index ≤ length holes
+  pub words : 1 ≤ span.words
+  pub small : span.at + span.words ≤ most_words
+  pub before : (k : ℕ) (d : Span) → k < index → (slice_index_or holes k d).at + (slice_index_or holes k d).words ≤ span.at
+  pub behind : (k : ℕ) (d : Span) → index ≤ k → k < length holes → span.at + span.words ≤ (slice_index_or holes k d).at
+
+-- it touches no hole behind it
+abbrev pub IsClearBehind : List Span → ℕ → Span → Type 0
+IsClearBehind holes index span = (k : ℕ) (d : Span) → index ≤ k → k < length holes → span.at + span.words < (slice_index_or holes k d).at
+
+-- it touches no hole before it
+abbrev pub IsClearBefore : List Span → ℕ → Span → Type 0
+IsClearBefore holes index span = (k : ℕ) (d : Span) → k < index → (slice_index_or holes k d).at + (slice_index_or holes k d).words < span.at
+
+-- a span and holes have the same places as others
+abbrev pub HaveSamePlaces : List Span → Span → List Span → Span → Type 0
+HaveSamePlaces holes span others other = (place : ℕ) → holes_at holes place + one_at span place ≡ holes_at others place + one_at other place
+
+-- it meets no hole
+abbrev pub MeetsNone : List Span → Span → Type 0
+MeetsNone holes span = All (λ hole. (hole.at + hole.words ≤ span.at) ⊎ (span.at + span.words ≤ hole.at)) holes
+
+-- what is known of each entry of the map of held blocks
+abbrev pub IsEntry : ℕ → ℕ × Block → Type 0
+IsEntry next entry = (entry.1.number ≡ entry.0) × (1 ≤ entry.0) × (entry.0 < next) × (1 ≤ entry.1.words)
+
+-- what is kept of the parts of a heap
+pub record Keeps (layout : Layout) (entries : List (ℕ × Block)) (capacity : ℕ) : Type 0 where
+  pub words : layout.words ≤ most_words
+  pub next : 1 ≤ layout.next
+  pub partition : IsPartition layout
+  pub apart : AreApart layout.holes
+  pub some : All (λ hole. 1 ≤ hole.words) layout.holes
+  pub known : All (IsEntry layout.next) entries
+  -- there is room for one hole more for each held block
+  pub room : length layout.holes + length entries ≤ capacity
+
+-- so many words of the front of the hole at an index
+abbrev pub front_of : List Span → ℕ → ℕ → Span
+front_of holes index words = record { at = (slice_index_or holes index (record { at = 0; words = 0 })).at; words = words }

@@ -1,0 +1,166 @@
+//! Held blocks and holes.
+
+ghost use Rattle.std.specs.Prelude.{◌≡◌, ◌≢◌, ◌<◌, ◌≤◌, ◌+◌, ◌-◌, ◌^◌, ◌↔◌, ◌++◌, ◌∷◌, [], All, IfOk, OnOk, IfErr, OnErr, IsErr};
+ghost use Rattle.receive_heap.specs.Layout.{IsSound, IsFirstFit, IsNoHole, SaysLargest, IsWithout};
+
+use crate::Span;
+use crate::holes::{cut, first_fit, free, largest};
+use mrpc_table::Memory;
+use std::alloc::{AllocError, AllocFailed, Global};
+use std::collections::BTreeMap;
+use std::marker::Model;
+use thiserror::Error;
+
+/// A block of words that is held.
+#[derive(Clone, Copy, Debug, PartialEq, Eq)]
+pub struct Block {
+    /// Its number: the first block that is taken has 1, and each later one the next.
+    pub number: u64,
+    /// Its first place.
+    pub at: u64,
+    /// How many words it has.
+    pub words: u64,
+}
+
+/// Why no block is taken.
+#[derive(Clone, Copy, Debug, PartialEq, Eq, Error)]
+pub enum TakeFault {
+    /// No hole has that many words.
+    #[error("no hole has {need} words, the largest has {largest}")]
+    NoHole {
+        /// The words that were asked for.
+        need: u64,
+        /// The words of the largest hole, 0 where there is none.
+        largest: u64,
+    },
+    /// No memory was found.
+    #[error("out of memory")]
+    Memory,
+}
+
+/// No held block has this number.
+#[derive(Clone, Copy, Debug, PartialEq, Eq, Error)]
+#[error("no held block has the number {number}")]
+pub struct NotHeld {
+    /// The number that was asked for.
+    pub number: u64,
+}
+
+/// The places of a heap, as held blocks and holes. A clause sees it as the data of
+/// `specs/Layout.antt`.
+#[derive(Debug, Drop)]
+pub struct Extents {
+    words: u64,
+    // By place. There is room for one more for each block that is held.
+    holes: Vec<Span>,
+    // By number.
+    held: BTreeMap<u64, Block>,
+    next: u64,
+}
+
+impl Model for Extents {
+    ghost use Rattle.std.specs.Prelude.{vec_len};
+    ghost use Rattle.std.specs.Vec.{vec_capacity};
+    ghost use Rattle.std.specs.Map.{values_of};
+    ghost use Rattle.receive_heap.specs.Layout.{Layout};
+    ghost use Rattle.receive_heap.specs.Parts.{Keeps};
+
+    ghost Value = { Layout };
+
+    ghost view = { λ e. record { words = e.words; holes = e.holes.items; held = values_of e.held.entries; next = e.next } };
+
+    ghost invariant = { λ e. Keeps (record { words = e.words; holes = e.holes.items; held = values_of e.held.entries; next = e.next }) e.held.entries (vec_capacity e.holes) };
+}
+
+impl Extents {
+    /// The places of a heap of so many words, 4 to 65536. Those from 1 on are one hole.
+    pub fn open(alloc: Global, words: u64) -> Result<Extents, Memory>
+        requires least { 4 ≤ words }
+        requires most { words ≤ 65536 }
+        ensures size { IfOk result (λ extents. extents.words ≡ words) }
+        ensures hole { IfOk result (λ extents. extents.holes ≡ record { at = 1; words = words - 1 } ∷ []) }
+        ensures held { IfOk result (λ extents. extents.held ≡ []) }
+        ensures next { IfOk result (λ extents. extents.next ≡ 1) }
+    {
+        let mut holes = Vec::with_capacity(alloc, 1)?;
+        holes.push(Span {
+            at: 1,
+            words: words - 1,
+        })?;
+        Ok(Extents {
+            words,
+            holes,
+            held: BTreeMap::new(alloc),
+            next: 1,
+        })
+    }
+
+    /// Takes a block of so many words, at least 1, from the front of the first hole that has as many.
+    pub fn take(&mut self, words: u64) -> Result<Block, TakeFault>
+        requires some { 1 ≤ words }
+        requires numbers { self.old.next < 2 ^ 64 - 1 }
+        ensures front { IfOk result (λ block. IsFirstFit self.old.holes words block.at) }
+        ensures words { IfOk result (λ block. block.words ≡ words) }
+        ensures number { IfOk result (λ block. block.number ≡ self.old.next) }
+        ensures held { IfOk result (λ block. self.new.held ≡ self.old.held ++ block ∷ []) }
+        ensures next { OnOk result (self.new.next ≡ self.old.next + 1) }
+        ensures size { self.new.words ≡ self.old.words }
+
+        // Where a hole has that many words, want of memory is the one fault.
+        ensures no_hole { IsNoHole result ↔ All (λ hole. hole.words < words) self.old.holes }
+        ensures largest { IfErr result (SaysLargest self.old.holes words) }
+        ensures err { OnErr result (self.new ≡ self.old) }
+    {
+        let Some(index) = first_fit(&self.holes, words) else {
+            return Err(TakeFault::NoHole {
+                need: words,
+                largest: largest(&self.holes),
+            });
+        };
+        if self.holes.reserve(self.held.len() + 1).is_err() {
+            return Err(TakeFault::Memory);
+        }
+        let block = Block {
+            number: self.next,
+            at: self.holes[index].at,
+            words,
+        };
+        if self.held.insert(block.number, block).is_err() {
+            return Err(TakeFault::Memory);
+        }
+        cut(&mut self.holes, index, words);
+        self.next += 1;
+        Ok(block)
+    }
+
+    /// Takes a block back by its number; its places are a hole from then on, one with the holes that
+    /// it touches. It takes no memory. It finds its block by search, and moves the holes behind it.
+    pub fn reclaim(&mut self, block: u64) -> Result<(), NotHeld>
+        ensures held { OnOk result (IsWithout block self.old.held self.new.held) }
+        ensures size { self.new.words ≡ self.old.words }
+        ensures next { self.new.next ≡ self.old.next }
+        ensures not_held { IsErr result ↔ All (λ held. held.number ≢ block) self.old.held }
+        ensures number { IfErr result (λ fault. fault.number ≡ block) }
+        ensures err { OnErr result (self.new ≡ self.old) }
+    {
+        let Some(held) = self.held.remove(&block) else {
+            return Err(NotHeld { number: block });
+        };
+        free(
+            &mut self.holes,
+            Span {
+                at: held.at,
+                words: held.words,
+            },
+        );
+        Ok(())
+    }
+
+    /// A law; it does nothing. Held blocks and holes are a partition of the places from 1 on, no two
+    /// holes touch, and held blocks have numbers of their own, below the next.
+    pub fn partition(&self)
+        ensures { IsSound self.now }
+    {
+        let _ = self.held.len();
+    }
+}

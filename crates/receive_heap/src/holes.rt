@@ -1,0 +1,135 @@
+// The list of holes, by place.
+ghost use Rattle.std.specs.Prelude.{◌≡◌, ◌<◌, ◌≤◌, ◌+◌, ℕ, All, MatchOption, length, vec_len};
+ghost use Rattle.std.specs.Vec.{vec_capacity};
+ghost use Rattle.std.specs.List.{AllWithin};
+ghost use Rattle.receive_heap.specs.Layout.{IsLargest};
+ghost use Rattle.receive_heap.specs.Parts.{AreHoles, FitsAt, Stands, IsClearBehind, IsClearBefore, HaveSamePlaces, MeetsNone, holes_at, one_at, front_of};
+
+use std::alloc::Global;
+
+/// A row of places that are all free or all one block's.
+#[derive(Clone, Copy, Debug, PartialEq, Eq)]
+pub struct Span {
+    /// The first place.
+    pub at: u64,
+    /// How many places.
+    pub words: u64,
+}
+
+// The index of the first hole with so many words.
+pub(crate) fn first_fit(holes: &[Span], words: u64) -> Option<usize>
+    ensures { MatchOption result (All (λ hole. hole.words < words) holes.now) (FitsAt holes.now words) }
+{
+    holes.iter().position(|hole| words <= hole.words)
+}
+
+// The words of a hole that no other has more of, 0 without holes.
+pub(crate) fn largest(holes: &[Span]) -> u64
+    ensures { IsLargest holes.now result }
+{
+    let mut most = 0;
+    for hole in holes {
+        if hole.words > most {
+            most = hole.words;
+        }
+    }
+    most
+}
+
+// Takes so many words from the front of a hole.
+pub(crate) fn cut(holes: &mut Vec<Span>, index: usize, words: u64)
+    requires holes { AreHoles holes.old.items }
+    requires some { 1 ≤ words }
+    requires fits { FitsAt holes.old.items words index }
+    ensures holes { AreHoles holes.new.items }
+    ensures places { (place : ℕ) → holes_at holes.new.items place + one_at (front_of holes.old.items index words) place ≡ holes_at holes.old.items place }
+    ensures len { vec_len holes.new ≤ vec_len holes.old }
+    ensures capacity { vec_capacity holes.new ≡ vec_capacity holes.old }
+{
+    let hole = holes[index];
+    if hole.words == words {
+        holes.remove(index);
+    } else {
+        holes[index] = Span {
+            at: hole.at + words,
+            words: hole.words - words,
+        };
+    }
+}
+
+// Makes a span a hole, one with the holes that it touches.
+#[tactic(auto, using(crate::proofs::Joins::stands_between, crate::proofs::Joins::holes_inserted))]
+pub(crate) fn free(holes: &mut Vec<Span>, span: Span)
+    requires holes { AreHoles holes.old.items }
+    requires some { 1 ≤ span.words }
+    requires small { span.at + span.words ≤ 65536 }
+    requires apart { MeetsNone holes.old.items span }
+    requires room { vec_len holes.old < vec_capacity holes.old }
+    ensures holes { AreHoles holes.new.items }
+    ensures places { (place : ℕ) → holes_at holes.new.items place ≡ holes_at holes.old.items place + one_at span place }
+    ensures len { vec_len holes.new ≤ vec_len holes.old + 1 }
+    ensures capacity { vec_capacity holes.old ≤ vec_capacity holes.new }
+{
+    let index = index_of(holes, span.at);
+    let span = join_behind(holes, index, span);
+    let (index, span) = join_before(holes, index, span);
+    match holes.insert(index, span) {
+        Ok(()) => {}
+        Err(_) => unreachable!(),
+    }
+}
+
+// How many holes begin before a place.
+fn index_of(holes: &[Span], at: u64) -> usize
+    requires { AreHoles holes.now }
+    ensures within { result ≤ length holes.now }
+    ensures before { AllWithin (λ hole. hole.at < at) holes.now 0 result }
+    ensures behind { AllWithin (λ hole. at ≤ hole.at) holes.now result (length holes.now) }
+{
+    holes.partition_point(|hole| hole.at < at)
+}
+
+// The span with the hole behind it, which leaves the list, where they touch.
+fn join_behind(holes: &mut Vec<Span>, index: usize, span: Span) -> Span
+    requires holes { AreHoles holes.old.items }
+    requires stands { Stands holes.old.items index span }
+    ensures holes { AreHoles holes.new.items }
+    ensures stands { Stands holes.new.items index result }
+    ensures clear { IsClearBehind holes.new.items index result }
+    ensures places { HaveSamePlaces holes.new.items result holes.old.items span }
+    ensures len { vec_len holes.new ≤ vec_len holes.old }
+    ensures capacity { vec_capacity holes.new ≡ vec_capacity holes.old }
+{
+    if index < holes.len() && holes[index].at == span.at + span.words {
+        let hole = holes.remove(index);
+        return Span {
+            at: span.at,
+            words: span.words + hole.words,
+        };
+    }
+    span
+}
+
+// The span with the hole before it, which leaves the list, where they touch; and its index.
+fn join_before(holes: &mut Vec<Span>, index: usize, span: Span) -> (usize, Span)
+    requires holes { AreHoles holes.old.items }
+    requires stands { Stands holes.old.items index span }
+    requires clear { IsClearBehind holes.old.items index span }
+    ensures holes { AreHoles holes.new.items }
+    ensures stands { Stands holes.new.items result.0 result.1 }
+    ensures behind { IsClearBehind holes.new.items result.0 result.1 }
+    ensures before { IsClearBefore holes.new.items result.0 result.1 }
+    ensures places { HaveSamePlaces holes.new.items result.1 holes.old.items span }
+    ensures len { vec_len holes.new ≤ vec_len holes.old }
+    ensures capacity { vec_capacity holes.new ≡ vec_capacity holes.old }
+{
+    if index > 0 && holes[index - 1].at + holes[index - 1].words == span.at {
+        let hole = holes.remove(index - 1);
+        let joined = Span {
+            at: hole.at,
+            words: hole.words + span.words,
+        };
+        return (index - 1, joined);
+    }
+    (index, span)
+}
