@@ -1,0 +1,94 @@
+// Does what the program crate `ring_bench` does, for bench/ring: a thread stores words and sends a descriptor of each
+// through a ring, and another takes the descriptors and adds the words up. No locks; every atomic step is sequentially
+// consistent, and each end has its own count, as rings for one sender and one receiver do.
+#include <atomic>
+#include <cstdint>
+#include <cstdio>
+#include <cstdlib>
+#include <memory>
+#include <thread>
+
+namespace {
+
+constexpr uint64_t kCapacity = 64;
+constexpr uint64_t kMessages = 128;
+constexpr uint64_t kWords = 256;
+
+struct Descriptor {
+  uint8_t kind;
+  uint16_t method;
+  uint32_t number;
+  uint64_t addr;
+  uint64_t stores;
+};
+
+class Ring {
+ public:
+  bool Send(const Descriptor& descriptor) {
+    uint64_t tail = tail_.load();
+    if (tail - head_.load() == kCapacity) return false;
+    slots_[tail % kCapacity] = descriptor;
+    tail_.store(tail + 1);
+    return true;
+  }
+
+  bool Close() {
+    return Send(Descriptor{0, 0, 0, 0, 0});
+  }
+
+  bool Take(Descriptor* descriptor) {
+    uint64_t head = head_.load();
+    if (head == tail_.load()) return false;
+    *descriptor = slots_[head % kCapacity];
+    head_.store(head + 1);
+    return true;
+  }
+
+ private:
+  alignas(128) std::atomic<uint64_t> tail_{0};
+  alignas(128) std::atomic<uint64_t> head_{0};
+  alignas(128) Descriptor slots_[kCapacity];
+};
+
+struct Passed {
+  uint64_t count = 0;
+  uint64_t sum = 0;
+};
+
+void WriteAll(uint64_t count, std::atomic<uint64_t>* words, Ring* ring) {
+  for (uint64_t number = 1; number <= count; ++number) {
+    uint64_t place = 2 + number % kMessages;
+    words[place].store(number);
+    Descriptor descriptor{1, 0, 0, place, number};
+    while (!ring->Send(descriptor)) std::this_thread::yield();
+  }
+  while (!ring->Close()) std::this_thread::yield();
+}
+
+Passed ReadAll(std::atomic<uint64_t>* words, Ring* ring) {
+  Passed passed;
+  Descriptor descriptor;
+  for (;;) {
+    if (!ring->Take(&descriptor)) {
+      std::this_thread::yield();
+      continue;
+    }
+    if (descriptor.kind == 0) return passed;
+    passed.sum += words[descriptor.addr].load();
+    passed.count += 1;
+  }
+}
+
+}  // namespace
+
+int main(int argc, char** argv) {
+  if (argc != 2) return 1;
+  uint64_t count = std::strtoull(argv[1], nullptr, 10);
+  auto words = std::make_unique<std::atomic<uint64_t>[]>(kWords);
+  auto ring = std::make_unique<Ring>();
+  Passed passed;
+  std::thread reader([&] { passed = ReadAll(words.get(), ring.get()); });
+  WriteAll(count, words.get(), ring.get());
+  reader.join();
+  std::printf("%llu %llu\n", static_cast<unsigned long long>(passed.count), static_cast<unsigned long long>(passed.sum));
+}

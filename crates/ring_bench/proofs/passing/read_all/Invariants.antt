@@ -1,0 +1,7 @@
+use Rattle.std.proofs.Common.{◌≡◌, length}
+use Rattle.ring_bench.proofs.passing.read_all.Given as goal
+
+abbrev pub invariant-loop : goal.invariant-loop
+invariant-loop g l =
+    (l.reader.heap ≡ l.initial.reader.heap) × (l.receiver.heap ≡ l.initial.receiver.heap)
+    × (l.passed.count ≡ length l.receiver.taken)
