@@ -1,5 +1,5 @@
 -- The words of a heap by the stores that were made to it, and stores that race with its reader's loads.
-use Rattle.std.specs.Prelude.{◌≡◌, ℕ, ◌==◌, nat_le, nat_lt, List, [], ◌∷◌, ◌++◌, Option, None, Some, filter, map, ⊤}
+use Rattle.std.specs.Prelude.{◌≡◌, ℕ, ◌+◌, ◌==◌, nat_le, nat_lt, List, [], ◌∷◌, ◌++◌, Option, None, Some, filter, map, ⊤}
 
 -- the last of some numbers, or `otherwise` where there is none
 abbrev pub last_or : ℕ → List ℕ → ℕ
@@ -53,3 +53,27 @@ pub record Heap : Type 0 where
   -- for how many loads, and for how many stores, there is room
   pub load_room : ℕ
   pub store_room : ℕ
+
+-- nothing but the room for loads has changed
+pub record AfterRoom (old new : Heap) : Type 0 where
+  pub size : new.size ≡ old.size
+  pub loads : new.loads ≡ old.loads
+  pub stores : new.stores ≡ old.stores
+  pub begun : new.begun ≡ old.begun
+  pub races : new.races ≡ old.races
+  pub store_room : new.store_room ≡ old.store_room
+
+-- one load of a place was made, which gave this value: the races up to it are made first, and it sees them
+pub record AfterLoad (old : Heap) (place value : ℕ) (new : Heap) : Type 0 where
+  pub size : new.size ≡ old.size
+  pub loads : new.loads ≡ old.loads ++ (place, value) ∷ []
+  pub stores : new.stores ≡ old.stores ++ stores_of (races_up_to (old.begun + 1) old.races)
+  pub races : new.races ≡ races_past (old.begun + 1) old.races
+  pub word : value ≡ word_after new.stores place
+  pub begun : new.begun ≡ old.begun + 1
+  pub store_room : new.store_room ≡ old.store_room
+
+-- these loads were made one after the other, each with the change that a load makes
+abbrev pub AfterLoads : {W : Type 0} → (W → ℕ → ℕ → W → Type 0) → W → List (ℕ × ℕ) → W → Type 0
+AfterLoads {W} after_load old [] new = new ≡ old
+AfterLoads {W} after_load old (load ∷ loads) new = (next : W) × after_load old load.0 load.1 next × AfterLoads after_load next loads new

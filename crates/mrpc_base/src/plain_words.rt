@@ -1,7 +1,7 @@
 // The words of a heap in memory, with stores that race with its reader's loads.
 ghost use Rattle.std.specs.Prelude.{◌≡◌, ◌<◌, ◌≤◌, ◌+◌, ◌^◌, ℕ, [], ◌∷◌, ◌++◌, All, IfOk, length};
 ghost use Rattle.std.specs.Vec.{vec_capacity};
-ghost use Rattle.mrpc_base.specs.Heap.{word_after, stores_of, races_up_to, races_past, races_with};
+ghost use Rattle.mrpc_base.specs.Heap.{word_after, stores_of, races_up_to, races_past, races_with, AfterRoom, AfterLoad};
 
 use crate::races::Races;
 use crate::stored_words::StoredWords;
@@ -199,6 +199,12 @@ impl Words for PlainWords {
 
     ghost room = { λ h. h.load_room };
 
+    ghost use Rattle.mrpc_base.specs.Heap.{AfterRoom, AfterLoad};
+
+    ghost after_room = { AfterRoom };
+
+    ghost after_load = { AfterLoad };
+
     fn words(&self) -> u64
         ensures { result ≡ self.now.size }
     {
@@ -217,6 +223,7 @@ impl Words for PlainWords {
         ensures begun { self.new.begun ≡ self.old.begun }
         ensures races { self.new.races ≡ self.old.races }
         ensures store_room { self.new.store_room ≡ self.old.store_room }
+        ensures changes { AfterRoom self.old self.new }
     {
         if n <= self.load_room {
             return Room::Made;
@@ -245,6 +252,7 @@ impl Words for PlainWords {
 
         ensures begun { self.new.begun ≡ self.old.begun + 1 }
         ensures store_room { self.new.store_room ≡ self.old.store_room }
+        ensures changes { AfterLoad self.old place result self.new }
     {
         let number = (self.loads.len() - self.finished) as u64 + 1;
         make_due(&mut self.words, &mut self.races, number);

@@ -24,6 +24,12 @@ pub trait Words {
     /// For how many loads there is room.
     ghost room: { Self → ℕ };
 
+    /// What making room for loads may change.
+    ghost after_room: { Self → Self → Type 0 };
+
+    /// What a load of a place that gives a value changes.
+    ghost after_load: { Self → ℕ → ℕ → Self → Type 0 };
+
     /// How many words the heap has.
     fn words(&self) -> u64
         ensures { result ≡ size self.now };
@@ -36,7 +42,8 @@ pub trait Words {
 
         ensures size { size self.new ≡ size self.old }
         ensures loads { loads self.new ≡ loads self.old }
-        ensures stores { stores self.new ≡ stores self.old };
+        ensures stores { stores self.new ≡ stores self.old }
+        ensures changes { after_room self.old self.new };
 
     /// Loads the word at `place`, which is counted from 0. It takes no memory.
     fn load(&mut self, place: u64) -> u64
@@ -49,5 +56,6 @@ pub trait Words {
 
         // Others may store before the load, and the word is that of all the stores before it.
         ensures grows { Extends (stores self.old) (stores self.new) }
-        ensures last { IfSome (stores self.new) (λ all. result ≡ word_after all place) };
+        ensures last { IfSome (stores self.new) (λ all. result ≡ word_after all place) }
+        ensures changes { after_load self.old place result self.new };
 }

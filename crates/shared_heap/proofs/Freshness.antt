@@ -1,5 +1,5 @@
 -- Loads stay fresh when more stores are known, and when one more load comes.
-use Rattle.std.proofs.Common.{◌≡◌, ℕ, zero, suc, ◌-◌, ◌<◌, ◌≤◌, List, [], ◌∷◌, ◌++◌, length, take, drop, get_or, ◌≢◌, All, sym, ap, ◌∙◌, subst, arith, length-append}
+use Rattle.std.proofs.Common.{◌≡◌, ℕ, zero, suc, ◌-◌, ◌<◌, ◌≤◌, IsTrue, Option, Some, None, is_some, false, true, List, [], ◌∷◌, ◌++◌, length, take, drop, get_or, ◌≢◌, All, refl, sym, ap, ◌∙◌, subst, arith, length-append}
 use Rattle.std.specs.List.{AllZip}
 use Rattle.std.proofs.lemmas.List.{take-append-le, take_all, take-append-drop, drop-append-le}
 use Rattle.std.proofs.lemmas.List.Elements.{All-nil, All-cons, All-head, All-tail}
@@ -69,3 +69,7 @@ untouched old new all place after grew goes_on known none =
 
 pub fresh_at_first : Fresh [] []
 fresh_at_first = ([], (λ i j d le below. absurd (omega arith)), tt)
+
+pub some_of : {X : Type 0} (o : Option X) → IsTrue (is_some o) → (x : X) × (o ≡ Some x)
+some_of None h = absurd (let bad : false ≡ true = h in cc)
+some_of (Some x) h = (x, refl)

@@ -1,5 +1,5 @@
 -- What a reader knows of the stores to a heap, and what its loads say of them.
-use Rattle.std.specs.Prelude.{◌≡◌, ◌≢◌, ℕ, Bool, ◌≤◌, List, ◌++◌, All, length, take}
+use Rattle.std.specs.Prelude.{◌≡◌, ◌≢◌, ℕ, Bool, IsTrue, ◌≤◌, List, [], ◌∷◌, ◌++◌, All, length, take, drop}
 use Rattle.std.specs.List.{AllZip}
 use Rattle.std.specs.List.Sorted.{IsNonDecreasing}
 use Rattle.mrpc_base.specs.Heap.{word_after}
@@ -58,3 +58,16 @@ pub record Reading : Type 0 where
   pub whole : Bool
   -- every load so far, in order
   pub loads : List Load
+
+-- one load of a place was made, which gave this value
+pub record AfterLoad (old : Reading) (place value : ℕ) (new : Reading) : Type 0 where
+  pub loads : new.loads ≡ old.loads ++ load_of place value (length old.known) ∷ []
+  -- the reader then knows all stores that there were at the load, and the word is that of all of them
+  pub grows : BeginsWith new.known old.known
+  pub last : value ≡ word_after new.known place
+  -- a word to which no store went after so many that the reader knew is the one that those made, whatever list of
+  -- stores goes on from what is known
+  pub untouched : (all : List (ℕ × ℕ)) (after : ℕ) → BeginsWith all new.known → after ≤ length old.known → NoneTo place (drop after all) → value ≡ word_after (take after all) place
+  pub heap : new.heap ≡ old.heap
+  pub whole : new.whole ≡ old.whole
+  pub none_left : IsTrue old.whole → new.known ≡ old.known

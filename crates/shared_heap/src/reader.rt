@@ -1,6 +1,6 @@
 ghost use Rattle.std.specs.Prelude.{◌≡◌, ◌<◌, ◌≤◌, ℕ, List, [], ◌∷◌, ◌++◌, length, take, drop, ◌||◌, IsTrue};
 ghost use Rattle.mrpc_base.specs.Heap.{word_after};
-ghost use Rattle.shared_heap.specs.Fresh.{BeginsWith, Fresh, NoneTo, load_of};
+ghost use Rattle.shared_heap.specs.Fresh.{BeginsWith, Fresh, NoneTo, load_of, AfterLoad};
 
 use crate::note::Note;
 use crate::view::{Knowing, LoadOne, Settle, Table, View};
@@ -44,6 +44,13 @@ impl Words for Reader {
 
     ghost room = { λ _. 2 ^ 64 - 1 };
 
+    ghost use Rattle.std.specs.Prelude.{◌≡◌};
+    ghost use Rattle.shared_heap.specs.Fresh.{AfterLoad};
+
+    ghost after_room = { λ old new. new ≡ old };
+
+    ghost after_load = { AfterLoad };
+
     fn words(&self) -> u64
         ensures { result ≡ self.now.heap.words }
     {
@@ -55,6 +62,7 @@ impl Words for Reader {
         ensures made { result ≡ Room.Made }
         ensures enough { n ≤ 2 ^ 64 - 1 }
         ensures same { self.new ≡ self.old }
+        ensures changes { self.new ≡ self.old }
     {
         let _ = n;
         Room::Made
@@ -75,6 +83,7 @@ impl Words for Reader {
         ensures heap { self.new.heap ≡ self.old.heap }
         ensures whole { self.new.whole ≡ self.old.whole }
         ensures none_left { IsTrue self.old.whole → self.new.known ≡ self.old.known }
+        ensures changes { AfterLoad self.old place result self.new }
     {
         let words = &self.words.shared;
         words.load::<LoadOne>(&mut self.seat, place as usize)

@@ -1,8 +1,8 @@
-use Rattle.std.proofs.Common.{◌<◌, ◌≤◌, length, sym, ap, ◌∙◌, arith}
+use Rattle.std.proofs.Common.{◌<◌, ◌≤◌, length, is_some, sym, ap, ◌∙◌, arith}
 use Rattle.std.specs.Arc.{arc_value}
 use Rattle.atomic_table.specs.Seated.{TableId}
 use Rattle.shared_heap.proofs.Steps.{loads_it}
-use Rattle.shared_heap.proofs.Freshness.{fresh_load, untouched}
+use Rattle.shared_heap.proofs.Freshness.{fresh_load, untouched, some_of}
 use Rattle.shared_heap.proofs.reader.ReaderWords.load.Goals as goal
 
 pub load-requires : goal.load-requires
@@ -34,3 +34,17 @@ returns-clause-untouched c = λ all after goes_on known none.
     let l = c.load.ensures.2 in
     let within : after ≤ length c.self.inside.seat.me.0.known = rw (← c.self.view_is) at known in
     l.value ∙ untouched _ _ all c.args.place after l.learns.known goes_on within none
+
+pub returns-clause-changes : goal.returns-clause-changes
+returns-clause-changes c =
+    let i = c.self.invariant in
+    let l = c.load.ensures.2 in
+    rw (← c.self.view_is) (record {
+      loads = l.loads;
+      grows = l.learns.known;
+      last = l.value;
+      untouched = λ all after goes_on known none. l.value ∙ untouched _ _ all c.args.place after l.learns.known goes_on known none;
+      heap = c.load.ensures.0;
+      whole = ap is_some l.all;
+      none_left = λ whole. let all = some_of c.self.inside.seat.me.0.all whole in l.learns.all all.0 all.1 ∙ sym (i.whole all.0 all.1);
+    })
