@@ -1,0 +1,30 @@
+-- Entries of a map by their keys, as they are sorted and kept.
+use Rattle.std.specs.Prelude.{◌≡◌, ◌≢◌, ℕ, ◌<◌, ◌≤◌, false, List, [], ◌∷◌, ◌++◌, length, slice_index_or}
+use Rattle.std.specs.Ordering.{nat_cmp, is_lt}
+use Rattle.std.specs.declared.cmp.Ordering.{Ordering}
+use Rattle.std.specs.declared.cmp.Ordering.TheVariants.{Equal}
+use Rattle.std.specs.Cmp.Lexicographic.{slice_cmp}
+use Rattle.mrpc_table.specs.Node.{Item}
+use Rattle.mrpc_table.specs.View.{item_of}
+use Rattle.mrpc_table.specs.declared.tree.Value.{Value}
+use Rattle.mrpc_table.specs.declared.table.Kind.{Kind}
+use Rattle.map_entries.specs.Last.{key_code}
+
+-- an entry as it is seen
+abbrev pub items_of_entry : Value × Value → Item × Item
+items_of_entry e = (item_of e.0, item_of e.1)
+
+abbrev pub code : Kind → Value × Value → List ℕ
+code k e = key_code k (item_of e.0)
+
+abbrev pub entry_cmp : Kind → Value × Value → Value × Value → Ordering
+entry_cmp k e f = slice_cmp nat_cmp (code k e) (code k f)
+
+-- no key is below an earlier one
+abbrev pub AreSorted : Kind → List (Value × Value) → Type 0
+AreSorted k es = (i j : ℕ) (d : Value × Value) → i ≤ j → j < length es → is_lt (entry_cmp k (slice_index_or es j d) (slice_index_or es i d)) ≡ false
+
+-- an entry stands in place of the last one with the same key, or behind the last one with another key
+pub data IsEntryAdded (k : Kind) (old : List (Value × Value)) (e : Value × Value) (new : List (Value × Value)) : Type 0 where
+  replaced : (front : List (Value × Value)) (l : Value × Value) → old ≡ front ++ l ∷ [] → entry_cmp k l e ≡ Equal → new ≡ front ++ e ∷ [] → IsEntryAdded k old e new
+  appended : ((front : List (Value × Value)) (l : Value × Value) → old ≡ front ++ l ∷ [] → entry_cmp k l e ≢ Equal) → new ≡ old ++ e ∷ [] → IsEntryAdded k old e new

@@ -1,0 +1,117 @@
+//! The entries of a map: each key once, by ascending key, with the value of its last entry.
+//!
+//! A map's entries may come in any order, and with equal keys, from bytes as from words; this crate brings them into
+//! the order of a message in normal form. `specs/Last.antt` says what comes. It stands on `mrpc_table`. The layers
+//! above use one contract: what is kept of a list of entries is what that definition says.
+#![tactic(auto)]
+
+ghost use Rattle.std.specs.Prelude.{◌≡◌, [], ◌∷◌, ◌++◌, if◌then◌else◌, map, IfOk, OnOk};
+ghost use Rattle.std.specs.Ordering.{is_eq};
+ghost use Rattle.mrpc_table.specs.Words.{rank};
+ghost use Rattle.mrpc_table.specs.View.{item_of, pairs_of};
+ghost use Rattle.map_entries.specs.Last.{last_of_each, key_cmp};
+ghost use Rattle.map_entries.specs.Sorted.{AreSorted, IsEntryAdded, items_of_entry};
+
+mod laws;
+
+pub use laws::kept_entries_are_normal;
+use mrpc_table::{Entries, Kind, Memory, Value};
+use std::alloc::Global;
+use std::cmp::Ordering;
+
+/// What is kept of a map's entries: each key once, by ascending key, with the value of its last entry. It takes
+/// the time of a sort. `Memory` comes only where no memory was found.
+pub fn last_of_each(alloc: Global, entries: Entries, key: Kind) -> Result<Entries, Memory>
+    ensures { IfOk result
+        (λ ps. pairs_of ps.items ≡ last_of_each key (map items_of_entry entries.items)) }
+{
+    let mut sorted = entries;
+    sorted.sort_by(|a, b| compare(key, &a.0, &b.0))?;
+    last_of_sorted(alloc, sorted, key)
+}
+
+/// The same, where equal keys stand one behind another in ascending order.
+fn last_of_sorted(alloc: Global, sorted: Entries, key: Kind) -> Result<Entries, Memory>
+    requires { AreSorted key sorted.items }
+    ensures { IfOk result
+        (λ ps. pairs_of ps.items ≡ last_of_each key (map items_of_entry sorted.items)) }
+{
+    let mut kept = Vec::with_capacity(alloc, sorted.len())?;
+    for entry in sorted {
+        add_entry(&mut kept, entry, key)?;
+    }
+    Ok(kept)
+}
+
+/// Appends an entry, in place of the last one where that has the same key.
+fn add_entry(kept: &mut Entries, entry: (Value, Value), key: Kind) -> Result<(), Memory>
+    ensures { OnOk result (IsEntryAdded key kept.old.items entry kept.new.items) }
+{
+    match kept.pop() {
+        Some(last) => {
+            let same = is_same(key, &last.0, &entry.0);
+            keep_unless(kept, last, same)?;
+            kept.push(entry)?;
+            Ok(())
+        }
+        None => {
+            kept.push(entry)?;
+            Ok(())
+        }
+    }
+}
+
+/// Appends an entry unless another one takes its place.
+fn keep_unless(kept: &mut Entries, entry: (Value, Value), same: bool) -> Result<(), Memory>
+    ensures { OnOk result
+        (kept.new.items ≡ (if same then kept.old.items else kept.old.items ++ entry ∷ [])) }
+{
+    if !same {
+        kept.push(entry)?;
+    }
+    Ok(())
+}
+
+/// Whether two keys are equal.
+fn is_same(key: Kind, a: &Value, b: &Value) -> bool
+    ensures { result ≡ is_eq (key_cmp key (item_of a.now) (item_of b.now)) }
+{
+    compare(key, a, b).is_eq()
+}
+
+/// Keys as numbers of their kind, or by bytes.
+fn compare(key: Kind, a: &Value, b: &Value) -> Ordering
+    ensures { result ≡ key_cmp key (item_of a.now) (item_of b.now) }
+{
+    match a {
+        Value::Number(m) => match b {
+            Value::Number(n) => rank(key, *m).cmp(&rank(key, *n)),
+            _ => Ordering::Less,
+        },
+        Value::Run(m) => match b {
+            Value::Number(_) => Ordering::Greater,
+            Value::Run(n) => m.as_slice().cmp(n.as_slice()),
+            Value::Node(_) => Ordering::Less,
+        },
+        Value::Node(_) => match b {
+            Value::Node(_) => Ordering::Equal,
+            _ => Ordering::Greater,
+        },
+    }
+}
+
+/// Where a word of the kind stands in the order of its numbers.
+fn rank(key: Kind, n: u64) -> u64
+    ensures { result ≡ rank key n }
+{
+    match key {
+        Kind::Int32
+        | Kind::Int64
+        | Kind::Sint32
+        | Kind::Sint64
+        | Kind::Sfixed32
+        | Kind::Sfixed64
+        | Kind::Choice(_) => n.wrapping_add(1 << 63),
+        _ => n,
+    }
+}
