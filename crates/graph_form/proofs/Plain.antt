@@ -1,7 +1,7 @@
 -- Placed trees of a message that has nothing but plain uint64 fields: a word for each, with nothing behind it.
 use Rattle.std.proofs.Common.{◌≡◌, ℕ, zero, suc, ◌+◌, ◌*◌, ◌<◌, ◌^◌, true, false, cond, if◌then◌else◌, List, [], ◌∷◌, ◌++◌, length, refl, ap, ◌∙◌, arith, Some, None, lt-ltb, append-nil, ◌==◌}
 use Rattle.std.specs.List.{AllByRecursion}
-use Rattle.mrpc_table.specs.Node.{Node, no_fields, field, Content, one, number, no_items, no_pairs, push_field}
+use Rattle.mrpc_table.specs.Node.{Node, no_fields, field, Content, one, number, push_field}
 use Rattle.mrpc_table.specs.declared.table.Kind.{Kind}
 use Rattle.mrpc_table.specs.declared.table.Label.{Label}
 use Rattle.mrpc_table.specs.declared.table.Kind.TheVariants.{Uint64}
@@ -12,7 +12,7 @@ use Rattle.mrpc_table.specs.Normal.{fields_of}
 use Rattle.graph_form.specs.Plain.{ArePlain, value_slots, placed_at, loads_at, plain_tree, AscendAbove}
 use Rattle.graph_form.specs.declared.reason.Reason.TheVariants.{Address, Presence, Case, Length, Utf8, Narrow, Depth, Loads, NoMethod}
 use Rattle.graph_form.specs.Roles.{value, is_member, has_own_slot, own_slots, slots_from, node_words, oneofs_of}
-use Rattle.graph_form.specs.Placed.{Placed, nothing, word, loads, IsFine, AreSound}
+use Rattle.graph_form.specs.Placed.{Placed, nothing, first, word, loads, IsFine, AreSound}
 use Rattle.graph_form.specs.Forgotten.{insert_field, with_field, slot_content, slots_tree}
 
 pub loads-placed_at : (at : ℕ) (vs : List ℕ) → loads (placed_at at vs) ≡ loads_at at vs
@@ -50,7 +50,7 @@ AreSound-placed_at T H at (v ∷ vs) h = (refl, h.0, fine_value T H v h.0, tt, A
 
 nothing_behind : (T : Table) (H : ℕ) (P : Placed) → AreSound T H [] P → P ≡ nothing
 nothing_behind T H nothing h = refl
-nothing_behind T H (word p v c o) h = absurd h
+nothing_behind T H (first w o) h = absurd h
 
 -- what is sound there is a word for each field
 pub record AreValues (at n : ℕ) (P : Placed) : Type 0 where
@@ -62,11 +62,11 @@ pub record AreValues (at n : ℕ) (P : Placed) : Type 0 where
 pub values_of_sound : (T : Table) (H n at : ℕ) (P : Placed) → AreSound T H (value_slots n at) P → AreValues at n P
 values_of_sound T H zero at P h = record { values = []; placed = nothing_behind T H P h; count = refl; small = tt }
 values_of_sound T H (suc n) at nothing h = absurd h
-values_of_sound T H (suc n) at (word p v content others) h =
+values_of_sound T H (suc n) at (first (word p v content) others) h =
     let rest = values_of_sound T H n (at + 2) others h.4 in
     record {
       values = v ∷ rest.values;
-      placed = ap (λ q. word q v content others) h.0 ∙ ap (λ c. word at v c others) (nothing_behind T H content h.3) ∙ ap (word at v nothing) rest.placed;
+      placed = ap (λ q. first (word q v content) others) h.0 ∙ ap (λ c. first (word at v c) others) (nothing_behind T H content h.3) ∙ ap (first (word at v nothing)) rest.placed;
       count = ap suc rest.count;
       small = (h.1, rest.small);
     }
@@ -101,7 +101,7 @@ slots_tree-plain T gs (f ∷ fs) at last (v ∷ vs) plain ascend count =
     let counted : length vs ≡ length fs = omega (arith, count) in
     let rest = slots_tree-plain T gs fs (at + 2) f.number vs plain.1 ascend.1 counted in
     let others : Node = slots_tree T gs fs (placed_at (at + 2) vs) in
-    let step : Label → Kind → Node → Node = λ l k t. with_field f.number (slot_content l k v nothing no_fields no_items no_pairs) t in
+    let step : Label → Kind → Node → Node = λ l k t. with_field f.number (slot_content T l k (word at v nothing)) t in
     ap (λ l. step l f.kind others) plain.0.0 ∙ ap (λ k. step Plain k others) plain.0.1 ∙ ap (step Plain Uint64) rest
     ∙ elim (v == 0) as (λ b. with_field f.number (cond b None (Some (one (number v)))) (plain_tree fs vs) ≡ cond b (plain_tree fs vs) (field f.number (one (number v)) (plain_tree fs vs))) [
       | true ↦ refl

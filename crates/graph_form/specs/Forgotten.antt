@@ -1,12 +1,8 @@
 -- The tree of a placed tree: its values without their places, in normal form.
 use Rattle.std.specs.Prelude.{ℕ, ◌-◌, List, [], ◌∷◌, ◌++◌, take, Option, Some, None, if◌then◌else◌, ◌==◌, nat_lt}
-use Rattle.std.specs.declared.cmp.Ordering.{Ordering}
-use Rattle.std.specs.Ordering.{nat_cmp, match_ordering}
-use Rattle.std.specs.declared.cmp.Ordering.TheVariants.{Equal}
-use Rattle.std.specs.Cmp.Lexicographic.{slice_cmp}
-use Rattle.mrpc_table.specs.Node.{Node, no_fields, field, Content, one, many, pairs, Item, number, run, node, Items, no_items, item, Pairs, no_pairs, pair}
+use Rattle.mrpc_table.specs.Node.{Node, no_fields, field, Content, one, many, pairs, Item, number, run, node, Items, no_items, item}
 use Rattle.mrpc_table.specs.Normal.{fields_of}
-use Rattle.mrpc_table.specs.Words.{rank}
+use Rattle.map_entries.specs.Last.{last_of_each}
 use Rattle.mrpc_table.specs.declared.table.Kind.{Kind}
 use Rattle.mrpc_table.specs.declared.table.Kind.TheVariants.{Text, Octets, Message as OfMessage}
 use Rattle.mrpc_table.specs.declared.table.Label.{Label}
@@ -14,7 +10,7 @@ use Rattle.mrpc_table.specs.declared.table.Label.TheVariants.{Optional, Repeated
 use Rattle.mrpc_table.specs.declared.table.Field.{Field}
 use Rattle.mrpc_table.specs.declared.table.Table.{Table}
 use Rattle.graph_form.specs.Roles.{own_slots, member_kind, word_bytes}
-use Rattle.graph_form.specs.Placed.{Placed, nothing, word}
+use Rattle.graph_form.specs.Placed.{Placed, nothing, first, Word, word}
 
 -- the fields with one more, by ascending number
 abbrev pub insert_field : ℕ → Content → Node → Node
@@ -25,104 +21,80 @@ abbrev pub with_field : ℕ → Option Content → Node → Node
 with_field n None t = t
 with_field n (Some c) t = insert_field n c t
 
--- the order of two keys: as numbers of the kind, or by bytes
-abbrev pub key_cmp : Kind → Item → Item → Ordering
-key_cmp k (number m) (number n) = nat_cmp (rank k m) (rank k n)
-key_cmp k (run a) (run b) = slice_cmp nat_cmp a b
-key_cmp k _ _ = Equal
-
--- the entries with one more, by ascending key, in the place of one with an equal key
-abbrev pub put_pair : Kind → Item → Item → Pairs → Pairs
-put_pair k i j no_pairs = pair i j no_pairs
-put_pair k i j (pair x y ps) = match_ordering (key_cmp k i x) (pair i j (pair x y ps)) (pair i j ps) (pair x y (put_pair k i j ps))
-
 -- the bytes of the words of a run
 abbrev pub chain_bytes : Placed → List ℕ
 chain_bytes nothing = []
-chain_bytes (word place v content others) = word_bytes v ++ chain_bytes content
+chain_bytes (first (word place v content) others) = word_bytes v ++ chain_bytes content
 
 -- so many bytes of the run whose address stands there
 abbrev pub run_at : ℕ → Placed → List ℕ
 run_at bytes nothing = []
-run_at bytes (word place v content others) = take bytes (chain_bytes content)
+run_at bytes (first (word place v content) others) = take bytes (chain_bytes content)
 
 -- the number of a word that stands alone
 abbrev pub number_at : Placed → ℕ
 number_at nothing = 0
-number_at (word place v content others) = v
+number_at (first (word place v content) others) = v
 
--- the message that a kind names, and the kind of a map's keys
-abbrev pub message_of : Kind → ℕ
-message_of (OfMessage m) = m
-message_of _ = 0
+-- nothing where the first word of a slot is 0
+abbrev pub unless_zero : ℕ → Content → Option Content
+unless_zero v c = if v == 0 then None else Some c
 
-abbrev pub key_of : Label → Kind
-key_of (Map key) = key
-key_of _ = Text
+-- the value of a plain slot that is no message: a number is the word itself, a run has its bytes behind its length
+abbrev pub scalar_item : Kind → ℕ → Placed → Item
+scalar_item Text v content = run (run_at v content)
+scalar_item Octets v content = run (run_at v content)
+scalar_item k v content = number v
 
--- the value of a plain slot whose first word has this number and content; message is what the content is as a message
-abbrev pub plain_item : Kind → ℕ → Placed → Node → Item
-plain_item Text v content message = run (run_at v content)
-plain_item Octets v content message = run (run_at v content)
-plain_item (OfMessage m) v content message = node message
-plain_item k v content message = number v
-
+-- the value of an optional slot: a number stands behind its presence, a run behind its length and one more
 abbrev pub optional_item : Kind → ℕ → Placed → Item
 optional_item Text v content = run (run_at (v - 1) content)
 optional_item Octets v content = run (run_at (v - 1) content)
 optional_item k v content = number (number_at content)
 
--- what the field of a slot has, if its first word isn't 0; message, elements and entries are what the content is as such
-abbrev pub slot_content : Label → Kind → ℕ → Placed → Node → Items → Pairs → Option Content
-slot_content label k v content message elements entries = if v == 0 then None else Some (elim label [
-  | Optional ↦ one (optional_item k v content)
-  | Repeated ↦ many elements
-  | Packed ↦ many elements
-  | Map key ↦ pairs entries
-  | _ ↦ one (plain_item k v content message)
-])
-
 abbrev mutual
-  -- the fields of the slots, and then the members of the oneofs
+  -- the fields of these slots, and then the members of the oneofs of the fields fs
   pub slots_tree : Table → List Field → List Field → Placed → Node
   slots_tree T fs slots nothing = no_fields
-  slots_tree T fs [] (word place v content others) = with_field v (member_content T (member_kind fs v) content) (slots_tree T fs [] others)
-  slots_tree T fs (f ∷ slots) (word place v content others) =
-      with_field f.number
-      (slot_content f.label f.kind v content
-      (slots_tree T (fields_of T (message_of f.kind)) (own_slots (fields_of T (message_of f.kind))) content)
-      (elements_at T f.kind content)
-      (entries_at T (key_of f.label) f.kind content))
-      (slots_tree T fs slots others)
+  slots_tree T fs [] (first w others) = with_member T fs w (slots_tree T fs [] others)
+  slots_tree T fs (f ∷ slots) (first w others) = with_field f.number (slot_content T f.label f.kind w) (slots_tree T fs slots others)
 
-  pub member_content : Table → Kind → Placed → Option Content
-  member_content T k nothing = None
-  member_content T k (word place v content others) =
-      Some (one (plain_item k v content (slots_tree T (fields_of T (message_of k)) (own_slots (fields_of T (message_of k))) content)))
+  -- what a field has by its slot: nothing where the first word is 0
+  pub slot_content : Table → Label → Kind → Word → Option Content
+  slot_content T Optional k (word place v content) = unless_zero v (one (optional_item k v content))
+  slot_content T Repeated k (word place v content) = unless_zero v (many (elements_at T k content))
+  slot_content T Packed k (word place v content) = unless_zero v (many (elements_at T k content))
+  slot_content T (Map key) k (word place v content) = unless_zero v (pairs (last_of_each key (entries_at T key k content)))
+  slot_content T _ (OfMessage m) (word place v content) = unless_zero v (one (node (slots_tree T (fields_of T m) (own_slots (fields_of T m)) content)))
+  slot_content T _ k (word place v content) = unless_zero v (one (scalar_item k v content))
+
+  -- the fields with the member that a oneof's slot has, if its case isn't 0
+  pub with_member : Table → List Field → Word → Node → Node
+  with_member T fs (word place v nothing) t = t
+  with_member T fs (word place v (first w others)) t = insert_field v (one (plain_item T (member_kind fs v) w)) t
+
+  -- the value of a plain slot: that of a message is the tree of the node behind its address
+  pub plain_item : Table → Kind → Word → Item
+  plain_item T (OfMessage m) (word place v content) = node (slots_tree T (fields_of T m) (own_slots (fields_of T m)) content)
+  plain_item T k (word place v content) = scalar_item k v content
 
   -- the elements whose address stands there
   pub elements_at : Table → Kind → Placed → Items
   elements_at T k nothing = no_items
-  elements_at T k (word place v content others) = elements_in T k content
+  elements_at T k (first (word place v content) others) = elements_in T k content
 
   pub elements_in : Table → Kind → Placed → Items
   elements_in T k nothing = no_items
-  elements_in T k (word place v content others) =
-      item (plain_item k v content (slots_tree T (fields_of T (message_of k)) (own_slots (fields_of T (message_of k))) content)) (elements_in T k others)
+  elements_in T k (first w others) = item (plain_item T k w) (elements_in T k others)
 
-  -- the entries whose address stands there; the last of equal keys wins
-  pub entries_at : Table → Kind → Kind → Placed → Pairs
-  entries_at T key k nothing = no_pairs
-  entries_at T key k (word place v content others) = entries_in T key k no_pairs content
+  -- the entries whose address stands there, each a key and a value
+  pub entries_at : Table → Kind → Kind → Placed → List (Item × Item)
+  entries_at T key k nothing = []
+  entries_at T key k (first (word place v content) others) = entries_in T key k content
 
-  pub entries_in : Table → Kind → Kind → Pairs → Placed → Pairs
-  entries_in T key k ps nothing = ps
-  entries_in T key k ps (word place v content nothing) = ps
-  entries_in T key k ps (word place v content (word place' v' content' others)) =
-      entries_in T key k
-      (put_pair key (plain_item key v content no_fields)
-      (plain_item k v' content' (slots_tree T (fields_of T (message_of k)) (own_slots (fields_of T (message_of k))) content')) ps)
-      others
+  pub entries_in : Table → Kind → Kind → Placed → List (Item × Item)
+  entries_in T key k (first x (first y others)) = (plain_item T key x, plain_item T k y) ∷ entries_in T key k others
+  entries_in T key k _ = []
 
 -- the tree of a placed tree of the message at a place of the table
 abbrev pub tree_of : Table → ℕ → Placed → Node

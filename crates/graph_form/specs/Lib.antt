@@ -1,4 +1,6 @@
 pub mod Forgotten
+pub mod Loading
+pub mod Malformed
 pub mod Placed
 pub mod Plain
 pub mod Roles

@@ -12,15 +12,20 @@ use Rattle.graph_form.specs.declared.reason.Reason.{Reason}
 use Rattle.graph_form.specs.declared.reason.Reason.TheVariants.{Address, Presence, Case, Length, Utf8, Narrow, Depth}
 use Rattle.graph_form.specs.Roles.{Role, value, presence, run_length, run_presence, run_address, run_word, link, count, elements_address, entry_count, entries_address, case_word, Expected, behind, element_words, node_words, run_words, size_words, word_bytes}
 
--- words in the order in which they stand, each with the words that are loaded behind it
-pub data Placed : Type 0 where
-  nothing : Placed
-  word : (place number : ℕ) → (content : Placed) → (others : Placed) → Placed
+mutual
+  -- words in the order in which they stand
+  pub data Placed : Type 0 where
+    nothing : Placed
+    first : Word → Placed → Placed
+
+  -- a word at a place, with the words that are loaded behind it
+  pub data Word : Type 0 where
+    word : (place number : ℕ) → (content : Placed) → Word
 
 -- places and values in the order of loading: depth first
 abbrev pub loads : Placed → List (ℕ × ℕ)
 loads nothing = []
-loads (word place number content others) = (place, number) ∷ loads content ++ loads others
+loads (first (word place number content) others) = (place, number) ∷ loads content ++ loads others
 
 -- a span of words lies in a heap of H words, whose word 0 belongs to nobody
 pub record LiesIn (H place words : ℕ) : Type 0 where
@@ -54,14 +59,14 @@ IsFaulty T H role v = (reason : Reason) × Offends T H role v reason
 -- the words are those expected; a word that offends has nothing behind it
 abbrev pub IsPlaced : Table → ℕ → Expected → Placed → Type 0
 IsPlaced T H [] nothing = Unit {0}
-IsPlaced T H (e ∷ es) (word place v content others) =
+IsPlaced T H (e ∷ es) (first (word place v content) others) =
     (place ≡ e.1) × (v < 2 ^ 64) × ((IsFine T H e.0 v × IsPlaced T H (behind T e.0 place v) content) ⊎ (IsFaulty T H e.0 v × (content ≡ nothing))) × IsPlaced T H es others
 IsPlaced T H _ _ = ⊥
 
 -- the words are those expected, and none offends
 abbrev pub AreSound : Table → ℕ → Expected → Placed → Type 0
 AreSound T H [] nothing = Unit {0}
-AreSound T H (e ∷ es) (word place v content others) =
+AreSound T H (e ∷ es) (first (word place v content) others) =
     (place ≡ e.1) × (v < 2 ^ 64) × IsFine T H e.0 v × AreSound T H (behind T e.0 place v) content × AreSound T H es others
 AreSound T H _ _ = ⊥
 

@@ -9,7 +9,7 @@ use Rattle.mrpc_table.specs.declared.table.Field.{Field}
 use Rattle.mrpc_table.specs.declared.table.Method.{Method}
 use Rattle.mrpc_table.specs.declared.table.Table.{Table}
 use Rattle.graph_form.specs.Roles.{value, Expected, oneofs_of}
-use Rattle.graph_form.specs.Placed.{Placed, nothing, word}
+use Rattle.graph_form.specs.Placed.{Placed, nothing, first, word}
 
 abbrev pub IsPlain : Field → Type 0
 IsPlain f = (f.label ≡ Plain) × (f.kind ≡ Uint64)
@@ -25,7 +25,7 @@ value_slots (suc n) at = (value Uint64, at) ∷ value_slots n (at + 2)
 -- these values in slots from a place on, and their loads
 abbrev pub placed_at : ℕ → List ℕ → Placed
 placed_at at [] = nothing
-placed_at at (v ∷ vs) = word at v nothing (placed_at (at + 2) vs)
+placed_at at (v ∷ vs) = first (word at v nothing) (placed_at (at + 2) vs)
 
 abbrev pub loads_at : ℕ → List ℕ → List (ℕ × ℕ)
 loads_at at [] = []

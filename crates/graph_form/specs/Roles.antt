@@ -9,7 +9,7 @@ use Rattle.mrpc_table.specs.declared.table.Label.TheVariants.{Optional, Repeated
 use Rattle.mrpc_table.specs.declared.table.Field.{Field}
 use Rattle.mrpc_table.specs.declared.table.Table.{Table}
 
--- what a word is for. A depth is that of a message whose address stands there or further on
+-- what a word is for; a depth is that of the message in which the word stands, the root counting 1
 pub data Role : Type 0 where
   -- a number of the kind
   value : Kind → Role
@@ -90,6 +90,19 @@ node_words T m depth at =
 
 abbrev pub size_words : Table → ℕ → ℕ
 size_words T m = 2 * length (own_slots (fields_of T m)) + 3 * oneofs_of T m
+
+-- how many fields before the one of a number have slots of their own
+abbrev pub slots_before : List Field → ℕ → ℕ
+slots_before [] n = 0
+slots_before (f ∷ fs) n = if f.number == n then 0 else length (own_slots (f ∷ [])) + slots_before fs n
+
+-- the first word of the slot of a field, or of its oneof, in the node
+abbrev pub slot_with : List Field → Label → ℕ → ℕ
+slot_with fs (Member o) n = 2 * length (own_slots fs) + 3 * o
+slot_with fs _ n = 2 * slots_before fs n
+
+abbrev pub slot_of : Table → ℕ → ℕ → ℕ
+slot_of T m n = unwrap_or (option_map (λ f. slot_with (fields_of T m) f.label n) (field_at (fields_of T m) n)) 0
 
 -- how many words an element takes
 abbrev pub element_words : Kind → ℕ

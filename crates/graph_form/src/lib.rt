@@ -5,8 +5,13 @@
 //! above: a type, an address and the loads determine the placed tree.
 #![tactic(auto)]
 
+mod laws;
 mod reason;
 mod size;
 
+pub use laws::{
+    loads_determine_placed_tree, loads_end_malformed, reading_determines_outcome,
+    sound_tree_is_normal, sound_words_are_loaded,
+};
 pub use reason::Reason;
-pub use size::size_words;
+pub use size::{size_words, slot_of};

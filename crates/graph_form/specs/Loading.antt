@@ -1,0 +1,13 @@
+-- Which word of a graph is loaded next: the first of those that are expected, and behind a word come first those that
+-- it leads to.
+use Rattle.std.specs.Prelude.{◌≡◌, ℕ, ◌<◌, ◌^◌, List, [], ◌∷◌, ◌++◌}
+use Rattle.mrpc_table.specs.declared.table.Table.{Table}
+use Rattle.graph_form.specs.Roles.{Expected, behind}
+use Rattle.graph_form.specs.Placed.{IsFine}
+
+-- where some words are expected and these loads are made, none of which offends, the words that are expected then
+abbrev pub LeadsTo : Table → ℕ → Expected → List (ℕ × ℕ) → Expected → Type 0
+LeadsTo T H es [] next = es ≡ next
+LeadsTo T H [] (load ∷ loads) next = ⊥
+LeadsTo T H (e ∷ es) (load ∷ loads) next =
+    (load.0 ≡ e.1) × (load.1 < 2 ^ 64) × IsFine T H e.0 load.1 × LeadsTo T H (behind T e.0 load.0 load.1 ++ es) loads next

@@ -1,0 +1,108 @@
+-- Which graphs are malformed: the loads that were made of one, up to the word that ends them, and for which reason.
+use Rattle.std.specs.Prelude.{◌≡◌, ◌+◌, ◌<◌, ◌≤◌, ℕ, List, [], ◌∷◌, ◌++◌, length, map, All}
+use Rattle.mrpc_table.specs.Calls.{message_at}
+use Rattle.mrpc_table.specs.Node.{Node}
+use Rattle.mrpc_table.specs.declared.table.Table.{Table}
+use Rattle.graph_form.specs.declared.reason.Reason.{Reason}
+use Rattle.graph_form.specs.declared.reason.Reason.TheVariants.{Address, Presence, Case, Length, Utf8, Narrow, Depth, Loads, NoMethod}
+use Rattle.graph_form.specs.Roles.{Role, Expected, behind, node_words, size_words}
+use Rattle.graph_form.specs.Placed.{Placed, nothing, first, word, loads as loads_in, LiesIn, Offends, IsFine, IsPlaced, IsSound}
+use Rattle.graph_form.specs.Forgotten.{tree_of}
+
+-- a word that was loaded: what it is for, its place and its value
+pub record Loaded : Type 0 where
+  pub role : Role
+  pub place : ℕ
+  pub number : ℕ
+
+-- the words of a placed tree in the order of loading, each under the role that is expected of it
+abbrev pub words_of : Table → Expected → Placed → List Loaded
+words_of T [] P = []
+words_of T (e ∷ es) nothing = []
+words_of T (e ∷ es) (first (word place v content) others) =
+    record { role = e.0; place = place; number = v } ∷ words_of T (behind T e.0 place v) content ++ words_of T es others
+
+abbrev pub loads_of : List Loaded → List (ℕ × ℕ)
+loads_of words = map (λ w. (w.place, w.number)) words
+
+abbrev pub AreFine : Table → ℕ → List Loaded → Type 0
+AreFine T H words = All (λ w. IsFine T H w.role w.number) words
+
+-- the order of the reasons: of one word the first counts
+abbrev pub order_of : Reason → ℕ
+order_of Presence = 1
+order_of Case = 2
+order_of Length = 3
+order_of Narrow = 4
+order_of Utf8 = 5
+order_of Address = 6
+order_of Depth = 7
+order_of Loads = 8
+order_of NoMethod = 9
+
+-- a word of the role with this number offends, and first for this reason
+pub record OffendsFirst (T : Table) (H : ℕ) (role : Role) (v : ℕ) (reason : Reason) : Type 0 where
+  pub offends : Offends T H role v reason
+  pub first : (other : Reason) → Offends T H role v other → order_of reason ≤ order_of other
+
+-- of a placed tree of the message at this address these words were loaded, and then those would come
+pub record Begins (T : Table) (H msg address : ℕ) (before after : List Loaded) : Type 0 where
+  pub root : LiesIn H address (size_words T msg)
+  pub placed : Placed
+  pub words : IsPlaced T H (node_words T msg 1 address) placed
+  pub order : words_of T (node_words T msg 1 address) placed ≡ before ++ after
+
+-- The graph at an address is malformed by these loads, for a reason, at the place and value of the last of them.
+pub data IsMalformed (T : Table) (H msg address limit : ℕ) (loads : List (ℕ × ℕ)) (reason : Reason) (place value : ℕ) : Type 0 where
+  -- the root doesn't lie in the heap, and nothing was loaded
+  no_root :
+      (LiesIn H address (size_words T msg) → ⊥)
+      → loads ≡ [] → reason ≡ Address → place ≡ 0 → value ≡ address
+      → IsMalformed T H msg address limit loads reason place value
+  -- the last word is the first that offends, within the limit
+  offends :
+      (before after : List Loaded) (last : Loaded)
+      → Begins T H msg address (before ++ last ∷ []) after
+      → AreFine T H before → OffendsFirst T H last.role last.number reason → length loads ≤ limit
+      → loads ≡ loads_of (before ++ last ∷ []) → place ≡ last.place → value ≡ last.number
+      → IsMalformed T H msg address limit loads reason place value
+  -- as many words as the limit were loaded, none of them offends, and one more is needed
+  too_many :
+      (before after : List Loaded) (last next : Loaded)
+      → Begins T H msg address (before ++ last ∷ []) (next ∷ after)
+      → AreFine T H (before ++ last ∷ []) → length loads ≡ limit
+      → loads ≡ loads_of (before ++ last ∷ []) → reason ≡ Loads → place ≡ last.place → value ≡ last.number
+      → IsMalformed T H msg address limit loads reason place value
+
+-- ---- what the loads of a graph come to
+
+pub data Outcome : Type 0 where
+  copied : Node → Outcome
+  malformed : Reason → (place value : ℕ) → Outcome
+
+-- the loads are those of a sound placed tree, no more than the limit, and this is its tree; or they make it malformed
+pub data ComesTo (T : Table) (H msg address limit : ℕ) (loads : List (ℕ × ℕ)) (outcome : Outcome) : Type 0 where
+  is_copied :
+      (P : Placed) → IsSound T H msg address P
+      → loads ≡ loads_in P → length loads ≤ limit → outcome ≡ copied (tree_of T msg P)
+      → ComesTo T H msg address limit loads outcome
+  is_malformed :
+      (reason : Reason) (place value : ℕ)
+      → IsMalformed T H msg address limit loads reason place value → outcome ≡ malformed reason place value
+      → ComesTo T H msg address limit loads outcome
+
+-- load after load, from a number on, gives the value that a reading of places says for it
+abbrev pub ReadsBy : (ℕ → ℕ → ℕ) → ℕ → List (ℕ × ℕ) → Type 0
+ReadsBy reading k [] = Unit {0}
+ReadsBy reading k (load ∷ loads) = (load.1 ≡ reading k load.0) × ReadsBy reading (k + 1) loads
+
+-- A call of a method is malformed: the table has no such method, and nothing was loaded; or its graph is.
+pub data IsMalformedCall (T : Table) (H method number address limit : ℕ) (loads : List (ℕ × ℕ)) (reason : Reason) (place value : ℕ) : Type 0 where
+  no_method :
+      length T.methods ≤ method
+      → loads ≡ [] → reason ≡ NoMethod → place ≡ 0 → value ≡ method
+      → IsMalformedCall T H method number address limit loads reason place value
+  of_graph :
+      method < length T.methods
+      → IsMalformed T H (message_at T method number) address limit loads reason place value
+      → IsMalformedCall T H method number address limit loads reason place value
