@@ -49,7 +49,7 @@ audit T h = flat_map (audit_line T) h
 
 -- the frame of a call: kind 1 with its own number for a request, kind 2 with the answered number for a reply
 abbrev pub frame_of : Table → Call → List ℕ
-frame_of T c = frame_bytes (if c.number == 0 then 1 else 2) c.method c.conn (if c.number == 0 then c.seq else c.number) (payload T c)
+frame_of T c = frame_bytes (if c.number == 0 then 1 else 2) 1 c.method c.conn (if c.number == 0 then c.seq else c.number) (payload T c)
 
 -- the call of a number on a connection
 abbrev pub call_of : ℕ → ℕ → History → Option Call

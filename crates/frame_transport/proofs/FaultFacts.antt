@@ -1,47 +1,115 @@
 -- When the fields at the front of a stream have a fault, and that a fault stays.
-use Rattle.std.proofs.Common.{◌≡◌, ℕ, ◌+◌, ◌≤◌, ◌==◌, ◌||◌, if◌then◌else◌, nat_lt, List, ◌++◌, length, take, slice_index, get_or, Option, Some, None, refl, sym, ap, ◌∙◌, arith, length-append, min}
+use Rattle.std.proofs.Common.{◌≡◌, ℕ, ◌+◌, ◌<◌, ◌≤◌, List, ◌++◌, length, take, drop, ◌⊎◌, inl, inr, Option, Some, None, refl, sym, ap, subst, ◌∙◌, arith, length-append, min}
 use Rattle.std.proofs.Math.ListN.{get_or-append}
-use Rattle.std.proofs.lemmas.Bool.Decides.{nat_tests}
-use Rattle.std.proofs.lemmas.List.{get_or-take, length-take}
+use Rattle.std.proofs.lemmas.Bool.{cases_lt, cases_eq}
+use Rattle.std.proofs.lemmas.List.{get_or-take, length-take, take-append-drop}
 use Rattle.byteorder.specs.Numbers.{big_from-append, big_from-take}
-use Rattle.frame_transport.specs.Frames.{fault_at, length_in}
+use Rattle.frame_transport.specs.Frames.{IsKind, HasVersion, IsFaultAt, long, no_kind, no_version, HasFault, length_in, kind_in, version_in}
 use Rattle.frame_transport.specs.declared.fault.FeedFault.{FeedFault}
 use Rattle.frame_transport.specs.declared.fault.FeedFault.TheVariants.{Version, Kind, TooLong, Memory}
 
--- the judgement over a number of bytes, the length, the kind and the version
-abbrev judge : ℕ → ℕ → ℕ → ℕ → ℕ → Option FeedFault
-judge place len size kind version =
-    if nat_lt len 4 then None
-    else if nat_lt 262144 size then Some (TooLong place size)
-    else if nat_lt len 5 then None
-    else if nat_lt kind 1 || nat_lt 3 kind then Some (Kind (place + 4) kind)
-    else if nat_lt len 6 || version == 1 then None
-    else Some (Version (place + 5) version)
+-- ---- whether there is one
 
-fault_at-judge : (place : ℕ) (bs : List ℕ) → fault_at place bs ≡ judge place (length bs) (length_in bs) (slice_index bs 4) (slice_index bs 5)
-unfolding fault_at
-fault_at-judge place bs = refl
+kind_or : (kind : ℕ) → IsKind kind ⊎ (IsKind kind → ⊥)
+kind_or kind = elim (cases_lt kind 1) [
+  | inl none ↦ inr (λ is. omega (arith, none, is.0))
+  | inr least ↦ elim (cases_lt 3 kind) [
+    | inl more ↦ inr (λ is. omega (arith, more, is.1))
+    | inr most ↦ inl (least, most)
+  ]
+]
 
-judge-none : (place len size kind version : ℕ) → size ≤ 262144 → 1 ≤ kind → kind ≤ 3 → version ≡ 1 → judge place len size kind version ≡ None
-judge-none place len size kind version a b c d = grind (arith, nat_tests)
+version_or : (kind version : ℕ) → HasVersion kind version ⊎ (HasVersion kind version → ⊥)
+version_or kind version = elim (cases_eq version 1) [
+  | inl one ↦ inl (inl one)
+  | inr other ↦ elim (cases_eq kind 3) [
+    | inr no_hello ↦ inr (λ has. elim has [ inl one ↦ other one | inr two ↦ no_hello two.0 ])
+    | inl hello ↦ elim (cases_eq version 2) [
+      | inl two ↦ inl (inr (hello, two))
+      | inr neither ↦ inr (λ has. elim has [ inl one ↦ other one | inr two ↦ neither two.1 ])
+    ]
+  ]
+]
 
-judge-some : (place len size kind version : ℕ) → 6 ≤ len → judge place len size kind version ≡ None → (size ≤ 262144) × (1 ≤ kind) × (kind ≤ 3) × (version ≡ 1)
-judge-some place len size kind version l h = grind (arith, nat_tests)
+-- before a field is there, it isn't at fault
+pub none_before_length : (place : ℕ) (bs : List ℕ) → length bs < 4 → (fault : FeedFault) → IsFaultAt place bs fault → ⊥
+none_before_length place bs short fault (long there large is) = omega (arith, short, there)
+none_before_length place bs short fault (no_kind there small wrong is) = omega (arith, short, there)
+none_before_length place bs short fault (no_version there small kind wrong is) = omega (arith, short, there)
 
-judge-more : (place len size kind version more size' kind' version' : ℕ) (fault : FeedFault)
-    → (4 ≤ len → size' ≡ size) → (5 ≤ len → kind' ≡ kind) → (6 ≤ len → version' ≡ version)
-    → judge place len size kind version ≡ Some fault → judge place (len + more) size' kind' version' ≡ Some fault
-judge-more place len size kind version more size' kind' version' fault a b c h = grind (arith, nat_tests)
+pub none_before_kind : (place : ℕ) (bs : List ℕ) → length bs < 5 → length_in bs ≤ 262144 → (fault : FeedFault) → IsFaultAt place bs fault → ⊥
+none_before_kind place bs short size fault (long there large is) = omega (arith, size, large)
+none_before_kind place bs short size fault (no_kind there small wrong is) = omega (arith, short, there)
+none_before_kind place bs short size fault (no_version there small kind wrong is) = omega (arith, short, there)
+
+pub none_before_version : (place : ℕ) (bs : List ℕ) → length bs < 6 → length_in bs ≤ 262144 → IsKind (kind_in bs) → (fault : FeedFault) → IsFaultAt place bs fault → ⊥
+none_before_version place bs short size known fault (long there large is) = omega (arith, size, large)
+none_before_version place bs short size known fault (no_kind there small wrong is) = wrong known
+none_before_version place bs short size known fault (no_version there small kind wrong is) = omega (arith, short, there)
 
 -- fields without a fault
-pub fault_at-none : (place : ℕ) (bs : List ℕ) → length_in bs ≤ 262144 → 1 ≤ slice_index bs 4 → slice_index bs 4 ≤ 3 → slice_index bs 5 ≡ 1
-    → fault_at place bs ≡ None
-fault_at-none place bs a b c d = fault_at-judge place bs ∙ judge-none place (length bs) (length_in bs) (slice_index bs 4) (slice_index bs 5) a b c d
+pub none_of_fields : (place : ℕ) (bs : List ℕ) → length_in bs ≤ 262144 → IsKind (kind_in bs) → HasVersion (kind_in bs) (version_in bs)
+    → (fault : FeedFault) → IsFaultAt place bs fault → ⊥
+none_of_fields place bs size known version fault (long there large is) = omega (arith, size, large)
+none_of_fields place bs size known version fault (no_kind there small wrong is) = wrong known
+none_of_fields place bs size known version fault (no_version there small kind wrong is) = wrong version
+
+-- bytes have a fault, or none so far
+pub fault_or_none : (place : ℕ) (bs : List ℕ) → (fault : Option FeedFault) × HasFault place bs fault
+fault_or_none place bs = elim (cases_lt (length bs) 4) [
+  | inl short ↦ (None, none_before_length place bs short)
+  | inr there ↦ elim (cases_lt 262144 (length_in bs)) [
+    | inl large ↦ (Some (TooLong place (length_in bs)), long there large refl)
+    | inr small ↦ elim (cases_lt (length bs) 5) [
+      | inl short ↦ (None, none_before_kind place bs short small)
+      | inr there ↦ elim (kind_or (kind_in bs)) [
+        | inr wrong ↦ (Some (Kind (place + 4) (kind_in bs)), no_kind there small wrong refl)
+        | inl known ↦ elim (cases_lt (length bs) 6) [
+          | inl short ↦ (None, none_before_version place bs short small known)
+          | inr there ↦ elim (version_or (kind_in bs) (version_in bs)) [
+            | inl version ↦ (None, none_of_fields place bs small known version)
+            | inr wrong ↦ (Some (Version (place + 5) (version_in bs)), no_version there small known wrong refl)
+          ]
+        ]
+      ]
+    ]
+  ]
+]
 
 -- what holds of six bytes that have no fault
-pub no_fault : (place : ℕ) (bs : List ℕ) → 6 ≤ length bs → fault_at place bs ≡ None
-    → (length_in bs ≤ 262144) × (1 ≤ slice_index bs 4) × (slice_index bs 4 ≤ 3) × (slice_index bs 5 ≡ 1)
-no_fault place bs l h = judge-some place (length bs) (length_in bs) (slice_index bs 4) (slice_index bs 5) l (sym (fault_at-judge place bs) ∙ h)
+pub no_fault : (place : ℕ) (bs : List ℕ) → 6 ≤ length bs → HasFault place bs None
+    → (length_in bs ≤ 262144) × IsKind (kind_in bs) × HasVersion (kind_in bs) (version_in bs)
+no_fault place bs there none = elim (cases_lt 262144 (length_in bs)) [
+  | inl large ↦ absurd (none (TooLong place (length_in bs)) (long (omega (arith, there)) large refl))
+  | inr small ↦ elim (kind_or (kind_in bs)) [
+    | inr wrong ↦ absurd (none (Kind (place + 4) (kind_in bs)) (no_kind (omega (arith, there)) small wrong refl))
+    | inl known ↦ elim (version_or (kind_in bs) (version_in bs)) [
+      | inr wrong ↦ absurd (none (Version (place + 5) (version_in bs)) (no_version there small known wrong refl))
+      | inl version ↦ (small, known, version)
+    ]
+  ]
+]
+
+-- ---- one alone
+
+pub one_fault : (place : ℕ) (bs : List ℕ) (a b : FeedFault) → IsFaultAt place bs a → IsFaultAt place bs b → a ≡ b
+one_fault place bs a b (long there large is) (long there' large' is') = is ∙ sym is'
+one_fault place bs a b (long there large is) (no_kind there' small wrong is') = absurd (omega (arith, large, small))
+one_fault place bs a b (long there large is) (no_version there' small known wrong is') = absurd (omega (arith, large, small))
+one_fault place bs a b (no_kind there small wrong is) (long there' large is') = absurd (omega (arith, large, small))
+one_fault place bs a b (no_kind there small wrong is) (no_kind there' small' wrong' is') = is ∙ sym is'
+one_fault place bs a b (no_kind there small wrong is) (no_version there' small' known wrong' is') = absurd (wrong known)
+one_fault place bs a b (no_version there small known wrong is) (long there' large is') = absurd (omega (arith, large, small))
+one_fault place bs a b (no_version there small known wrong is) (no_kind there' small' wrong' is') = absurd (wrong' known)
+one_fault place bs a b (no_version there small known wrong is) (no_version there' small' known' wrong' is') = is ∙ sym is'
+
+pub one_or_none : (place : ℕ) (bs : List ℕ) (a b : Option FeedFault) → HasFault place bs a → HasFault place bs b → a ≡ b
+one_or_none place bs None None p q = refl
+one_or_none place bs None (Some b) p q = absurd (p b q)
+one_or_none place bs (Some a) None p q = absurd (q a p)
+one_or_none place bs (Some a) (Some b) p q = ap Some (one_fault place bs a b p q)
+
+-- ---- how it stays
 
 pub length_in-append : (bs more : List ℕ) → 4 ≤ length bs → length_in (bs ++ more) ≡ length_in bs
 unfolding length_in
@@ -51,30 +119,61 @@ pub length_in-take : (n : ℕ) (bs : List ℕ) → 4 ≤ n → length_in (take n
 unfolding length_in
 length_in-take n bs h = big_from-take 0 4 n bs h
 
+-- bytes whose fields are those of others, as far as these have come, have their fault
+carried : (place : ℕ) (bs cs : List ℕ) (fault : FeedFault) → (4 ≤ length bs → 4 ≤ length cs) → (5 ≤ length bs → 5 ≤ length cs) → (6 ≤ length bs → 6 ≤ length cs)
+    → (4 ≤ length bs → length_in bs ≡ length_in cs) → (5 ≤ length bs → kind_in bs ≡ kind_in cs) → (6 ≤ length bs → version_in bs ≡ version_in cs)
+    → IsFaultAt place bs fault → IsFaultAt place cs fault
+carried place bs cs fault a b c size kind version (long there large is) =
+    long (a there) (subst (λ (n : ℕ). 262144 < n) (size there) large) (is ∙ ap (TooLong place) (size there))
+carried place bs cs fault a b c size kind version (no_kind there small wrong is) =
+    no_kind (b there) (subst (λ (n : ℕ). n ≤ 262144) (size (omega (arith, there))) small)
+    (subst (λ (n : ℕ). IsKind n → ⊥) (kind there) wrong)
+    (is ∙ ap (Kind (place + 4)) (kind there))
+carried place bs cs fault a b c size kind version (no_version there small known wrong is) =
+    let k : kind_in bs ≡ kind_in cs = kind (omega (arith, there)) in
+    let v : version_in bs ≡ version_in cs = version there in
+    no_version (c there) (subst (λ (n : ℕ). n ≤ 262144) (size (omega (arith, there))) small)
+    (subst IsKind k known)
+    (subst (λ (n : ℕ). HasVersion n (version_in cs) → ⊥) k (subst (λ (n : ℕ). HasVersion (kind_in bs) n → ⊥) v wrong))
+    (is ∙ ap (Version (place + 5)) v)
+
 -- a fault stays however the stream goes on
-pub fault_at-append : (place : ℕ) (bs more : List ℕ) (fault : FeedFault) → fault_at place bs ≡ Some fault → fault_at place (bs ++ more) ≡ Some fault
-fault_at-append place bs more fault h =
-    fault_at-judge place (bs ++ more) ∙ ap (λ (n : ℕ). judge place n (length_in (bs ++ more)) (slice_index (bs ++ more) 4) (slice_index (bs ++ more) 5)) (length-append bs more)
-    ∙ judge-more place (length bs) (length_in bs) (slice_index bs 4) (slice_index bs 5) (length more) (length_in (bs ++ more)) (slice_index (bs ++ more) 4) (slice_index (bs ++ more) 5) fault
-    (length_in-append bs more) (λ l. get_or-append bs more 0 4 (omega arith)) (λ l. get_or-append bs more 0 5 (omega arith)) (sym (fault_at-judge place bs) ∙ h)
+pub fault-append : (place : ℕ) (bs more : List ℕ) (fault : FeedFault) → IsFaultAt place bs fault → IsFaultAt place (bs ++ more) fault
+fault-append place bs more fault h =
+    let len : length (bs ++ more) ≡ length bs + length more = length-append bs more in
+    carried place bs (bs ++ more) fault (λ l. omega (arith, l, len)) (λ l. omega (arith, l, len)) (λ l. omega (arith, l, len))
+    (λ l. sym (length_in-append bs more l))
+    (λ l. sym (get_or-append bs more 0 4 (omega (arith, l))))
+    (λ l. sym (get_or-append bs more 0 5 (omega (arith, l))))
+    h
 
-judge-min : (place len size kind version n : ℕ) → 6 ≤ n → judge place (min n len) size kind version ≡ judge place len size kind version
-judge-min place len size kind version n h = grind (arith, nat_tests)
+-- and the first six bytes decide
+pub fault-of_take : (place n : ℕ) (bs : List ℕ) (fault : FeedFault) → IsFaultAt place (take n bs) fault → IsFaultAt place bs fault
+fault-of_take place n bs fault h = subst (λ (cs : List ℕ). IsFaultAt place cs fault) (take-append-drop n bs) (fault-append place (take n bs) (drop n bs) fault h)
 
--- the first six bytes decide
-pub fault_at-take : (place n : ℕ) (bs : List ℕ) → 6 ≤ n → fault_at place (take n bs) ≡ fault_at place bs
-fault_at-take place n bs h =
-    let size : length_in (take n bs) ≡ length_in bs = length_in-take n bs (omega arith) in
-    let kind : get_or (take n bs) 4 0 ≡ get_or bs 4 0 = get_or-take n bs 4 0 (omega arith) in
-    let version : get_or (take n bs) 5 0 ≡ get_or bs 5 0 = get_or-take n bs 5 0 (omega arith) in
-    fault_at-judge place (take n bs)
-    ∙ (λ i. judge place (length-take n bs i) (size i) (kind i) (version i))
-    ∙ judge-min place (length bs) (length_in bs) (get_or bs 4 0) (get_or bs 5 0) n h
-    ∙ sym (fault_at-judge place bs)
+pub fault-take : (place n : ℕ) (bs : List ℕ) (fault : FeedFault) → 6 ≤ n → IsFaultAt place bs fault → IsFaultAt place (take n bs) fault
+fault-take place n bs fault h is =
+    let len : length (take n bs) ≡ min n (length bs) = length-take n bs in
+    carried place bs (take n bs) fault (λ l. omega (arith, l, len, h)) (λ l. omega (arith, l, len, h)) (λ l. omega (arith, l, len, h))
+    (λ l. sym (length_in-take n bs (omega (arith, h))))
+    (λ l. sym (get_or-take n bs 4 0 (omega (arith, h))))
+    (λ l. sym (get_or-take n bs 5 0 (omega (arith, h))))
+    is
 
-judge-not_memory : (place len size kind version : ℕ) → judge place len size kind version ≡ Some Memory → ⊥
-judge-not_memory place len size kind version h = grind (arith, nat_tests)
+pub has-of_take : (place n : ℕ) (bs : List ℕ) (fault : Option FeedFault) → 6 ≤ n → HasFault place (take n bs) fault → HasFault place bs fault
+has-of_take place n bs (Some fault) h is = fault-of_take place n bs fault is
+has-of_take place n bs None h none = λ fault is. none fault (fault-take place n bs fault h is)
+
+pub has-take : (place n : ℕ) (bs : List ℕ) (fault : Option FeedFault) → 6 ≤ n → HasFault place bs fault → HasFault place (take n bs) fault
+has-take place n bs (Some fault) h is = fault-take place n bs fault h is
+has-take place n bs None h none = λ fault is. none fault (fault-of_take place n bs fault is)
+
+-- the fault of the same bytes at the same place
+pub has_at : (place place' : ℕ) (bs cs : List ℕ) (fault : Option FeedFault) → place ≡ place' → bs ≡ cs → HasFault place bs fault → HasFault place' cs fault
+has_at place place' bs cs fault p e h = subst (λ (n : ℕ). HasFault n cs fault) p (subst (λ (xs : List ℕ). HasFault place xs fault) e h)
 
 -- want of memory is no fault of a stream
-pub not_memory : (place : ℕ) (bs : List ℕ) → fault_at place bs ≡ Some Memory → ⊥
-not_memory place bs h = judge-not_memory place (length bs) (length_in bs) (slice_index bs 4) (slice_index bs 5) (sym (fault_at-judge place bs) ∙ h)
+pub not_memory : (place : ℕ) (bs : List ℕ) → IsFaultAt place bs Memory → ⊥
+not_memory place bs (long there large is) = cc
+not_memory place bs (no_kind there small wrong is) = cc
+not_memory place bs (no_version there small known wrong is) = cc

@@ -6,10 +6,11 @@ use Rattle.std.proofs.lemmas.Slice.{between_to_end}
 use Rattle.std.proofs.lemmas.List.{append-nil, length-drop}
 use Rattle.std.proofs.lemmas.List.Elements.{All-append, All-nil, All-cons}
 use Rattle.std.proofs.lemmas.List.Concat.{flat_map-append}
-use Rattle.frame_transport.specs.Frames.{IsFrame, bytes_of, joined, StandFrom, IsPartial, fault_at}
+use Rattle.frame_transport.specs.Frames.{IsFrame, bytes_of, joined, StandFrom, IsPartial}
 use Rattle.frame_transport.specs.Parts.{EndsFrame, HasNoFrame, begun_behind, SplitsParts}
 use Rattle.frame_transport.specs.declared.format.Frame.{Frame}
 use Rattle.frame_transport.specs.declared.fault.FeedFault.{FeedFault}
+use Rattle.frame_transport.proofs.FaultFacts.{has_at}
 use Rattle.frame_transport.proofs.Splitting.{StandFrom-append, length-bytes_of, partial_of_nothing}
 
 -- the two parts are these frames and then ahead and left, and no frame lies in ahead alone
@@ -89,6 +90,6 @@ found_all place begun piece frames end ahead left fault found h = record {
     partial = subst IsPartial (sym found.rest) h.partial;
   };
   behind = found.ends;
-  first = ap (fault_at end) found.rest ∙ h.first;
+  first = has_at end end (ahead ++ left) (begun_behind frames begun left) fault refl (sym found.rest) h.first;
   fewer = found.fewer;
 }

@@ -9,49 +9,49 @@ use Rattle.byteorder.specs.Numbers.{big_from-take, big_number-reads_back}
 use Rattle.frame_transport.specs.Bytes.{header_bytes}
 use Rattle.frame_transport.specs.Frames.{length_in}
 
-pub length-header_bytes : (len kind method conn number : ℕ) → length (header_bytes len kind method conn number) ≡ 16
+pub length-header_bytes : (len kind version method conn number : ℕ) → length (header_bytes len kind version method conn number) ≡ 16
 unfolding header_bytes
-length-header_bytes len kind method conn number = refl
+length-header_bytes len kind version method conn number = refl
 
 -- the first number of a header is the length
-pub length_in-header : (len kind method conn number : ℕ) (more : List ℕ) → len < 2 ^ 32
-    → length_in (header_bytes len kind method conn number ++ more) ≡ len
+pub length_in-header : (len kind version method conn number : ℕ) (more : List ℕ) → len < 2 ^ 32
+    → length_in (header_bytes len kind version method conn number ++ more) ≡ len
 unfolding header_bytes length_in
-length_in-header len kind method conn number more h =
-    big_number-reads_back 4 len (drop 4 (header_bytes len kind method conn number ++ more)) h
+length_in-header len kind version method conn number more h =
+    big_number-reads_back 4 len (drop 4 (header_bytes len kind version method conn number ++ more)) h
 
-pub kind-header : (len kind method conn number : ℕ) (more : List ℕ)
-    → slice_index (header_bytes len kind method conn number ++ more) 4 ≡ kind
+pub kind-header : (len kind version method conn number : ℕ) (more : List ℕ)
+    → slice_index (header_bytes len kind version method conn number ++ more) 4 ≡ kind
 unfolding header_bytes
-kind-header len kind method conn number more = refl
+kind-header len kind version method conn number more = refl
 
-pub version-header : (len kind method conn number : ℕ) (more : List ℕ)
-    → slice_index (header_bytes len kind method conn number ++ more) 5 ≡ 1
+pub version-header : (len kind version method conn number : ℕ) (more : List ℕ)
+    → slice_index (header_bytes len kind version method conn number ++ more) 5 ≡ version
 unfolding header_bytes
-version-header len kind method conn number more = refl
+version-header len kind version method conn number more = refl
 
-pub method-header : (len kind method conn number : ℕ) (more : List ℕ) → method < 2 ^ 16
-    → big_number 2 (drop 6 (header_bytes len kind method conn number ++ more)) ≡ method
+pub method-header : (len kind version method conn number : ℕ) (more : List ℕ) → method < 2 ^ 16
+    → big_number 2 (drop 6 (header_bytes len kind version method conn number ++ more)) ≡ method
 unfolding header_bytes
-method-header len kind method conn number more h =
-    big_number-reads_back 2 method (drop 8 (header_bytes len kind method conn number ++ more)) h
+method-header len kind version method conn number more h =
+    big_number-reads_back 2 method (drop 8 (header_bytes len kind version method conn number ++ more)) h
 
-pub conn-header : (len kind method conn number : ℕ) (more : List ℕ) → conn < 2 ^ 32
-    → big_number 4 (drop 8 (header_bytes len kind method conn number ++ more)) ≡ conn
+pub conn-header : (len kind version method conn number : ℕ) (more : List ℕ) → conn < 2 ^ 32
+    → big_number 4 (drop 8 (header_bytes len kind version method conn number ++ more)) ≡ conn
 unfolding header_bytes
-conn-header len kind method conn number more h =
-    big_number-reads_back 4 conn (drop 12 (header_bytes len kind method conn number ++ more)) h
+conn-header len kind version method conn number more h =
+    big_number-reads_back 4 conn (drop 12 (header_bytes len kind version method conn number ++ more)) h
 
-pub number-header : (len kind method conn number : ℕ) (more : List ℕ) → number < 2 ^ 32
-    → big_number 4 (drop 12 (header_bytes len kind method conn number ++ more)) ≡ number
+pub number-header : (len kind version method conn number : ℕ) (more : List ℕ) → number < 2 ^ 32
+    → big_number 4 (drop 12 (header_bytes len kind version method conn number ++ more)) ≡ number
 unfolding header_bytes
-number-header len kind method conn number more h =
+number-header len kind version method conn number more h =
     big_number-reads_back 4 number more h
 
-pub drop-header : (len kind method conn number : ℕ) (more : List ℕ)
-    → drop 16 (header_bytes len kind method conn number ++ more) ≡ more
+pub drop-header : (len kind version method conn number : ℕ) (more : List ℕ)
+    → drop 16 (header_bytes len kind version method conn number ++ more) ≡ more
 unfolding header_bytes
-drop-header len kind method conn number more = refl
+drop-header len kind version method conn number more = refl
 
 -- bytes are below 256
 abbrev pub AreBytes : List ℕ → Type 0
@@ -87,19 +87,19 @@ assembled : (a b c d e r s t u v w : List ℕ) → e ++ r ≡ s → d ++ s ≡ t
     → (a ++ b ++ c ++ d ++ e) ++ r ≡ w
 assembled a b c d e r s t u v w hs ht hu hv hw = simp (append_assoc, hs, ht, hu, hv, hw)
 
-two_bytes : (bs : List ℕ) → 6 ≤ length bs → slice_index bs 5 ≡ 1 → slice_index bs 4 ∷ 1 ∷ [] ≡ take 2 (drop 4 bs)
-two_bytes bs h v =
+two_bytes : (bs : List ℕ) → 6 ≤ length bs → slice_index bs 4 ∷ slice_index bs 5 ∷ [] ≡ take 2 (drop 4 bs)
+two_bytes bs h =
     let first : drop 4 bs ≡ get_or bs 4 0 ∷ drop 5 bs = drop_more bs 4 0 (omega arith) in
     let second : drop 5 bs ≡ get_or bs 5 0 ∷ drop 6 bs = drop_more bs 5 0 (omega arith) in
-    rw (first, second, v) refl
+    rw (first, second) refl
 
--- 16 bytes whose sixth is 1 are the header of the numbers that are read in them
-pub read_header : (bs : List ℕ) → 16 ≤ length bs → AreBytes bs → slice_index bs 5 ≡ 1
-    → header_bytes (length_in bs) (slice_index bs 4) (big_number 2 (drop 6 bs)) (big_number 4 (drop 8 bs)) (big_number 4 (drop 12 bs)) ++ drop 16 bs ≡ bs
+-- 16 bytes are the header of the numbers that are read in them
+pub read_header : (bs : List ℕ) → 16 ≤ length bs → AreBytes bs
+    → header_bytes (length_in bs) (slice_index bs 4) (slice_index bs 5) (big_number 2 (drop 6 bs)) (big_number 4 (drop 8 bs)) (big_number 4 (drop 12 bs)) ++ drop 16 bs ≡ bs
 unfolding header_bytes length_in
-read_header bs h b v =
+read_header bs h b =
     let len = read_four bs (omega arith) b in
-    let fields = two_bytes bs (omega arith) v in
+    let fields = two_bytes bs (omega arith) in
     let method = read_two (drop 6 bs) (omega (arith, length-drop {A = ℕ})) (AreBytes-drop 6 bs b) in
     let conn = read_four (drop 8 bs) (omega (arith, length-drop {A = ℕ})) (AreBytes-drop 8 bs b) in
     let number = read_four (drop 12 bs) (omega (arith, length-drop {A = ℕ})) (AreBytes-drop 12 bs b) in

@@ -4,14 +4,14 @@ use Rattle.std.specs.Prelude.{All}
 use Rattle.std.proofs.lemmas.List.{append-nil}
 use Rattle.std.proofs.lemmas.List.Elements.{All-append, All-nil, All-head, All-tail}
 use Rattle.std.proofs.lemmas.List.Concat.{flat_map-append}
-use Rattle.frame_transport.specs.Frames.{IsFrame, bytes_of, joined, StandFrom, IsPartial, fault_at, Splits, Ends}
+use Rattle.frame_transport.specs.Frames.{IsFrame, bytes_of, joined, StandFrom, IsPartial, IsFaultAt, HasFault, Splits, Ends}
 use Rattle.frame_transport.specs.Feed.{Fed, Gives, GoesOn, StopsAt}
 use Rattle.frame_transport.specs.Kept.{IsKept}
 use Rattle.frame_transport.specs.Parts.{Advances}
 use Rattle.frame_transport.specs.declared.advance.Advance.{Advance}
 use Rattle.frame_transport.specs.declared.format.Frame.{Frame}
 use Rattle.frame_transport.specs.declared.fault.FeedFault.{FeedFault}
-use Rattle.frame_transport.proofs.FaultFacts.{fault_at-append}
+use Rattle.frame_transport.proofs.FaultFacts.{fault-append, has_at}
 use Rattle.frame_transport.proofs.Splitting.{StandFrom-append, length-joined, splits_behind, length-bytes_of, partial_of_nothing, ends_once}
 
 -- what a clause sees of what is kept
@@ -22,12 +22,12 @@ pub kept_nothing : IsKept 0 [] 0 [] 0
 kept_nothing = record { each = All-nil IsFrame; places = tt; ends = refl; partial = partial_of_nothing; room = omega arith }
 
 pub kept_ends : (taken : ℕ) (waiting : List Frame) (end : ℕ) (begun : List ℕ) (behind : ℕ) (fault : Option FeedFault)
-    → IsKept taken waiting end begun behind → fault_at end begun ≡ fault → Ends taken (joined waiting ++ begun) fault
+    → IsKept taken waiting end begun behind → HasFault end begun fault → Ends taken (joined waiting ++ begun) fault
 kept_ends taken waiting end begun behind fault k h = record {
   frames = waiting;
   rest = begun;
   splits = record { whole = refl; each = k.each; places = k.places; partial = k.partial };
-  first = ap (λ (p : ℕ). fault_at p begun) (sym k.ends) ∙ h;
+  first = has_at end (taken + length (joined waiting)) begun begun fault k.ends refl h;
 }
 
 partial_front : (xs ys : List ℕ) → IsPartial (xs ++ ys) → IsPartial xs
@@ -60,9 +60,9 @@ kept_advanced taken waiting end begun behind piece new now_begun a k room adv =
     }
 
 -- a fault that was found stands behind the whole stream with the piece
-fault_of_all : (fault : Option FeedFault) (place : ℕ) (xs ys : List ℕ) → fault_at place xs ≡ fault → (fault ≡ None → ys ≡ []) → fault_at place (xs ++ ys) ≡ fault
-fault_of_all None place xs ys h clean = ap (fault_at place) (ap (λ (bs : List ℕ). xs ++ bs) (clean refl) ∙ append-nil xs) ∙ h
-fault_of_all (Some fault) place xs ys h clean = fault_at-append place xs ys fault h
+fault_of_all : (fault : Option FeedFault) (place : ℕ) (xs ys : List ℕ) → HasFault place xs fault → (fault ≡ None → ys ≡ []) → HasFault place (xs ++ ys) fault
+fault_of_all None place xs ys h clean = has_at place place xs (xs ++ ys) None refl (sym (ap (λ (bs : List ℕ). xs ++ bs) (clean refl) ∙ append-nil xs)) h
+fault_of_all (Some fault) place xs ys h clean = fault-append place xs ys fault h
 
 pub ends_advanced : (taken : ℕ) (waiting : List Frame) (end : ℕ) (begun : List ℕ) (behind : ℕ) (piece : List ℕ) (new : List Frame) (now_begun : List ℕ) (a : Advance)
     → IsKept taken waiting end begun behind → Advances end begun piece waiting new now_begun a → Ends taken ((joined waiting ++ begun) ++ piece) a.fault
@@ -74,7 +74,8 @@ ends_advanced taken waiting end begun behind piece new now_begun a k adv =
       frames = waiting ++ adv.frames;
       rest = now_begun ++ adv.dropped;
       splits = subst (λ (bs : List ℕ). Splits taken bs (waiting ++ adv.frames) (now_begun ++ adv.dropped)) (sym (append_assoc (joined waiting) begun piece)) behind_all;
-      first = ap (λ (p : ℕ). fault_at p (now_begun ++ adv.dropped)) place ∙ fault_of_all a.fault a.end now_begun adv.dropped adv.first adv.clean;
+      first = has_at a.end (taken + length (joined (waiting ++ adv.frames))) (now_begun ++ adv.dropped) (now_begun ++ adv.dropped) a.fault (sym place) refl
+          (fault_of_all a.fault a.end now_begun adv.dropped adv.first adv.clean);
     }
 
 pub goes_on : (taken : ℕ) (waiting : List Frame) (end : ℕ) (begun : List ℕ) (behind : ℕ) (piece : List ℕ) (new : List Frame) (now_begun : List ℕ) (a : Advance)
@@ -94,7 +95,7 @@ pub stops : (taken : ℕ) (waiting : List Frame) (end : ℕ) (begun : List ℕ) 
     → StopsAt (seen taken waiting begun behind) piece fault (seen taken new now_begun (behind + a.dropped))
 stops taken waiting end begun behind piece new now_begun a fault k adv some = record {
   place = refl;
-  kept = kept_ends taken new a.end now_begun (behind + a.dropped) (Some fault) k (adv.first ∙ some);
+  kept = kept_ends taken new a.end now_begun (behind + a.dropped) (Some fault) k (subst (HasFault a.end now_begun) some adv.first);
   dropped = adv.dropped;
   stream = advanced_bytes end begun piece waiting new now_begun a adv;
   behind = omega (arith, adv.count);
@@ -102,7 +103,7 @@ stops taken waiting end begun behind piece new now_begun a fault k adv some = re
 
 -- a feed that has stopped drops the piece
 pub stopped : (taken : ℕ) (waiting : List Frame) (end : ℕ) (begun : List ℕ) (behind : ℕ) (piece : List ℕ) (fault : FeedFault)
-    → IsKept taken waiting end begun behind → fault_at end begun ≡ Some fault
+    → IsKept taken waiting end begun behind → IsFaultAt end begun fault
     → StopsAt (seen taken waiting begun behind) piece fault (seen taken waiting begun (behind + length piece))
 stopped taken waiting end begun behind piece fault k h = record {
   place = refl;
@@ -114,7 +115,7 @@ stopped taken waiting end begun behind piece fault k h = record {
 
 -- there is no other fault than the one that was found
 pub same_fault : (taken : ℕ) (waiting : List Frame) (end : ℕ) (begun : List ℕ) (behind : ℕ) (found : Option FeedFault) (fault : FeedFault)
-    → IsKept taken waiting end begun behind → fault_at end begun ≡ found → Ends taken (joined waiting ++ begun) (Some fault) → found ≡ Some fault
+    → IsKept taken waiting end begun behind → HasFault end begun found → Ends taken (joined waiting ++ begun) (Some fault) → found ≡ Some fault
 same_fault taken waiting end begun behind found fault k h e = ends_once taken (joined waiting ++ begun) found (Some fault) (kept_ends taken waiting end begun behind found k h) e
 
 -- the first frame is taken
@@ -146,7 +147,7 @@ gives taken f waiting end begun behind size k e =
 
 -- where no fault was found, the stream has none
 pub no_fault_before : (taken : ℕ) (waiting : List Frame) (end : ℕ) (begun : List ℕ) (behind : ℕ) (fault : FeedFault)
-    → IsKept taken waiting end begun behind → fault_at end begun ≡ None → Ends taken (joined waiting ++ begun) (Some fault) → ⊥
+    → IsKept taken waiting end begun behind → HasFault end begun None → Ends taken (joined waiting ++ begun) (Some fault) → ⊥
 no_fault_before taken waiting end begun behind fault k h e =
     let both : None ≡ Some fault = same_fault taken waiting end begun behind None fault k h e in
     cc

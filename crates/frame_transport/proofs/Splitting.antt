@@ -1,57 +1,58 @@
 -- A stream has one front: a whole frame, a fault or the beginning of a frame. So it splits in one way.
-use Rattle.std.proofs.Common.{◌≡◌, ℕ, ◌+◌, ◌<◌, ◌≤◌, ◌^◌, List, [], ◌∷◌, ◌++◌, length, take, drop, slice_index, Option, Some, None, refl, sym, ap, subst, ◌∙◌, arith, length-append, append_assoc}
+use Rattle.std.proofs.Common.{◌≡◌, ℕ, ◌+◌, ◌<◌, ◌≤◌, ◌^◌, List, [], ◌∷◌, ◌++◌, length, take, drop, slice_index, Option, Some, None, ◌⊎◌, inl, inr, zero, suc, refl, sym, ap, subst, ◌∙◌, arith, length-append, append_assoc}
+use Rattle.std.proofs.lemmas.Bool.{cases_lt}
 use Rattle.std.proofs.lemmas.List.{take_at, drop_at, length-drop, length-take, take-append-drop, drop-drop}
-use Rattle.std.proofs.lemmas.List.Elements.{All-append, All-head, All-tail}
+use Rattle.std.proofs.lemmas.List.Elements.{All-append, All-nil, All-cons, All-head, All-tail}
 use Rattle.std.proofs.lemmas.List.Concat.{flat_map-append}
 use Rattle.std.specs.Prelude.{All}
 use Rattle.byteorder.specs.Endian.{big_number}
 use Rattle.byteorder.specs.Numbers.{big_from-lt}
 use Rattle.frame_transport.specs.Bytes.{header_bytes}
-use Rattle.frame_transport.specs.Frames.{IsFrame, bytes_of, joined, StandFrom, IsPartial, length_in, fault_at, Splits, Ends, SplitsOnce, FaultStays}
+use Rattle.frame_transport.specs.Frames.{IsKind, HasVersion, IsFrame, bytes_of, joined, StandFrom, IsPartial, length_in, IsFaultAt, HasFault, Splits, Ends, AlwaysSplits, SplitsOnce, FaultStays, AlwaysEnds}
 use Rattle.frame_transport.specs.declared.format.Frame.{Frame}
 use Rattle.frame_transport.specs.declared.fault.FeedFault.{FeedFault}
 use Rattle.frame_transport.proofs.HeaderBytes.{length-header_bytes, length_in-header, kind-header, version-header, method-header, conn-header, number-header, drop-header, AreBytes, AreBytes-drop, read_header}
-use Rattle.frame_transport.proofs.FaultFacts.{fault_at-none, no_fault, fault_at-append}
+use Rattle.frame_transport.proofs.FaultFacts.{none_of_fields, no_fault, fault-append, fault_or_none, one_or_none, has_at}
 
 pub length-bytes_of : (f : Frame) → length (bytes_of f) ≡ 16 + length f.payload
 length-bytes_of f =
-    omega (arith, length-append (header_bytes (length f.payload) f.kind f.method f.conn f.number) f.payload, length-header_bytes (length f.payload) f.kind f.method f.conn f.number)
+    omega (arith, length-append (header_bytes (length f.payload) f.kind f.version f.method f.conn f.number) f.payload, length-header_bytes (length f.payload) f.kind f.version f.method f.conn f.number)
 
 -- a frame with more behind it is its header with the payload and more behind that
-in_front : (f : Frame) (more : List ℕ) → bytes_of f ++ more ≡ header_bytes (length f.payload) f.kind f.method f.conn f.number ++ (f.payload ++ more)
-in_front f more = append_assoc (header_bytes (length f.payload) f.kind f.method f.conn f.number) f.payload more
+in_front : (f : Frame) (more : List ℕ) → bytes_of f ++ more ≡ header_bytes (length f.payload) f.kind f.version f.method f.conn f.number ++ (f.payload ++ more)
+in_front f more = append_assoc (header_bytes (length f.payload) f.kind f.version f.method f.conn f.number) f.payload more
 
 fits : (f : Frame) → IsFrame f → length f.payload < 2 ^ 32
 fits f h = omega (arith, h.short)
 
 pub length_in-frame : (f : Frame) (more : List ℕ) → IsFrame f → length_in (bytes_of f ++ more) ≡ length f.payload
-length_in-frame f more h = ap length_in (in_front f more) ∙ length_in-header (length f.payload) f.kind f.method f.conn f.number (f.payload ++ more) (fits f h)
+length_in-frame f more h = ap length_in (in_front f more) ∙ length_in-header (length f.payload) f.kind f.version f.method f.conn f.number (f.payload ++ more) (fits f h)
 
 kind-frame : (f : Frame) (more : List ℕ) → slice_index (bytes_of f ++ more) 4 ≡ f.kind
-kind-frame f more = ap (λ (bs : List ℕ). slice_index bs 4) (in_front f more) ∙ kind-header (length f.payload) f.kind f.method f.conn f.number (f.payload ++ more)
+kind-frame f more = ap (λ (bs : List ℕ). slice_index bs 4) (in_front f more) ∙ kind-header (length f.payload) f.kind f.version f.method f.conn f.number (f.payload ++ more)
 
-version-frame : (f : Frame) (more : List ℕ) → slice_index (bytes_of f ++ more) 5 ≡ 1
-version-frame f more = ap (λ (bs : List ℕ). slice_index bs 5) (in_front f more) ∙ version-header (length f.payload) f.kind f.method f.conn f.number (f.payload ++ more)
+version-frame : (f : Frame) (more : List ℕ) → slice_index (bytes_of f ++ more) 5 ≡ f.version
+version-frame f more = ap (λ (bs : List ℕ). slice_index bs 5) (in_front f more) ∙ version-header (length f.payload) f.kind f.version f.method f.conn f.number (f.payload ++ more)
 
 method-frame : (f : Frame) (more : List ℕ) → IsFrame f → big_number 2 (drop 6 (bytes_of f ++ more)) ≡ f.method
-method-frame f more h = ap (λ (bs : List ℕ). big_number 2 (drop 6 bs)) (in_front f more) ∙ method-header (length f.payload) f.kind f.method f.conn f.number (f.payload ++ more) h.method
+method-frame f more h = ap (λ (bs : List ℕ). big_number 2 (drop 6 bs)) (in_front f more) ∙ method-header (length f.payload) f.kind f.version f.method f.conn f.number (f.payload ++ more) h.method
 
 conn-frame : (f : Frame) (more : List ℕ) → IsFrame f → big_number 4 (drop 8 (bytes_of f ++ more)) ≡ f.conn
-conn-frame f more h = ap (λ (bs : List ℕ). big_number 4 (drop 8 bs)) (in_front f more) ∙ conn-header (length f.payload) f.kind f.method f.conn f.number (f.payload ++ more) h.conn
+conn-frame f more h = ap (λ (bs : List ℕ). big_number 4 (drop 8 bs)) (in_front f more) ∙ conn-header (length f.payload) f.kind f.version f.method f.conn f.number (f.payload ++ more) h.conn
 
 number-frame : (f : Frame) (more : List ℕ) → IsFrame f → big_number 4 (drop 12 (bytes_of f ++ more)) ≡ f.number
-number-frame f more h = ap (λ (bs : List ℕ). big_number 4 (drop 12 bs)) (in_front f more) ∙ number-header (length f.payload) f.kind f.method f.conn f.number (f.payload ++ more) h.number
+number-frame f more h = ap (λ (bs : List ℕ). big_number 4 (drop 12 bs)) (in_front f more) ∙ number-header (length f.payload) f.kind f.version f.method f.conn f.number (f.payload ++ more) h.number
 
 drop-frame : (f : Frame) (more : List ℕ) → drop 16 (bytes_of f ++ more) ≡ f.payload ++ more
-drop-frame f more = ap (drop 16) (in_front f more) ∙ drop-header (length f.payload) f.kind f.method f.conn f.number (f.payload ++ more)
+drop-frame f more = ap (drop 16) (in_front f more) ∙ drop-header (length f.payload) f.kind f.version f.method f.conn f.number (f.payload ++ more)
 
 -- a frame has no fault
-pub fault_at-frame : (place : ℕ) (f : Frame) (more : List ℕ) → IsFrame f → fault_at place (bytes_of f ++ more) ≡ None
-fault_at-frame place f more h =
+pub none_in_frame : (place : ℕ) (f : Frame) (more : List ℕ) → IsFrame f → HasFault place (bytes_of f ++ more) None
+none_in_frame place f more h =
     let size = length_in-frame f more h in
-    let kind = kind-frame f more in
-    let version = version-frame f more in
-    fault_at-none place (bytes_of f ++ more) (omega (arith, h.short)) (omega (arith, h.least)) (omega (arith, h.greatest)) version
+    let kind : slice_index (bytes_of f ++ more) 4 ≡ f.kind = kind-frame f more in
+    let version : slice_index (bytes_of f ++ more) 5 ≡ f.version = version-frame f more in
+    none_of_fields place (bytes_of f ++ more) (omega (arith, h.short)) (subst IsKind (sym kind) h.kind) (subst (HasVersion (slice_index (bytes_of f ++ more) 4)) (sym version) (subst (λ (n : ℕ). HasVersion n f.version) (sym kind) h.version))
 
 -- fewer bytes than the length in front of them asks for
 pub partial_of_short : (bs : List ℕ) → length bs < 16 + length_in bs → IsPartial bs
@@ -61,11 +62,9 @@ partial_of_short bs short f more h e =
     omega (arith, length-bytes_of f)
 
 -- bytes with a fault
-pub partial_of_fault : (place : ℕ) (bs : List ℕ) (fault : FeedFault) → fault_at place bs ≡ Some fault → IsPartial bs
+pub partial_of_fault : (place : ℕ) (bs : List ℕ) (fault : FeedFault) → IsFaultAt place bs fault → IsPartial bs
 partial_of_fault place bs fault found f more h e =
-    let none : fault_at place bs ≡ None = ap (fault_at place) e ∙ fault_at-frame place f more h in
-    let both : Some fault ≡ None = sym found ∙ none in
-    cc
+    none_in_frame place f more h fault (subst (λ (xs : List ℕ). IsFaultAt place xs fault) e found)
 
 pub partial_of_nothing : IsPartial []
 partial_of_nothing = partial_of_short [] (omega arith)
@@ -74,6 +73,7 @@ partial_of_nothing = partial_of_short [] (omega arith)
 abbrev pub frame_at : ℕ → List ℕ → Frame
 frame_at place bs = record {
   kind = slice_index bs 4;
+  version = slice_index bs 5;
   method = big_number 2 (drop 6 bs);
   conn = big_number 4 (drop 8 bs);
   number = big_number 4 (drop 12 bs);
@@ -86,29 +86,30 @@ pub frame_unique : (f g : Frame) (a b : List ℕ) → IsFrame f → IsFrame g �
 frame_unique f g a b hf hg e p =
     let size : length f.payload ≡ length g.payload = sym (length_in-frame f a hf) ∙ ap length_in e ∙ length_in-frame g b hg in
     let kind : f.kind ≡ g.kind = sym (kind-frame f a) ∙ ap (λ (bs : List ℕ). slice_index bs 4) e ∙ kind-frame g b in
+    let version : f.version ≡ g.version = sym (version-frame f a) ∙ ap (λ (bs : List ℕ). slice_index bs 5) e ∙ version-frame g b in
     let method : f.method ≡ g.method = sym (method-frame f a hf) ∙ ap (λ (bs : List ℕ). big_number 2 (drop 6 bs)) e ∙ method-frame g b hg in
     let conn : f.conn ≡ g.conn = sym (conn-frame f a hf) ∙ ap (λ (bs : List ℕ). big_number 4 (drop 8 bs)) e ∙ conn-frame g b hg in
     let number : f.number ≡ g.number = sym (number-frame f a hf) ∙ ap (λ (bs : List ℕ). big_number 4 (drop 12 bs)) e ∙ number-frame g b hg in
     let rest : f.payload ++ a ≡ g.payload ++ b = sym (drop-frame f a) ∙ ap (drop 16) e ∙ drop-frame g b in
     let payload : f.payload ≡ g.payload = sym (take_at f.payload a (length f.payload) refl) ∙ ap (take (length f.payload)) rest ∙ take_at g.payload b (length f.payload) (sym size) in
     let behind : a ≡ b = sym (drop_at f.payload a (length f.payload) refl) ∙ ap (drop (length f.payload)) rest ∙ drop_at g.payload b (length f.payload) (sym size) in
-    ((λ i. record { kind = kind i; method = method i; conn = conn i; number = number i; payload = payload i; place = p i }), behind)
+    ((λ i. record { kind = kind i; version = version i; method = method i; conn = conn i; number = number i; payload = payload i; place = p i }), behind)
 
 -- where the fields have no fault and all bytes are there, a whole frame stands at the front
-pub frame_at_front : (place : ℕ) (bs : List ℕ) → AreBytes bs → fault_at place bs ≡ None → 16 + length_in bs ≤ length bs
+pub frame_at_front : (place : ℕ) (bs : List ℕ) → AreBytes bs → HasFault place bs None → 16 + length_in bs ≤ length bs
     → IsFrame (frame_at place bs) × (bs ≡ bytes_of (frame_at place bs) ++ drop (16 + length_in bs) bs)
 frame_at_front place bs b none enough =
     let facts = no_fault place bs (omega arith) none in
     let payload_len : length (take (length_in bs) (drop 16 bs)) ≡ length_in bs = omega (arith, length-take {A = ℕ}, length-drop {A = ℕ}) in
-    let header = read_header bs (omega arith) b facts.3 in
+    let header = read_header bs (omega arith) b in
     let cut : take (length_in bs) (drop 16 bs) ++ drop (16 + length_in bs) bs ≡ drop 16 bs =
     ap (λ (ys : List ℕ). take (length_in bs) (drop 16 bs) ++ ys) (sym (drop-drop (length_in bs) 16 bs)) ∙ take-append-drop (length_in bs) (drop 16 bs) in
     let method : big_number 2 (drop 6 bs) < 256 ^ 2 = big_from-lt 0 2 (drop 6 bs) (AreBytes-drop 6 bs b) in
     let conn : big_number 4 (drop 8 bs) < 256 ^ 4 = big_from-lt 0 4 (drop 8 bs) (AreBytes-drop 8 bs b) in
     let number : big_number 4 (drop 12 bs) < 256 ^ 4 = big_from-lt 0 4 (drop 12 bs) (AreBytes-drop 12 bs b) in (
-      record { least = facts.1; greatest = facts.2; short = omega (arith, facts.0); method = method; conn = conn; number = number },
+      record { kind = facts.1; version = facts.2; short = omega (arith, facts.0); method = method; conn = conn; number = number },
       sym header
-          ∙ (λ i. header_bytes (sym payload_len i) (slice_index bs 4) (big_number 2 (drop 6 bs)) (big_number 4 (drop 8 bs)) (big_number 4 (drop 12 bs)) ++ sym cut i)
+          ∙ (λ i. header_bytes (sym payload_len i) (slice_index bs 4) (slice_index bs 5) (big_number 2 (drop 6 bs)) (big_number 4 (drop 8 bs)) (big_number 4 (drop 12 bs)) ++ sym cut i)
           ∙ sym (in_front (frame_at place bs) (drop (16 + length_in bs) bs)),
     )
 
@@ -136,7 +137,7 @@ splits_once place stream frames others rest more a b =
 
 pub fault_stays : FaultStays
 fault_stays place stream more frames rest fault s first =
-    let later = fault_at-append (place + length (joined frames)) rest more fault first in (
+    let later = fault-append (place + length (joined frames)) rest more fault first in (
       record {
         whole = ap (λ (bs : List ℕ). bs ++ more) s.whole ∙ append_assoc (joined frames) rest more;
         each = s.each;
@@ -150,7 +151,9 @@ fault_stays place stream more frames rest fault s first =
 pub ends_once : (place : ℕ) (stream : List ℕ) (a b : Option FeedFault) → Ends place stream a → Ends place stream b → a ≡ b
 ends_once place stream a b x y =
     let same = splits_once place stream x.frames y.frames x.rest y.rest x.splits y.splits in
-    sym x.first ∙ (λ i. fault_at (place + length (joined (same.0 i))) (same.1 i)) ∙ y.first
+    let first : HasFault (place + length (joined y.frames)) y.rest a =
+    has_at (place + length (joined x.frames)) (place + length (joined y.frames)) x.rest y.rest a (ap (λ (fs : List Frame). place + length (joined fs)) same.0) same.1 x.first in
+    one_or_none (place + length (joined y.frames)) y.rest a b first y.first
 
 -- a fault that the stream has stays the first one
 pub ends_stays : (place : ℕ) (stream more : List ℕ) (fault : FeedFault) → Ends place stream (Some fault) → Ends place (stream ++ more) (Some fault)
@@ -177,3 +180,60 @@ splits_behind place fs gs stream rest each places s = record {
   places = StandFrom-append place fs gs places s.places;
   partial = s.partial;
 }
+
+-- ---- each stream of bytes splits
+
+none_or : {A : Type 0} (o : Option A) → (o ≡ None) ⊎ ((x : A) × (o ≡ Some x))
+none_or None = inl refl
+none_or (Some x) = inr (x, refl)
+
+-- a stream that begins with no whole frame
+splits_nowhere : (place : ℕ) (stream : List ℕ) → IsPartial stream → (frames : List Frame) × (rest : List ℕ) × Splits place stream frames rest
+splits_nowhere place stream partial = ([], stream, record { whole = refl; each = All-nil IsFrame; places = tt; partial = partial })
+
+-- a frame in front of a stream that splits
+splits_next : (place : ℕ) (f : Frame) (stream more : List ℕ) → IsFrame f → f.place ≡ place → stream ≡ bytes_of f ++ more
+    → (frames : List Frame) × (rest : List ℕ) × Splits (place + length (bytes_of f)) more frames rest
+    → (frames : List Frame) × (rest : List ℕ) × Splits place stream frames rest
+splits_next place f stream more is stands whole s = (
+  f ∷ s.0,
+  s.1,
+  record {
+    whole = whole ∙ ap (λ (bs : List ℕ). bytes_of f ++ bs) s.2.whole ∙ sym (append_assoc (bytes_of f) (joined s.0) s.1);
+    each = All-cons IsFrame f s.0 is s.2.each;
+    places = (stands, s.2.places);
+    partial = s.2.partial;
+  },
+)
+
+-- a stream of at most so many bytes
+splits_within : (most place : ℕ) (stream : List ℕ) → length stream ≤ most → AreBytes stream → (frames : List Frame) × (rest : List ℕ) × Splits place stream frames rest
+splits_within zero place stream few b = splits_nowhere place stream (partial_of_short stream (omega (arith, few)))
+splits_within (suc most) place stream few b = elim (cases_lt (length stream) (16 + length_in stream)) [
+  | inl short ↦ splits_nowhere place stream (partial_of_short stream short)
+  | inr enough ↦
+      let found = fault_or_none place stream in
+      elim (none_or found.0) [
+        | inr some ↦ splits_nowhere place stream (partial_of_fault place stream some.0 (subst (HasFault place stream) some.1 found.1))
+        | inl none ↦
+            let front = frame_at_front place stream b (subst (HasFault place stream) none found.1) enough in
+            splits_next place (frame_at place stream) stream (drop (16 + length_in stream) stream) front.0 refl front.1
+            (splits_within most (place + length (bytes_of (frame_at place stream))) (drop (16 + length_in stream) stream)
+            (omega (arith, few, length-drop (16 + length_in stream) stream))
+            (AreBytes-drop (16 + length_in stream) stream b))
+      ]
+]
+
+are_bytes : (bs : List ℕ) → All (λ (byte : ℕ). byte < 256) bs → AreBytes bs
+are_bytes [] h i = omega arith
+are_bytes (b ∷ bs) h zero = All-head (λ (byte : ℕ). byte < 256) b bs h
+are_bytes (b ∷ bs) h (suc i) = are_bytes bs (All-tail (λ (byte : ℕ). byte < 256) b bs h) i
+
+pub always_splits : AlwaysSplits
+always_splits place stream h = splits_within (length stream) place stream (omega arith) (are_bytes stream h)
+
+pub always_ends : AlwaysEnds
+always_ends place stream h =
+    let s = always_splits place stream h in
+    let first = fault_or_none (place + length (joined s.0)) s.1 in
+    (first.0, record { frames = s.0; rest = s.1; splits = s.2; first = first.1 })

@@ -4,11 +4,11 @@ use Rattle.byteorder.specs.Endian.{big_bytes}
 
 -- the length of the payload, the kind, the version, the method, the connection and the number, each
 -- number big-endian
-unfoldable pub header_bytes : ℕ → ℕ → ℕ → ℕ → ℕ → List ℕ
-header_bytes len kind method conn number =
-    big_bytes 4 len ++ (kind ∷ 1 ∷ []) ++ big_bytes 2 method ++ big_bytes 4 conn ++ big_bytes 4 number
+unfoldable pub header_bytes : ℕ → ℕ → ℕ → ℕ → ℕ → ℕ → List ℕ
+header_bytes len kind version method conn number =
+    big_bytes 4 len ++ (kind ∷ version ∷ []) ++ big_bytes 2 method ++ big_bytes 4 conn ++ big_bytes 4 number
 
 -- the header, and the payload behind it
-abbrev pub frame_bytes : ℕ → ℕ → ℕ → ℕ → List ℕ → List ℕ
-frame_bytes kind method conn number payload =
-    header_bytes (length payload) kind method conn number ++ payload
+abbrev pub frame_bytes : ℕ → ℕ → ℕ → ℕ → ℕ → List ℕ → List ℕ
+frame_bytes kind version method conn number payload =
+    header_bytes (length payload) kind version method conn number ++ payload

@@ -1,6 +1,6 @@
 -- The frames of a stream: the whole frames at its front, and what follows them, which begins with
 -- no whole frame and may have a fault.
-use Rattle.std.specs.Prelude.{◌≡◌, ℕ, ◌+◌, ◌^◌, ◌<◌, ◌≤◌, ◌==◌, ◌||◌, List, [], ◌∷◌, ◌++◌, length, All, slice_index, nat_lt, Option, Some, None, if◌then◌else◌}
+use Rattle.std.specs.Prelude.{◌≡◌, ℕ, ◌+◌, ◌^◌, ◌<◌, ◌≤◌, ◌⊎◌, List, [], ◌∷◌, ◌++◌, length, All, slice_index, Option, Some, None}
 use Rattle.std.specs.List.{flat_map}
 use Rattle.byteorder.specs.Endian.{big_number}
 use Rattle.frame_transport.specs.Bytes.{frame_bytes}
@@ -8,10 +8,18 @@ use Rattle.frame_transport.specs.declared.format.Frame.{Frame}
 use Rattle.frame_transport.specs.declared.fault.FeedFault.{FeedFault}
 use Rattle.frame_transport.specs.declared.fault.FeedFault.TheVariants.{Version, Kind, TooLong}
 
--- kinds are 1, 2 and 3, a payload has at most 262144 bytes, and the numbers fit their bytes
+-- a request is of kind 1, a reply of kind 2, a hello of kind 3
+abbrev pub IsKind : ℕ → Type 0
+IsKind kind = (1 ≤ kind) × (kind ≤ 3)
+
+-- each kind has version 1, and a hello also 2
+abbrev pub HasVersion : ℕ → ℕ → Type 0
+HasVersion kind version = (version ≡ 1) ⊎ ((kind ≡ 3) × (version ≡ 2))
+
+-- a payload has at most 262144 bytes, and the numbers fit their bytes
 pub record IsFrame (f : Frame) : Type 0 where
-  pub least : 1 ≤ f.kind
-  pub greatest : f.kind ≤ 3
+  pub kind : IsKind f.kind
+  pub version : HasVersion f.kind f.version
   pub short : length f.payload ≤ 262144
   pub method : f.method < 2 ^ 16
   pub conn : f.conn < 2 ^ 32
@@ -19,7 +27,7 @@ pub record IsFrame (f : Frame) : Type 0 where
 
 -- the bytes of a frame
 abbrev pub bytes_of : Frame → List ℕ
-bytes_of f = frame_bytes f.kind f.method f.conn f.number f.payload
+bytes_of f = frame_bytes f.kind f.version f.method f.conn f.number f.payload
 
 -- the bytes of frames, one behind the other
 abbrev pub joined : List Frame → List ℕ
@@ -34,20 +42,29 @@ StandFrom place (f ∷ fs) = (f.place ≡ place) × StandFrom (place + length (b
 abbrev pub IsPartial : List ℕ → Type 0
 IsPartial bytes = (f : Frame) (more : List ℕ) → IsFrame f → bytes ≡ bytes_of f ++ more → ⊥
 
--- the length in front of a frame
+-- the length, the kind and the version in front of a frame
 unfoldable pub length_in : List ℕ → ℕ
 length_in bytes = big_number 4 bytes
 
--- The first field at fault of a frame that begins with these bytes at this place. The fields are
--- judged in the order of their bytes, each as soon as it is there.
-unfoldable pub fault_at : ℕ → List ℕ → Option FeedFault
-fault_at place bytes =
-    if nat_lt (length bytes) 4 then None
-    else if nat_lt 262144 (length_in bytes) then Some (TooLong place (length_in bytes))
-    else if nat_lt (length bytes) 5 then None
-    else if nat_lt (slice_index bytes 4) 1 || nat_lt 3 (slice_index bytes 4) then Some (Kind (place + 4) (slice_index bytes 4))
-    else if nat_lt (length bytes) 6 || slice_index bytes 5 == 1 then None
-    else Some (Version (place + 5) (slice_index bytes 5))
+abbrev pub kind_in : List ℕ → ℕ
+kind_in bytes = slice_index bytes 4
+
+abbrev pub version_in : List ℕ → ℕ
+version_in bytes = slice_index bytes 5
+
+-- A frame that begins with these bytes at this place is at fault: its length is too long, or else its kind is none, or
+-- else its kind hasn't its version. Each field counts as soon as it is there.
+pub data IsFaultAt (place : ℕ) (bytes : List ℕ) (fault : FeedFault) : Type 0 where
+  long : 4 ≤ length bytes → 262144 < length_in bytes → fault ≡ TooLong place (length_in bytes) → IsFaultAt place bytes fault
+  no_kind : 5 ≤ length bytes → length_in bytes ≤ 262144 → (IsKind (kind_in bytes) → ⊥)
+      → fault ≡ Kind (place + 4) (kind_in bytes) → IsFaultAt place bytes fault
+  no_version : 6 ≤ length bytes → length_in bytes ≤ 262144 → IsKind (kind_in bytes) → (HasVersion (kind_in bytes) (version_in bytes) → ⊥)
+      → fault ≡ Version (place + 5) (version_in bytes) → IsFaultAt place bytes fault
+
+-- the fault, or none so far
+abbrev pub HasFault : ℕ → List ℕ → Option FeedFault → Type 0
+HasFault place bytes (Some fault) = IsFaultAt place bytes fault
+HasFault place bytes None = (fault : FeedFault) → IsFaultAt place bytes fault → ⊥
 
 -- the stream, whose first byte has this place, is these frames and then this rest
 pub record Splits (place : ℕ) (stream : List ℕ) (frames : List Frame) (rest : List ℕ) : Type 0 where
@@ -61,9 +78,14 @@ pub record Ends (place : ℕ) (stream : List ℕ) (fault : Option FeedFault) : T
   pub frames : List Frame
   pub rest : List ℕ
   pub splits : Splits place stream frames rest
-  pub first : fault_at (place + length (joined frames)) rest ≡ fault
+  pub first : HasFault (place + length (joined frames)) rest fault
 
--- a stream splits in one way
+-- each stream of bytes splits
+abbrev pub AlwaysSplits : Type 0
+AlwaysSplits = (place : ℕ) (stream : List ℕ) → All (λ byte. byte < 256) stream
+    → (frames : List Frame) × (rest : List ℕ) × Splits place stream frames rest
+
+-- and in one way
 abbrev pub SplitsOnce : Type 0
 SplitsOnce = (place : ℕ) (stream : List ℕ) (frames others : List Frame) (rest more : List ℕ)
     → Splits place stream frames rest → Splits place stream others more → (frames ≡ others) × (rest ≡ more)
@@ -71,9 +93,13 @@ SplitsOnce = (place : ℕ) (stream : List ℕ) (frames others : List Frame) (res
 -- a fault stays the first one, and the frames in front of it stay, however the stream goes on
 abbrev pub FaultStays : Type 0
 FaultStays = (place : ℕ) (stream more : List ℕ) (frames : List Frame) (rest : List ℕ) (fault : FeedFault)
-    → Splits place stream frames rest → fault_at (place + length (joined frames)) rest ≡ Some fault
-    → Splits place (stream ++ more) frames (rest ++ more) × (fault_at (place + length (joined frames)) (rest ++ more) ≡ Some fault)
+    → Splits place stream frames rest → IsFaultAt (place + length (joined frames)) rest fault
+    → Splits place (stream ++ more) frames (rest ++ more) × IsFaultAt (place + length (joined frames)) (rest ++ more) fault
 
--- so a stream has one first fault, or none so far
+-- so a stream of bytes has a first fault, or none so far
+abbrev pub AlwaysEnds : Type 0
+AlwaysEnds = (place : ℕ) (stream : List ℕ) → All (λ byte. byte < 256) stream → (fault : Option FeedFault) × Ends place stream fault
+
+-- and no other
 abbrev pub EndsOnce : Type 0
 EndsOnce = (place : ℕ) (stream : List ℕ) (fault other : Option FeedFault) → Ends place stream fault → Ends place stream other → fault ≡ other

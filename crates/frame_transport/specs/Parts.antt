@@ -2,7 +2,7 @@
 -- parts, and its split.
 use Rattle.std.specs.Prelude.{◌≡◌, ℕ, ◌+◌, ◌-◌, ◌<◌, ◌≤◌, List, [], ◌∷◌, ◌++◌, length, take, drop, slice_index, Option, Some, None}
 use Rattle.byteorder.specs.Endian.{big_number}
-use Rattle.frame_transport.specs.Frames.{IsFrame, bytes_of, joined, IsPartial, Splits, length_in, fault_at}
+use Rattle.frame_transport.specs.Frames.{IsFrame, bytes_of, joined, IsPartial, Splits, length_in, HasFault}
 use Rattle.frame_transport.specs.declared.format.Frame.{Frame}
 use Rattle.frame_transport.specs.declared.fault.FeedFault.{FeedFault}
 use Rattle.frame_transport.specs.declared.header.Header.{Header}
@@ -16,13 +16,14 @@ use Rattle.frame_transport.specs.declared.front.Front.TheVariants.{Whole, Partia
 pub record IsHeaderOf (bytes : List ℕ) (h : Header) : Type 0 where
   pub size : h.length ≡ length_in bytes
   pub kind : h.kind ≡ slice_index bytes 4
+  pub version : h.version ≡ slice_index bytes 5
   pub method : h.method ≡ big_number 2 (drop 6 bytes)
   pub conn : h.conn ≡ big_number 4 (drop 8 bytes)
   pub number : h.number ≡ big_number 4 (drop 12 bytes)
 
 -- the header at the front of two parts has no fault, and the first part ends in its frame
 pub record IsClear (place : ℕ) (begun piece : List ℕ) (h : Header) : Type 0 where
-  pub clean : fault_at place (take 16 (begun ++ piece)) ≡ None
+  pub clean : HasFault place (take 16 (begun ++ piece)) None
   pub long : 16 ≤ length (take 16 (begun ++ piece))
   pub header : IsHeaderOf (take 16 (begun ++ piece)) h
   pub small : h.length ≤ 262144
@@ -39,7 +40,7 @@ pub record EndsFrame (place : ℕ) (begun piece : List ℕ) (f : Frame) : Type 0
 -- no whole frame stands at the front, and this fault, or none so far
 pub record HasNoFrame (place : ℕ) (stream : List ℕ) (fault : Option FeedFault) : Type 0 where
   pub partial : IsPartial stream
-  pub first : fault_at place stream ≡ fault
+  pub first : HasFault place stream fault
 
 -- how two parts begin
 abbrev pub Begins : ℕ → List ℕ → List ℕ → Beginning → Type 0
@@ -62,7 +63,7 @@ begun_behind (f ∷ fs) begun left = left
 pub record SplitsParts (place : ℕ) (begun piece : List ℕ) (frames : List Frame) (end : ℕ) (left : List ℕ) (fault : Option FeedFault) : Type 0 where
   pub splits : Splits place (begun ++ piece) frames (begun_behind frames begun left)
   pub behind : end ≡ place + length (joined frames)
-  pub first : fault_at end (begun_behind frames begun left) ≡ fault
+  pub first : HasFault end (begun_behind frames begun left) fault
   pub fewer : length left ≤ length piece
 
 -- The frames that a piece ends came behind those that were kept, and what follows them is kept up
@@ -73,6 +74,6 @@ pub record Advances (end : ℕ) (begun piece : List ℕ) (old new : List Frame) 
   pub dropped : List ℕ
   pub splits : Splits end (begun ++ piece) frames (now_begun ++ dropped)
   pub behind : a.end ≡ end + length (joined frames)
-  pub first : fault_at a.end now_begun ≡ a.fault
+  pub first : HasFault a.end now_begun a.fault
   pub count : length dropped ≡ a.dropped
   pub clean : a.fault ≡ None → dropped ≡ []

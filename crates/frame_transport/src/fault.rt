@@ -10,7 +10,7 @@ use thiserror::Error;
 /// the whole stream from 0.
 #[derive(Clone, Copy, Debug, PartialEq, Eq, Error)]
 pub enum FeedFault {
-    /// A version other than 1, at the version's byte.
+    /// A version other than 1, and in a hello other than 1 and 2, at the version's byte.
     #[error("version {value} at byte {place}")]
     Version { place: u64, value: u8 },
     /// A kind other than 1, 2 and 3, at the kind's byte.

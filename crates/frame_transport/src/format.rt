@@ -8,17 +8,28 @@ pub const HEADER_LEN: usize = 16;
 /// The most bytes that a payload has.
 pub const MAX_PAYLOAD: usize = 262144;
 
-/// The only version of the format.
+/// The version of requests and replies. A hello may have it too.
 pub const VERSION: u8 = 1;
 
-/// Kinds are 1, a request, 2, a reply, and 3, a hello.
-pub const LARGEST_KIND: u8 = 3;
+/// The version that a hello alone may have.
+pub const HELLO_VERSION: u8 = 2;
+
+/// The kind of a request.
+pub const REQUEST: u8 = 1;
+
+/// The kind of a reply.
+pub const REPLY: u8 = 2;
+
+/// The kind of a hello, which opens a connection. There is no greater one.
+pub const HELLO: u8 = 3;
 
 /// A frame that came on a stream.
 #[derive(Debug, Drop)]
 pub struct Frame {
     /// 1 for a request, 2 for a reply, 3 for a hello.
     pub kind: u8,
+    /// 1, or in a hello also 2.
+    pub version: u8,
     /// The method's index; 0 in a hello.
     pub method: u16,
     /// The sender's connection.

@@ -40,6 +40,7 @@ pub(crate) fn front_of(
     let payload = payload_of(alloc, begun, piece, header.length)?;
     Ok(Front::Whole(Frame {
         kind: header.kind,
+        version: header.version,
         method: header.method,
         conn: header.conn,
         number: header.number,

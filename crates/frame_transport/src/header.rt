@@ -1,11 +1,11 @@
 //! The header of a frame as far as it has come.
 
-ghost use Rattle.std.specs.Prelude.{◌≡◌, ◌<◌, ◌^◌, ◌++◌, ◌↔◌, length, take, IsNone, IfSome};
-ghost use Rattle.frame_transport.specs.Frames.{fault_at};
+ghost use Rattle.std.specs.Prelude.{◌≡◌, ◌<◌, ◌^◌, ◌++◌, ◌↔◌, length, take, IsNone, IfSome, IsTrue};
+ghost use Rattle.frame_transport.specs.Frames.{IsKind, HasVersion, HasFault};
 ghost use Rattle.frame_transport.specs.Parts.{IsHeaderOf};
 
 use crate::fault::FeedFault;
-use crate::format::{HEADER_LEN, LARGEST_KIND, MAX_PAYLOAD, VERSION};
+use crate::format::{HEADER_LEN, HELLO, HELLO_VERSION, MAX_PAYLOAD, REQUEST, VERSION};
 use byteorder::{BigEndian, ByteOrder};
 use std::marker::Model;
 
@@ -20,6 +20,7 @@ pub(crate) struct HeaderPart {
 #[derive(Drop)]
 pub(crate) struct Header {
     pub kind: u8,
+    pub version: u8,
     pub method: u16,
     pub conn: u32,
     pub number: u32,
@@ -62,10 +63,10 @@ impl HeaderPart {
 
 /// The first fault of bytes that stand at this place. Each field is judged as soon as it is there,
 /// in the order of their bytes.
-#[tactic(auto, unfolding(crate::specs::Frames::fault_at, crate::specs::Frames::length_in))]
+#[tactic(auto, unfolding(crate::specs::Frames::length_in))]
 pub(crate) fn fault_in(place: u64, bytes: &[u8]) -> Option<FeedFault>
     requires { place < 2 ^ 63 }
-    ensures { result ≡ fault_at place bytes.now }
+    ensures { HasFault place bytes.now result }
 {
     if bytes.len() < 4 {
         return None;
@@ -78,19 +79,33 @@ pub(crate) fn fault_in(place: u64, bytes: &[u8]) -> Option<FeedFault>
         return None;
     }
     let kind = bytes[4];
-    if kind < 1 || kind > LARGEST_KIND {
+    if !is_kind(kind) {
         return Some(FeedFault::Kind {
             place: place + 4,
             value: kind,
         });
     }
-    if bytes.len() < 6 || bytes[5] == VERSION {
+    if bytes.len() < 6 || has_version(kind, bytes[5]) {
         return None;
     }
     Some(FeedFault::Version {
         place: place + 5,
         value: bytes[5],
     })
+}
+
+// Whether frames have this kind.
+fn is_kind(kind: u8) -> bool
+    ensures { IsTrue result ↔ IsKind kind }
+{
+    kind >= REQUEST && kind <= HELLO
+}
+
+// Whether frames of this kind have this version.
+fn has_version(kind: u8, version: u8) -> bool
+    ensures { IsTrue result ↔ HasVersion kind version }
+{
+    version == VERSION || kind == HELLO && version == HELLO_VERSION
 }
 
 /// The numbers in a header.
@@ -104,6 +119,7 @@ pub(crate) fn read_header(bytes: &[u8]) -> Option<Header>
     }
     Some(Header {
         kind: bytes[4],
+        version: bytes[5],
         method: BigEndian::read_u16(&bytes[6..]),
         conn: BigEndian::read_u32(&bytes[8..]),
         number: BigEndian::read_u32(&bytes[12..]),

@@ -26,9 +26,9 @@ mod written;
 pub use byte_link::ByteLink;
 pub use fault::FeedFault;
 pub use feed::Feed;
-pub use format::{Frame, HEADER_LEN, LARGEST_KIND, MAX_PAYLOAD, VERSION};
+pub use format::{Frame, HEADER_LEN, HELLO, HELLO_VERSION, MAX_PAYLOAD, REPLY, REQUEST, VERSION};
 pub use laws::one_split;
-pub use written::frame;
+pub use written::{frame, hello_frame};
 
 #[cfg(test)]
 mod tests;

@@ -1,4 +1,4 @@
-use crate::{ByteLink, Feed, frame, one_split};
+use crate::{ByteLink, Feed, HELLO, frame, hello_frame, one_split};
 use mrpc_base::{Came, Handed, Link, MemSink};
 use mrpc_table::Bytes;
 use std::alloc::Global;
@@ -36,6 +36,19 @@ fn a_stream_gives_its_frames_wherever_it_is_cut(rt: HostRuntime) -> Result<(), F
     for at in 0..stream.len() {
         fed_in_two(&rt, alloc, stream.as_slice(), at);
     }
+    Ok(())
+}
+
+#[test]
+fn a_hello_of_version_2_is_taken(rt: HostRuntime) -> Result<(), Fail> {
+    let alloc = rt.alloc();
+    let bytes = hello_frame(alloc, 7, b"S\n")?;
+    let mut feed = Feed::new(alloc);
+    assert!(rt; feed.feed(bytes.as_slice()).is_ok());
+    let hello = feed.next().expect(&rt, "a hello");
+    assert_eq!(rt; hello.kind, HELLO);
+    assert_eq!(rt; hello.version, 2);
+    assert_eq!(rt; hello.conn, 7);
     Ok(())
 }
 

@@ -3,13 +3,12 @@
 ghost use Rattle.std.specs.Prelude.{◌≡◌, ◌≤◌, length, IfOk};
 ghost use Rattle.frame_transport.specs.Bytes.{frame_bytes};
 
-use crate::format::{HEADER_LEN, LARGEST_KIND, MAX_PAYLOAD, VERSION};
+use crate::format::{HEADER_LEN, HELLO, HELLO_VERSION, MAX_PAYLOAD, REPLY, REQUEST, VERSION};
 use byteorder::{BigEndian, ByteOrder};
 use mrpc_table::{Bytes, Memory};
 use std::alloc::Global;
 
-/// The bytes of a frame, in one reservation: the header, whose numbers are big-endian, and the
-/// payload. The format is this project's own.
+/// The bytes of a request (kind 1) or a reply (kind 2), of version 1. The format is this project's own.
 pub fn frame(
     alloc: Global,
     kind: u8,
@@ -18,15 +17,39 @@ pub fn frame(
     number: u32,
     payload: &[u8],
 ) -> Result<Bytes, Memory>
-    requires least { 1 ≤ kind }
-    requires greatest { kind ≤ LARGEST_KIND }
+    requires least { REQUEST ≤ kind }
+    requires greatest { kind ≤ REPLY }
     requires short { length payload.now ≤ MAX_PAYLOAD }
-    ensures { IfOk result (λ bytes. bytes ≡ frame_bytes kind method conn number payload.now) }
+    ensures { IfOk result (λ bytes. bytes ≡ frame_bytes kind 1 method conn number payload.now) }
+{
+    write(alloc, kind, VERSION, method, conn, number, payload)
+}
+
+/// The bytes of a hello, of version 2, with method and number 0. The format is this project's own.
+pub fn hello_frame(alloc: Global, conn: u32, payload: &[u8]) -> Result<Bytes, Memory>
+    requires short { length payload.now ≤ MAX_PAYLOAD }
+    ensures { IfOk result (λ bytes. bytes ≡ frame_bytes 3 2 0 conn 0 payload.now) }
+{
+    write(alloc, HELLO, HELLO_VERSION, 0, conn, 0, payload)
+}
+
+// The header, whose numbers are big-endian, and the payload, in one reservation.
+fn write(
+    alloc: Global,
+    kind: u8,
+    version: u8,
+    method: u16,
+    conn: u32,
+    number: u32,
+    payload: &[u8],
+) -> Result<Bytes, Memory>
+    requires short { length payload.now ≤ MAX_PAYLOAD }
+    ensures { IfOk result (λ bytes. bytes ≡ frame_bytes kind version method conn number payload.now) }
 {
     let mut header = [0; HEADER_LEN];
     BigEndian::write_u32(&mut header, payload.len() as u32);
     header[4] = kind;
-    header[5] = VERSION;
+    header[5] = version;
     BigEndian::write_u16(&mut header[6..], method);
     BigEndian::write_u32(&mut header[8..], conn);
     BigEndian::write_u32(&mut header[12..], number);

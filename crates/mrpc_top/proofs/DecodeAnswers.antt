@@ -1,28 +1,29 @@
 -- A text that is a table's text and whole frames has no fault.
-use Rattle.std.proofs.Common.{◌≡◌, ℕ, ◌+◌, ◌≤◌, List, [], ◌∷◌, ◌++◌, length, Option, Some, None, refl, sym, ap, subst, ◌∙◌, append_assoc, arith}
+use Rattle.std.proofs.Common.{◌≡◌, ℕ, ◌+◌, ◌≤◌, List, [], ◌∷◌, ◌++◌, length, Option, Some, refl, sym, ap, subst, ◌∙◌, append_assoc, arith}
 use Rattle.std.proofs.lemmas.List.Elements.{All-head, All-tail}
 use Rattle.mrpc_table.specs.declared.table.Table.{Table}
-use Rattle.frame_transport.specs.Frames.{IsFrame, bytes_of, joined, StandFrom, IsPartial, Splits, fault_at}
+use Rattle.frame_transport.specs.Frames.{IsFrame, bytes_of, joined, StandFrom, IsPartial, Splits, IsFaultAt}
 use Rattle.frame_transport.specs.declared.format.Frame.{Frame}
 use Rattle.frame_transport.specs.declared.fault.FeedFault.{FeedFault}
+use Rattle.frame_transport.proofs.FaultFacts.{none_before_length}
 use Rattle.frame_transport.proofs.Splitting.{frame_unique, splits_once}
-use Rattle.wire_decode.proofs.Unique.{reads-faultless}
 use Rattle.mrpc_top.specs.Reading.{IsAllOf}
-use Rattle.mrpc_top.specs.Decoding.{IsLineOf, AreLinesOf, IsFaultIn, StandInFront, IsDecoded, IsCutAt}
+use Rattle.mrpc_top.specs.Decoding.{message_in, IsLineOf, AreLinesOf, IsFaultIn, StandInFront, IsDecoded, IsCutAt}
 use Rattle.mrpc_top.specs.Decoding.IsLineOf.{line_of_hello, line_of_call}
 use Rattle.mrpc_top.specs.Decoding.IsFaultIn.{no_method, in_payload}
 use Rattle.mrpc_top.specs.Decoding.IsCutAt.{in_frame, in_header, in_short_frame}
 use Rattle.mrpc_top.specs.Command.{IsInput, DecodesText, HasDecodeFault}
 use Rattle.mrpc_top.specs.Command.HasDecodeFault.{too_long, fault_in_text, fault_in_stream}
+use Rattle.mrpc_top.proofs.MeaningLaws.{MeaningLaw}
 use Rattle.mrpc_top.proofs.TextAnswers.{no_text_fault, one_holding}
 
 -- ---- the frames
 
-pub no_fault_in : (T : Table) (f : Frame) (line : List ℕ) (place : ℕ) (word : List ℕ) → IsLineOf T f line → IsFaultIn T f place word → ⊥
-no_fault_in T f line place word (line_of_hello kind is) (no_method other lacks at is') = other kind
-no_fault_in T f line place word (line_of_hello kind is) (in_payload reason at other known first at_is is') = other kind
-no_fault_in T f line place word (line_of_call t other known means is) (no_method other' lacks at is') = omega (arith, known, lacks)
-no_fault_in T f line place word (line_of_call t other known means is) (in_payload reason at other' known' first at_is is') = reads-faultless means.reads first
+pub no_fault_in : MeaningLaw → (T : Table) (f : Frame) (line : List ℕ) (place : ℕ) (word : List ℕ) → IsLineOf T f line → IsFaultIn T f place word → ⊥
+no_fault_in law T f line place word (line_of_hello kind is) (no_method other lacks at is') = other kind
+no_fault_in law T f line place word (line_of_hello kind is) (in_payload reason at other known first at_is is') = other kind
+no_fault_in law T f line place word (line_of_call t other known means is) (no_method other' lacks at is') = omega (arith, known, lacks)
+no_fault_in law T f line place word (line_of_call t other known means is) (in_payload reason at other' known' first at_is is') = law.not_both T (message_in T f) f.payload t reason at means first
 
 -- whole frames stand in front of a stream
 pub whole_front : (start : ℕ) (stream : List ℕ) (fs : List Frame) (rest : List ℕ) → Splits start stream fs rest → StandInFront start stream fs
@@ -61,38 +62,40 @@ line_of_frame T start stream text (h ∷ hs) (g ∷ gs) f a partial l b =
     line_of_frame T (start + length (bytes_of h)) (joined hs ++ a.more) l.1 hs gs f (behind start stream h hs a) partial l.3 (next start stream h g hs (gs ++ f ∷ []) a b).1
 
 -- so none of them is at fault
-pub no_fault_in_front : (T : Table) (start : ℕ) (stream text : List ℕ) (fs before : List Frame) (rest : List ℕ) (f : Frame) (place : ℕ) (word : List ℕ)
+pub no_fault_in_front : MeaningLaw → (T : Table) (start : ℕ) (stream text : List ℕ) (fs before : List Frame) (rest : List ℕ) (f : Frame) (place : ℕ) (word : List ℕ)
     → Splits start stream fs rest → AreLinesOf T fs text → StandInFront start stream (before ++ f ∷ []) → IsFaultIn T f place word → ⊥
 unfolding whole_front
-no_fault_in_front T start stream text fs before rest f place word s l b fault =
+no_fault_in_front law T start stream text fs before rest f place word s l b fault =
     let line = line_of_frame T start stream text fs before f (whole_front start stream fs rest s) s.partial l b in
-    no_fault_in T f line.0 place word line.1 fault
+    no_fault_in law T f line.0 place word line.1 fault
 
-nothing_at_fault : (place : ℕ) (rest : List ℕ) (fault : FeedFault) → rest ≡ [] → fault_at place rest ≡ Some fault → ⊥
-unfolding fault_at
-nothing_at_fault place rest fault none first =
-    let clash : None ≡ Some fault = sym (ap (fault_at place) none) ∙ first in absurd cc
+nothing_at_fault : (place : ℕ) (rest : List ℕ) (fault : FeedFault) → rest ≡ [] → IsFaultAt place rest fault → ⊥
+nothing_at_fault place rest fault none first = none_before_length place rest (omega (arith, ap length none)) fault first
 
-pub no_stream_fault : (T : Table) (stream lines text : List ℕ) (place : ℕ) (word : List ℕ) → IsDecoded T stream lines → IsCutAt T 0 stream text place word → ⊥
-no_stream_fault T stream lines text place word d (in_frame before f stand told fault) =
-    no_fault_in_front T 0 stream lines d.frames before [] f place word d.splits d.lines stand fault
-no_stream_fault T stream lines text place word d (in_header frames rest fault splits told first is) =
+pub no_stream_fault : MeaningLaw → (T : Table) (stream lines text : List ℕ) (place : ℕ) (word : List ℕ) → IsDecoded T stream lines → IsCutAt T 0 stream text place word → ⊥
+no_stream_fault law T stream lines text place word d (in_frame before f stand told fault) =
+    no_fault_in_front law T 0 stream lines d.frames before [] f place word d.splits d.lines stand fault
+no_stream_fault law T stream lines text place word d (in_header frames rest fault splits told first is) =
     nothing_at_fault (0 + length (joined frames)) rest fault (splits_once 0 stream frames d.frames rest [] splits d.splits).1 first
-no_stream_fault T stream lines text place word d (in_short_frame frames rest splits told clean some at is) =
+no_stream_fault law T stream lines text place word d (in_short_frame frames rest splits told clean some at is) =
     some (splits_once 0 stream frames d.frames rest [] splits d.splits).1
 
 -- ---- the whole
 
-no_fault_of : (text : List ℕ) (out out' : Option (List ℕ)) → length text ≤ 16777216 → DecodesText text out out' → HasDecodeFault text → ⊥
-no_fault_of text out out' short d (too_long long) = omega (arith, short, long)
-no_fault_of text out out' short d (fault_in_text line word fault) = no_text_fault text d.table d.stream line word d.holds fault
-no_fault_of text out out' short d (fault_in_stream U other told place word holds cut) =
+-- a stream that is decoded has no fault
+abbrev pub NoCut : Type 0
+NoCut = (T : Table) (stream told other word : List ℕ) (place : ℕ) → IsDecoded T stream told → IsCutAt T 0 stream other place word → ⊥
+
+no_fault_of : NoCut → (text : List ℕ) (out out' : Option (List ℕ)) → length text ≤ 16777216 → DecodesText text out out' → HasDecodeFault text → ⊥
+no_fault_of no_cut text out out' short d (too_long long) = omega (arith, short, long)
+no_fault_of no_cut text out out' short d (fault_in_text line word fault) = no_text_fault text d.table d.stream line word d.holds fault
+no_fault_of no_cut text out out' short d (fault_in_stream U other told place word holds cut) =
     let same = one_holding text d.table U d.stream other d.holds holds in
-    no_stream_fault d.table d.stream d.lines told place word d.decoded
+    no_cut d.table d.stream d.lines told word place d.decoded
     (subst (λ (s : List ℕ). IsCutAt d.table 0 s told place word) (sym same.1) (subst (λ (T : Table). IsCutAt T 0 other told place word) (sym same.0) cut))
 
 -- an input that was decoded has no fault
-pub no_decoding : (left : Option (List ℕ)) (text found : List ℕ) (out out' : Option (List ℕ)) → left ≡ Some text → HasDecodeFault text → IsInput left found → DecodesText found out out' → ⊥
-no_decoding left text found out out' told fault input d =
+pub no_decoding : NoCut → (left : Option (List ℕ)) (text found : List ℕ) (out out' : Option (List ℕ)) → left ≡ Some text → HasDecodeFault text → IsInput left found → DecodesText found out out' → ⊥
+no_decoding no_cut left text found out out' told fault input d =
     let all : text ≡ found = subst (λ l. IsAllOf l found) told input.all in
-    no_fault_of found out out' input.short d (subst HasDecodeFault all fault)
+    no_fault_of no_cut found out out' input.short d (subst HasDecodeFault all fault)

@@ -1,5 +1,5 @@
 -- Frames of a stream that are told piece by piece.
-use Rattle.std.proofs.Common.{◌≡◌, ℕ, ◌+◌, ◌<◌, ◌≤◌, ◌≢◌, List, [], ◌∷◌, ◌++◌, length, codes, Some, None, Result, Ok, Err, refl, sym, ap, subst, ◌∙◌, arith, length-append, append_assoc, append-nil, ◌⊎◌, ⊎_elim}
+use Rattle.std.proofs.Common.{◌≡◌, ℕ, ◌+◌, ◌<◌, ◌≤◌, ◌≢◌, List, [], ◌∷◌, ◌++◌, length, codes, Option, Some, None, Result, Ok, Err, refl, sym, ap, subst, ◌∙◌, arith, length-append, append_assoc, append-nil, ◌⊎◌, ⊎_elim}
 use Rattle.std.proofs.lemmas.List.Elements.{All-append, All-nil, All-cons}
 use Rattle.std.proofs.lemmas.List.Concat.{flat_map-append}
 use Rattle.std.specs.Prelude.{All, OnOk, IfErr, IsErrOf}
@@ -8,10 +8,11 @@ use Rattle.wire_decode.specs.Faults.{IsFirstFault}
 use Rattle.wire_decode.specs.Reason.{reason_word}
 use Rattle.wire_decode.specs.declared.fault.DecodeReason.{DecodeReason}
 use Rattle.frame_transport.specs.Feed.{Fed, total, Gives, GoesOn, StopsAt}
-use Rattle.frame_transport.specs.Frames.{IsFrame, bytes_of, joined, StandFrom, fault_at, Splits, Ends}
+use Rattle.frame_transport.specs.Frames.{IsFrame, bytes_of, joined, StandFrom, IsFaultAt, HasFault, Splits, Ends}
 use Rattle.frame_transport.specs.declared.format.Frame.{Frame}
 use Rattle.frame_transport.specs.declared.fault.FeedFault.{FeedFault}
 use Rattle.frame_transport.specs.declared.fault.FeedFault.TheVariants.{Memory}
+use Rattle.frame_transport.proofs.FaultFacts.{none_before_length}
 use Rattle.frame_transport.proofs.Splitting.{splits_once, fault_stays, splits_behind, StandFrom-append, length-joined, partial_of_nothing, length-bytes_of}
 use Rattle.mrpc_top.specs.DecodeInput.{OnFault}
 use Rattle.mrpc_top.specs.Decoding.{hello, message_in, IsLineOf, AreLinesOf, IsFaultIn, in_payload, IsFaultOfHeader, StandInFront, IsCutAt, in_frame, in_header, in_short_frame}
@@ -144,14 +145,18 @@ cut_in_frame T old mid piece text place word h x more = in_frame x.before x.fram
     x.lines
     x.fault
 
+-- the fault of the same bytes at the same place
+pub fault_of : (place other : ℕ) (bytes others : List ℕ) (fault : Option FeedFault) → place ≡ other → bytes ≡ others → HasFault place bytes fault → HasFault other others fault
+fault_of place other bytes others fault p e h = subst (λ (n : ℕ). HasFault n others fault) p (subst (λ (bs : List ℕ). HasFault place bs fault) e h)
+
 -- the frames in front of a fault of a header were given
 cut_at_stop : (T : Table) (old mid new : Fed) (piece text : List ℕ) (fault : FeedFault) (place : ℕ) (word : List ℕ) → StopsAt old piece fault mid → Gave T mid text new → IsFaultOfHeader fault place word
     → (more : List ℕ) → IsCutAt T old.place (old.bytes ++ (piece ++ more)) text place word
 cut_at_stop T old mid new piece text fault place word x y h more =
     let splits : Splits old.place mid.bytes y.frames new.bytes = subst (λ (p : ℕ). Splits p mid.bytes y.frames new.bytes) x.place y.splits in
     let same = splits_once old.place mid.bytes x.kept.frames y.frames x.kept.rest new.bytes x.kept.splits splits in
-    let first : fault_at (old.place + length (joined y.frames)) new.bytes ≡ Some fault =
-    sym (λ i. fault_at (old.place + length (joined (same.0 i))) (same.1 i)) ∙ x.kept.first in
+    let first : IsFaultAt (old.place + length (joined y.frames)) new.bytes fault =
+    fault_of _ _ _ _ (Some fault) (ap (λ (fs : List Frame). old.place + length (joined fs)) same.0) same.1 x.kept.first in
     let later = fault_stays old.place mid.bytes (x.dropped ++ more) y.frames new.bytes fault splits first in
     let stream : old.bytes ++ (piece ++ more) ≡ mid.bytes ++ (x.dropped ++ more) =
     sym (append_assoc old.bytes piece more) ∙ ap (λ (bs : List ℕ). bs ++ more) x.stream ∙ append_assoc mid.bytes x.dropped more in
@@ -181,19 +186,18 @@ tells_of T old mid new piece text x clean y behind =
       splits = splits;
       place = place;
       behind = y.behind ∙ x.behind ∙ behind;
-      clean = ap (λ (p : ℕ). fault_at p new.bytes) place ∙ sym (λ i. fault_at (old.place + length (joined (same.0 i))) (same.1 i)) ∙ clean.first;
+      clean = fault_of _ _ _ _ None (ap (λ (fs : List Frame). old.place + length (joined fs)) same.0 ∙ sym place) same.1 clean.first;
     }
 
 -- nothing was fed
 pub tells_nothing : (T : Table) → Tells T 0 [] [] (record { place = 0; bytes = []; behind = 0 })
-unfolding fault_at
 tells_nothing T = record {
   frames = [];
   lines = refl;
   splits = record { whole = refl; each = All-nil IsFrame; places = tt; partial = partial_of_nothing };
   place = refl;
   behind = refl;
-  clean = refl;
+  clean = none_before_length 0 [] (omega arith);
 }
 
 -- the frames told, with those of the stream behind them
@@ -238,12 +242,12 @@ cut_behind T start stream text more behind fed place word x (in_frame before f s
 cut_behind T start stream text more behind fed place word x (in_header frames rest fault splits lines first header) = in_header (x.frames ++ frames) rest fault
     (splits_more T start stream text more fed frames rest x splits)
     (lines-append T x.frames frames text behind x.lines lines)
-    (ap (λ (p : ℕ). fault_at p rest) (sym (place_more T start stream text fed frames x)) ∙ first)
+    (fault_of _ _ rest rest (Some fault) (place_more T start stream text fed frames x) refl first)
     header
 cut_behind T start stream text more behind fed place word x (in_short_frame frames rest splits lines none some at short) = in_short_frame (x.frames ++ frames) rest
     (splits_more T start stream text more fed frames rest x splits)
     (lines-append T x.frames frames text behind x.lines lines)
-    (ap (λ (p : ℕ). fault_at p rest) (sym (place_more T start stream text fed frames x)) ∙ none)
+    (fault_of _ _ rest rest None (place_more T start stream text fed frames x) refl none)
     some
     (at ∙ place_more T start stream text fed frames x)
     short
@@ -251,4 +255,4 @@ cut_behind T start stream text more behind fed place word x (in_short_frame fram
 pub cut_short : (T : Table) (stream text : List ℕ) (fed : Fed) (place : ℕ) (word : List ℕ) → Tells T 0 stream text fed → (fed.bytes ≡ [] → ⊥) → place ≡ fed.place → word ≡ codes "Short"
     → IsCutAt T 0 stream text place word
 cut_short T stream text fed place word x some at short =
-    in_short_frame x.frames fed.bytes x.splits x.lines (ap (λ (p : ℕ). fault_at p fed.bytes) (sym x.place) ∙ x.clean) some (at ∙ x.place) short
+    in_short_frame x.frames fed.bytes x.splits x.lines (fault_of _ _ fed.bytes fed.bytes None x.place refl x.clean) some (at ∙ x.place) short

@@ -4,6 +4,7 @@ pub mod Decodings
 pub mod Endings
 pub mod Faults
 pub mod KnownBytes
+mod MeaningLaws
 pub mod OneDecoding
 pub mod Sendings
 pub mod Short

@@ -1,5 +1,5 @@
 -- What `decode` tells of a stream of frames: a line for each frame, up to the first fault.
-use Rattle.std.specs.Prelude.{◌≡◌, ◌≢◌, ℕ, ◌+◌, ◌<◌, ◌≤◌, ◌==◌, List, [], ◌∷◌, ◌++◌, length, codes, All, Some, None, if◌then◌else◌}
+use Rattle.std.specs.Prelude.{◌≡◌, ◌≢◌, ℕ, ◌+◌, ◌<◌, ◌≤◌, ◌==◌, List, [], ◌∷◌, ◌++◌, length, codes, All, None, if◌then◌else◌}
 use Rattle.std.specs.Fmt.{decimal}
 use Rattle.mrpc_table.specs.Node.{Node}
 use Rattle.mrpc_table.specs.Text.{line}
@@ -9,7 +9,7 @@ use Rattle.wire_decode.specs.Means.{Means}
 use Rattle.wire_decode.specs.Faults.{IsFirstFault}
 use Rattle.wire_decode.specs.Reason.{reason_word}
 use Rattle.wire_decode.specs.declared.fault.DecodeReason.{DecodeReason}
-use Rattle.frame_transport.specs.Frames.{IsFrame, StandFrom, Splits, joined, fault_at}
+use Rattle.frame_transport.specs.Frames.{IsFrame, StandFrom, Splits, joined, IsFaultAt, HasFault}
 use Rattle.frame_transport.specs.declared.format.Frame.{Frame}
 use Rattle.frame_transport.specs.declared.fault.FeedFault.{FeedFault}
 use Rattle.frame_transport.specs.declared.fault.FeedFault.TheVariants.{Version, Kind, TooLong, Memory}
@@ -74,5 +74,5 @@ pub record IsDecoded (T : Table) (stream text : List ℕ) : Type 0 where
 -- front of it: a frame is at fault, or the header behind the whole frames, or the stream ends inside a frame.
 pub data IsCutAt (T : Table) (start : ℕ) (stream text : List ℕ) (place : ℕ) (word : List ℕ) : Type 0 where
   in_frame : (before : List Frame) (f : Frame) → StandInFront start stream (before ++ f ∷ []) → AreLinesOf T before text → IsFaultIn T f place word → IsCutAt T start stream text place word
-  in_header : (frames : List Frame) (rest : List ℕ) (fault : FeedFault) → Splits start stream frames rest → AreLinesOf T frames text → fault_at (start + length (joined frames)) rest ≡ Some fault → IsFaultOfHeader fault place word → IsCutAt T start stream text place word
-  in_short_frame : (frames : List Frame) (rest : List ℕ) → Splits start stream frames rest → AreLinesOf T frames text → fault_at (start + length (joined frames)) rest ≡ None → rest ≢ [] → place ≡ start + length (joined frames) → word ≡ codes "Short" → IsCutAt T start stream text place word
+  in_header : (frames : List Frame) (rest : List ℕ) (fault : FeedFault) → Splits start stream frames rest → AreLinesOf T frames text → IsFaultAt (start + length (joined frames)) rest fault → IsFaultOfHeader fault place word → IsCutAt T start stream text place word
+  in_short_frame : (frames : List Frame) (rest : List ℕ) → Splits start stream frames rest → AreLinesOf T frames text → HasFault (start + length (joined frames)) rest None → rest ≢ [] → place ≡ start + length (joined frames) → word ≡ codes "Short" → IsCutAt T start stream text place word

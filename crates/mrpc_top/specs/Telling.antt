@@ -2,7 +2,7 @@
 use Rattle.std.specs.Prelude.{◌≡◌, ℕ, ◌+◌, List, [], ◌∷◌, ◌++◌, length, None}
 use Rattle.mrpc_table.specs.declared.table.Table.{Table}
 use Rattle.frame_transport.specs.Feed.{Fed}
-use Rattle.frame_transport.specs.Frames.{Splits, joined, fault_at}
+use Rattle.frame_transport.specs.Frames.{Splits, joined, HasFault}
 use Rattle.frame_transport.specs.declared.format.Frame.{Frame}
 use Rattle.mrpc_top.specs.Decoding.{AreLinesOf, IsFaultIn, StandInFront}
 
@@ -30,4 +30,4 @@ pub record Tells (T : Table) (start : ℕ) (stream text : List ℕ) (fed : Fed) 
   pub splits : Splits start stream frames fed.bytes
   pub place : fed.place ≡ start + length (joined frames)
   pub behind : fed.behind ≡ 0
-  pub clean : fault_at fed.place fed.bytes ≡ None
+  pub clean : HasFault fed.place fed.bytes None

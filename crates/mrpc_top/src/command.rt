@@ -20,6 +20,7 @@ use mrpc_base::{Sink, Source, write_all};
 use mrpc_table::{Bytes, Memory};
 use script_lang::{ScriptFault, read_script};
 use std::alloc::Global;
+use wire_decode::{meaning_or_fault, one_fault, one_meaning};
 
 /// The work is done.
 pub const DONE: u8 = 0;
@@ -114,7 +115,11 @@ pub fn one_decoding()
     ensures cut { (T : Table) (stream told other word spelled : List ℕ) (place at : ℕ) → IsCutAt T 0 stream told place word
         → IsCutAt T 0 stream other at spelled → (place ≡ at) × (word ≡ spelled) × (told ≡ other) }
     ensures no_cut { (T : Table) (stream told other word : List ℕ) (place : ℕ) → IsDecoded T stream told → IsCutAt T 0 stream other place word → ⊥ }
-{}
+{
+    one_meaning();
+    one_fault();
+    meaning_or_fault();
+}
 
 /// A command of the program.
 #[derive(Clone, Copy, PartialEq, Eq)]
@@ -148,6 +153,7 @@ fn run<S: Source, K: Sink, W: Sink>(
     ensures unsent { result ≡ INPUT_FAILED → wire.new ≡ wire.old }
     ensures faultless { result ≡ WIRE_FAILED → (command ≡ Command.Replay) × IsScript (S.left input.old) }
 {
+    one_decoding();
     match read_input(alloc, input) {
         Input::Whole(text) => match command {
             Command::Replay => replay_text(alloc, &text, out, wire),

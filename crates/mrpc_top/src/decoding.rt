@@ -11,18 +11,12 @@ ghost use Rattle.mrpc_top.specs.Decoding.{IsLineOf, IsFaultIn, IsFaultOfHeader, 
 ghost use Rattle.mrpc_top.specs.Telling.{Gave, StopsIn, Tells};
 
 use call_ledger::{put_hex, put_number};
-use frame_transport::{Feed, FeedFault, Frame, HEADER_LEN};
+use frame_transport::{Feed, FeedFault, Frame, HEADER_LEN, HELLO, REQUEST};
 use mrpc_base::{Sink, write_all};
 use mrpc_table::{Bytes, Memory, Table};
 use std::alloc::Global;
 use wire_decode::{DecodeFault, decode};
 use wire_encode::encode;
-
-/// The kind of a request's frame.
-const REQUEST: u8 = 1;
-
-/// The kind of a hello.
-const HELLO: u8 = 3;
 
 /// Where the method stands in a frame.
 const METHOD_PLACE: u64 = 6;

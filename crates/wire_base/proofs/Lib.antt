@@ -1,3 +1,5 @@
-pub mod OneReading
-pub mod Varints
-pub mod Vectors
+mod Choices
+mod Lists
+mod OneReading
+mod Varints
+mod Vectors

@@ -8,6 +8,7 @@
 #![tactic(auto)]
 
 mod fault;
+mod laws;
 mod records;
 mod sign;
 #[cfg(test)]
@@ -15,6 +16,7 @@ mod tests;
 mod varint;
 
 pub use fault::{WireFault, WireReason};
+pub use laws::{payload_or_reason, record_or_fault, records_or_fault, varint_is_read_back};
 pub use records::{Payload, Record, read_record};
 pub use sign::{unzigzag, zigzag};
 pub use varint::{MAX_VARINT, Spelling, put_varint, read_varint, varint_len};

@@ -9,7 +9,7 @@ use Rattle.wire_base.specs.Encoding.{wire_type_of}
 use Rattle.wire_base.specs.Records.{PayloadAt, VarintAt}
 use Rattle.wire_base.specs.declared.records.Payload.{Payload}
 use Rattle.wire_base.specs.declared.records.Payload.TheVariants.{Varint, I64, I32}
-use Rattle.wire_base.proofs.OneReading.{PayloadAt-same}
+use Rattle.wire_decode.proofs.WireLaws.{OnePayload}
 use Rattle.wire_decode.specs.Words.{AreElements, number_in, word_of}
 use Rattle.wire_decode.specs.Reads.{numbers}
 use Rattle.wire_decode.specs.Parts.{IsFixedOrVarint}
@@ -69,17 +69,17 @@ append_one [] w ws = refl
 append_one (d ∷ ds) w ws = ap (λ xs. d ∷ xs) (append_one ds w ws)
 
 -- behind an element stand the other elements
-rest-behind : (k : Kind) (bytes : List ℕ) (at : ℕ) (e : ℕ × ℕ) (rest : List ℕ) → at < length bytes → IsElement bytes at (wire_type_of k) e → AreElements k bytes at rest → (tail : List ℕ) × AreElements k bytes e.1 tail
-rest-behind k bytes at e [] more here h = absurd (omega (arith, h))
-rest-behind k bytes at e (w ∷ ws) more here h =
-    let same = PayloadAt-same bytes at (wire_type_of k) h.0 here.0 h.1 e.1 h.2 here.1 in
+rest-behind : OnePayload → (k : Kind) (bytes : List ℕ) (at : ℕ) (e : ℕ × ℕ) (rest : List ℕ) → at < length bytes → IsElement bytes at (wire_type_of k) e → AreElements k bytes at rest → (tail : List ℕ) × AreElements k bytes e.1 tail
+rest-behind one_payload k bytes at e [] more here h = absurd (omega (arith, h))
+rest-behind one_payload k bytes at e (w ∷ ws) more here h =
+    let same = one_payload bytes at (wire_type_of k) h.0 here.0 h.1 e.1 h.2 here.1 in
     let P : ℕ → Type 0 = λ n. AreElements k bytes n ws in
     (ws, subst P same.1 h.4)
 
-pub sofar-more : (k : Kind) (bytes : List ℕ) (start at next v w : ℕ) (done : List ℕ) → at < length bytes → SoFar k bytes start at done → IsElement bytes at (wire_type_of k) (v, next) → w ≡ word_of k v → SoFar k bytes start next (done ++ w ∷ [])
-sofar-more k bytes start at next v w done more h e is = record {
+pub sofar-more : OnePayload → (k : Kind) (bytes : List ℕ) (start at next v w : ℕ) (done : List ℕ) → at < length bytes → SoFar k bytes start at done → IsElement bytes at (wire_type_of k) (v, next) → w ≡ word_of k v → SoFar k bytes start next (done ++ w ∷ [])
+sofar-more one_payload k bytes start at next v w done more h e is = record {
   front = λ ws g. let P : List ℕ → Type 0 = λ xs. AreElements k bytes start xs in subst P (append_one done w ws) (h.front (w ∷ ws) (e.0, next, e.1, is ∙ ap (word_of k) e.2, g));
-  back = λ ws g. let rest = h.back ws g in rest-behind k bytes at (v, next) rest.0 more e rest.1;
+  back = λ ws g. let rest = h.back ws g in rest-behind one_payload k bytes at (v, next) rest.0 more e rest.1;
 }
 
 pub sofar-end : (k : Kind) (bytes : List ℕ) (start at : ℕ) (done : List ℕ) → at ≡ length bytes → SoFar k bytes start at done → AreElements k bytes start done

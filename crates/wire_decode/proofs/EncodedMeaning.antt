@@ -17,11 +17,13 @@ use Rattle.mrpc_table.specs.declared.table.Table.{Table}
 use Rattle.wire_base.specs.Encoding.{kind_at, label_at, is_packed, key_kind, message_of, encoding}
 use Rattle.wire_decode.specs.Reads.{Reads, read_end, is_message}
 use Rattle.wire_decode.specs.Means.{Means}
-use Rattle.wire_decode.specs.Merged.{contents_of, items_in, items_from, values_in, join_fields, is_default, default_of, singular, element, part, entry, key_cmp, with_pair, last_of_each, present, present_if_set, some_items, some_pairs, field_content, with_content, with_fields, merged}
+use Rattle.map_entries.specs.Last.{key_cmp, with_pair, last_of_each}
+use Rattle.wire_decode.specs.Merged.{contents_of, items_in, items_from, values_in, join_fields, is_default, default_of, singular, element, part, entry, present, present_if_set, some_items, some_pairs, field_content, with_content, with_fields, merged}
+use Rattle.wire_decode.proofs.WireLaws.{ReadsBack}
 use Rattle.wire_decode.proofs.Adding.{contents-here}
 use Rattle.wire_decode.proofs.Reading.{join-none}
 use Rattle.wire_decode.proofs.Merging.{field-later, element-same, singular-one, content-none, fields-empty, merged-suc}
-use Rattle.wire_decode.proofs.PairOrder.{word-plain, run-plain}
+use Rattle.wire_decode.proofs.Plainness.{word-plain, run-plain}
 use Rattle.wire_decode.proofs.UsableTables.{AreFieldsFrom, IsUsableTable, IsRest, rest-start, rest-first, rest-more, at-none}
 use Rattle.wire_decode.proofs.RawTree.{raw_fields, raw_content, raw_item, raw_records, raw_entries}
 use Rattle.wire_decode.proofs.Stands.{stands-whole}
@@ -242,12 +244,12 @@ inner-back T zero usable = record { each = λ inside i t e h. absurd (omega (ari
 inner-back T (suc room) usable = record { each = λ inside i t e h. merged-step T room usable (inner-back T room usable) i t h }
 
 -- what is encoded means the tree
-pub encoded-meaning : (T : Table) (msg : ℕ) (t : Node) → IsUsableTable T → IsNormal T msg t → length (encoding T msg t) < 2 ^ 64 → Means T msg (encoding T msg t) t
-encoded-meaning T msg t usable h few =
+pub encoded-meaning : ReadsBack → (T : Table) (msg : ℕ) (t : Node) → IsUsableTable T → IsNormal T msg t → length (encoding T msg t) < 2 ^ 64 → Means T msg (encoding T msg t) t
+encoded-meaning back_read T msg t usable h few =
     let fs = fields_of T msg in
     let bytes = encoding T msg t in
     let raw = raw_fields T fs t in
-    let read = fields-reads T usable 31 msg bytes 0 0 t few h.fields h.depth (stands-whole bytes) no_fields (read_end (omega arith) refl) in
+    let read = fields-reads back_read T usable 31 msg bytes 0 0 t few h.fields h.depth (stands-whole bytes) no_fields (read_end (omega arith) refl) in
     record {
       raw = raw;
       reads = subst (λ (x : Node). Reads T 31 fs bytes 0 x) (join-none raw) read;

@@ -1,14 +1,14 @@
 -- The place of a fault is within the bytes.
-use Rattle.std.proofs.Common.{◌≡◌, ℕ, ◌≤◌, List, length, take, sym, subst, arith}
+use Rattle.std.proofs.Common.{ℕ, ◌≤◌, List, length, take, subst, arith}
 use Rattle.std.proofs.lemmas.List.{length-take}
 use Rattle.mrpc_table.specs.declared.table.Kind.{Kind}
 use Rattle.mrpc_table.specs.declared.table.Label.{Label}
 use Rattle.mrpc_table.specs.declared.table.Field.{Field}
 use Rattle.mrpc_table.specs.declared.table.Table.{Table}
-use Rattle.wire_base.specs.Records.{RecordAt, FaultAt, no_tag, tag_range, number_zero, wire_type, no_payload, IsWithin}
+use Rattle.wire_base.specs.Records.{FaultAt, no_tag, tag_range, number_zero, wire_type, no_payload, IsWithin}
 use Rattle.wire_base.specs.declared.records.Payload.{Payload}
 use Rattle.wire_base.specs.declared.fault.WireFault.{WireFault}
-use Rattle.wire_base.proofs.OneReading.{PayloadAt-span}
+use Rattle.wire_decode.proofs.Payloads.{PayloadAt-span}
 use Rattle.wire_decode.specs.declared.fault.DecodeReason.{DecodeReason}
 use Rattle.wire_decode.specs.Faults.{Faults, no_record, behind_other, behind_known, in_payload, Fails, no_elements, no_text, too_deep, in_message, in_entry, no_room}
 

@@ -1,28 +1,30 @@
-pub mod Adding
-pub mod Contents
-pub mod Elements
-pub mod EncodedCounts
-pub mod EncodedMeaning
-pub mod EncodedReads
-pub mod FaultPlaces
-pub mod Faulty
-pub mod FieldPlaces
-pub mod Gathering
-pub mod MapEntries
-pub mod Members
-pub mod Merging
-pub mod NormalMeaning
-pub mod Oneofs
-pub mod Only
-pub mod PairOrder
-pub mod RawTree
-pub mod Reading
-pub mod Rows
-pub mod Sorting
-pub mod Sound
-pub mod SpelledNumbers
-pub mod Stands
-pub mod Unique
-pub mod UsableTables
-pub mod WordForms
+mod Adding
+mod Choices
+mod Contents
+mod Elements
+mod EncodedCounts
+mod EncodedMeaning
+mod EncodedReads
+mod FaultPlaces
+mod Faulty
+mod FieldPlaces
+mod Gathering
+mod Members
+mod Merging
+mod NormalMeaning
+mod Oneofs
+mod Only
+mod Payloads
+mod Plainness
+mod RawTree
+mod Reading
+mod Rows
+mod Sorting
+mod Sound
+mod SpelledNumbers
+mod Stands
+mod Unique
+mod UsableTables
 mod Views
+mod WireLaws
+mod WordForms

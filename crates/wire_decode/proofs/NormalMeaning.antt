@@ -15,12 +15,14 @@ use Rattle.mrpc_table.specs.declared.table.Table.{Table}
 use Rattle.wire_decode.specs.Words.{is_map}
 use Rattle.wire_decode.specs.Reads.{is_message, HasRoom, entry_fields}
 use Rattle.wire_decode.specs.Means.{Means}
-use Rattle.wire_decode.specs.Merged.{contents_of, items_from, values_in, singles_in, join_fields, joined, last_value, is_default, default_of, singular, element, part, entry, last_of_each, present, present_if_set, some_items, some_pairs, field_content, is_overtaken, counted, with_content, with_fields, merged}
+use Rattle.wire_decode.specs.Merged.{contents_of, items_from, values_in, singles_in, join_fields, joined, last_value, is_default, default_of, singular, element, part, entry, present, present_if_set, some_items, some_pairs, field_content, is_overtaken, counted, with_content, with_fields, merged}
 use Rattle.wire_decode.proofs.Merging.{element-same, merged-suc}
 use Rattle.wire_decode.proofs.WordForms.{AreBytes}
 use Rattle.wire_decode.proofs.Sound.{SoundNode, SoundValue, SoundEntry, reads-sound, join-sound, AllContents, AllValues, AllEntries, contents-sound, singles-sound, values-sound, entries-sound, room-inside, joined-sound}
 use Rattle.wire_decode.proofs.UsableTables.{AreFieldsFrom, IsUsableTable, IsRest, rest-start, rest-first, rest-more}
-use Rattle.wire_decode.proofs.PairOrder.{not_message, put-pairs, put-depth, put-ascend}
+use Rattle.map_entries.specs.Last.{last_of_each}
+use Rattle.wire_decode.proofs.Plainness.{not_message}
+use Rattle.std.specs.List.{AllByRecursion}
 use Rattle.wire_decode.proofs.Members.{counted-no_rivals, members-one}
 
 -- a value of the kind, as deep as there is room for
@@ -135,16 +137,27 @@ record GoodPairs (T : Table) (key k : Kind) (room : ℕ) (ps : Pairs) : Type 0 w
   ascend : KeysAscend key ps
   depth : pairs_depth ps ≤ room
 
-last-pairs : (T : Table) (key k : Kind) (room : ℕ) (es : List (Item × Item)) → is_message key ≡ false → AllPairs T key k room es → GoodPairs T key k room (last_of_each key es)
-last-pairs T key k room [] plain h = record { all = tt; ascend = tt; depth = omega arith }
-last-pairs T key k room (e ∷ es) plain h =
-    let rest = last-pairs T key k room es plain h.1 in
-    let ps = last_of_each key es in
-    record {
-      all = put-pairs T key k e.0 e.1 ps h.0.0.0 h.0.1.0 rest.all;
-      ascend = put-ascend T key k e.0 e.1 ps plain h.0.0.0 rest.all rest.ascend;
-      depth = put-depth key room e.0 e.1 ps h.0.0.1 h.0.1.1 rest.depth;
-    }
+-- what is kept of entries is in normal form: the law of those entries
+abbrev pub KeptAreNormal : Type 0
+KeptAreNormal =
+    ((T : Table) (key k : Kind) (es : List (Item × Item)) → AllByRecursion (λ e. IsItem T key e.0 × IsItem T k e.1) es → ArePairs T key k (last_of_each key es))
+    × ((T : Table) (key k : Kind) (es : List (Item × Item)) → ((i : ℕ) → key ≢ OfMessage i) → AllByRecursion (λ e. IsItem T key e.0 × IsItem T k e.1) es → KeysAscend key (last_of_each key es))
+    × ((key : Kind) (room : ℕ) (es : List (Item × Item)) → AllByRecursion (λ e. (item_depth e.0 ≤ room) × (item_depth e.1 ≤ room)) es → pairs_depth (last_of_each key es) ≤ room)
+
+all-kinds : (T : Table) (key k : Kind) (room : ℕ) (es : List (Item × Item)) → AllPairs T key k room es → AllByRecursion (λ e. IsItem T key e.0 × IsItem T k e.1) es
+all-kinds T key k room [] h = tt
+all-kinds T key k room (e ∷ es) h = ((h.0.0.0, h.0.1.0), all-kinds T key k room es h.1)
+
+all-depths : (T : Table) (key k : Kind) (room : ℕ) (es : List (Item × Item)) → AllPairs T key k room es → AllByRecursion (λ e. (item_depth e.0 ≤ room) × (item_depth e.1 ≤ room)) es
+all-depths T key k room [] h = tt
+all-depths T key k room (e ∷ es) h = ((h.0.0.1, h.0.1.1), all-depths T key k room es h.1)
+
+last-pairs : (law : KeptAreNormal) (T : Table) (key k : Kind) (room : ℕ) (es : List (Item × Item)) → is_message key ≡ false → AllPairs T key k room es → GoodPairs T key k room (last_of_each key es)
+last-pairs law T key k room es plain h = record {
+  all = law.0 T key k es (all-kinds T key k room es h);
+  ascend = law.1 T key k es (λ i e. (let bad : false ≡ true = sym plain ∙ ap is_message e in cc)) (all-kinds T key k room es h);
+  depth = law.2 key room es (all-depths T key k room es h);
+}
 
 -- what a field has
 abbrev GoodContent : Table → Label → Kind → ℕ → Content → Type 0
@@ -192,15 +205,15 @@ map-good : (T : Table) (key k : Kind) (room : ℕ) (ps : Pairs) → GoodPairs T 
 map-good T key k room no_pairs h = tt
 map-good T key k room (pair i j ps) h = (key, refl, (λ e. cc), h)
 
-content-good : (T : Table) (room : ℕ) (inner : ℕ → Node → Node) (label : Label) (k : Kind) (cs : List Content) → Inner T room inner → ((key : Kind) → label ≡ Map key → is_message key ≡ false) → AllContents T room label k cs → IfSome (field_content inner label k cs) (GoodContent T label k (suc room))
-content-good T room inner Plain k cs fits plain h = set-good T k (suc room) (singular inner k (singles_in cs)) (singular-good T room inner k (singles_in cs) fits (singles-sound T room Plain k cs refl h))
-content-good T room inner Optional k cs fits plain h = optional-good T k (suc room) (singular inner k (singles_in cs)) (singular-good T room inner k (singles_in cs) fits (singles-sound T room Optional k cs refl h))
-content-good T room inner (Member o) k cs fits plain h = member-good T k (suc room) o (singular inner k (singles_in cs)) (singular-good T room inner k (singles_in cs) fits (singles-sound T room (Member o) k cs refl h))
-content-good T room inner Repeated k cs fits plain h = list-good T room inner Repeated k (values_in cs) fits tt (values-sound T room Repeated k cs refl h)
-content-good T room inner Packed k cs fits plain h = list-good T room inner Packed k (values_in cs) fits tt (values-sound T room Packed k cs refl h)
-content-good T room inner (Map key) k cs fits plain h =
+content-good : (law : KeptAreNormal) → (T : Table) (room : ℕ) (inner : ℕ → Node → Node) (label : Label) (k : Kind) (cs : List Content) → Inner T room inner → ((key : Kind) → label ≡ Map key → is_message key ≡ false) → AllContents T room label k cs → IfSome (field_content inner label k cs) (GoodContent T label k (suc room))
+content-good law T room inner Plain k cs fits plain h = set-good T k (suc room) (singular inner k (singles_in cs)) (singular-good T room inner k (singles_in cs) fits (singles-sound T room Plain k cs refl h))
+content-good law T room inner Optional k cs fits plain h = optional-good T k (suc room) (singular inner k (singles_in cs)) (singular-good T room inner k (singles_in cs) fits (singles-sound T room Optional k cs refl h))
+content-good law T room inner (Member o) k cs fits plain h = member-good T k (suc room) o (singular inner k (singles_in cs)) (singular-good T room inner k (singles_in cs) fits (singles-sound T room (Member o) k cs refl h))
+content-good law T room inner Repeated k cs fits plain h = list-good T room inner Repeated k (values_in cs) fits tt (values-sound T room Repeated k cs refl h)
+content-good law T room inner Packed k cs fits plain h = list-good T room inner Packed k (values_in cs) fits tt (values-sound T room Packed k cs refl h)
+content-good law T room inner (Map key) k cs fits plain h =
     let no_message = plain key refl in
-    map-good T key k (suc room) (last_of_each key (map (entry inner key k) (values_in cs))) (last-pairs T key k (suc room) (map (entry inner key k) (values_in cs)) no_message (entries-good T room inner key k (values_in cs) fits no_message (entries-sound T room key k cs h)))
+    map-good T key k (suc room) (last_of_each key (map (entry inner key k) (values_in cs))) (last-pairs law T key k (suc room) (map (entry inner key k) (values_in cs)) no_message (entries-good T room inner key k (values_in cs) fits no_message (entries-sound T room key k cs h)))
 
 -- fields, as deep as there is room for
 record GoodFields (T : Table) (fs : List Field) (last room : ℕ) (t : Node) : Type 0 where
@@ -226,13 +239,13 @@ with-good T fs last room f (Some (pairs ps)) t less at h rest = record {
   depth = let a = h.3.depth in let b = rest.depth in omega (arith, a, b);
 }
 
-fields-good : (T : Table) (room : ℕ) (inner : ℕ → Node → Node) (all : List Field) (kept : Node) (last : ℕ) (fs : List Field) → Inner T room inner → SoundNode T room all kept → AreFieldsFrom last fs → IsRest all last fs → GoodFields T all last (suc room) (with_fields inner kept fs)
-fields-good T room inner all kept last [] fits h are rest = record { fields = tt; depth = omega arith }
-fields-good T room inner all kept last (f ∷ fs) fits h are rest =
+fields-good : (law : KeptAreNormal) → (T : Table) (room : ℕ) (inner : ℕ → Node → Node) (all : List Field) (kept : Node) (last : ℕ) (fs : List Field) → Inner T room inner → SoundNode T room all kept → AreFieldsFrom last fs → IsRest all last fs → GoodFields T all last (suc room) (with_fields inner kept fs)
+fields-good law T room inner all kept last [] fits h are rest = record { fields = tt; depth = omega arith }
+fields-good law T room inner all kept last (f ∷ fs) fits h are rest =
     let at = rest-first all last f fs are.0 rest in
     with-good T all last (suc room) f (field_content inner f.label f.kind (contents_of f.number kept)) (with_fields inner kept fs) are.0 at
-    (content-good T room inner f.label f.kind (contents_of f.number kept) fits are.1.key (contents-sound T room all f.number f kept at h))
-    (fields-good T room inner all kept f.number fs fits h are.2 (rest-more all last f fs are.0 rest))
+    (content-good law T room inner f.label f.kind (contents_of f.number kept) fits are.1.key (contents-sound T room all f.number f kept at h))
+    (fields-good law T room inner all kept f.number fs fits h are.2 (rest-more all last f fs are.0 rest))
 
 counted-go : (T : Table) (room : ℕ) (fs : List Field) (n : ℕ) (c : Content) (t : Node) (b : Bool) → SoundNode T room fs (field n c t) → SoundNode T room fs (cond b t (field n c t))
 counted-go T room fs n c t true h = h.0
@@ -242,28 +255,28 @@ counted-sound : (T : Table) (room : ℕ) (fs all : List Field) (t : Node) → So
 counted-sound T room fs all no_fields h = tt
 counted-sound T room fs all (field n c t) h = counted-go T room fs n c (counted all t) (is_overtaken all n t) (counted-sound T room fs all t h.0, h.1, h.2, h.3)
 
-merged-step : (T : Table) (room : ℕ) → IsUsableTable T → Inner T room (merged T room) → (i : ℕ) (raw : Node) → SoundNode T room (fields_of T i) raw → FitsWithin T i (suc room) (merged T (suc room) i raw)
-merged-step T room usable fits i raw h =
+merged-step : (law : KeptAreNormal) → (T : Table) (room : ℕ) → IsUsableTable T → Inner T room (merged T room) → (i : ℕ) (raw : Node) → SoundNode T room (fields_of T i) raw → FitsWithin T i (suc room) (merged T (suc room) i raw)
+merged-step law T room usable fits i raw h =
     let fs = fields_of T i in
     let kept = counted fs raw in
-    let good = fields-good T room (merged T room) fs kept 0 fs fits (counted-sound T room fs fs raw h) (usable.each i) (rest-start fs) in
+    let good = fields-good law T room (merged T room) fs kept 0 fs fits (counted-sound T room fs fs raw h) (usable.each i) (rest-start fs) in
     subst (λ (t : Node). FitsWithin T i (suc room) t) (sym (merged-suc T room i raw)) (record {
       fields = good.fields;
       oneofs = λ o. members-one (merged T room) fs o kept fs 0 (counted-no_rivals fs raw) (usable.each i) (rest-start fs);
       depth = good.depth;
     })
 
-inner-fits : (T : Table) (room : ℕ) → IsUsableTable T → Inner T room (merged T room)
-inner-fits T zero usable = record { each = λ inside i u e h. absurd (omega (arith, e)) }
-inner-fits T (suc room) usable = record {
+inner-fits : (law : KeptAreNormal) → (T : Table) (room : ℕ) → IsUsableTable T → Inner T room (merged T room)
+inner-fits law T zero usable = record { each = λ inside i u e h. absurd (omega (arith, e)) }
+inner-fits law T (suc room) usable = record {
   each = λ inside i u e h.
       let same : inside ≡ room = omega (arith, e) in
-      merged-step T room usable (inner-fits T room usable) i u (subst (λ (x : ℕ). SoundNode T x (fields_of T i) u) same h);
+      merged-step law T room usable (inner-fits law T room usable) i u (subst (λ (x : ℕ). SoundNode T x (fields_of T i) u) same h);
 }
 
 -- bytes mean a normal tree
-pub normal-meaning : (T : Table) (msg : ℕ) (bytes : List ℕ) (t : Node) → IsUsableTable T → AreBytes bytes → Means T msg bytes t → IsNormal T msg t
-normal-meaning T msg bytes t usable small h =
-    let fits = merged-step T 31 usable (inner-fits T 31 usable) msg h.raw (reads-sound h.reads small) in
+pub normal-meaning : (law : KeptAreNormal) → (T : Table) (msg : ℕ) (bytes : List ℕ) (t : Node) → IsUsableTable T → AreBytes bytes → Means T msg bytes t → IsNormal T msg t
+normal-meaning law T msg bytes t usable small h =
+    let fits = merged-step law T 31 usable (inner-fits law T 31 usable) msg h.raw (reads-sound h.reads small) in
     let normal : IsNormal T msg (merged T 32 msg h.raw) = record { fields = fits.fields; oneofs = fits.oneofs; depth = fits.depth } in
     subst (λ (u : Node). IsNormal T msg u) (sym h.value) normal

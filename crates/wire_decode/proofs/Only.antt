@@ -4,10 +4,14 @@ use Rattle.mrpc_table.specs.Node.{Node}
 use Rattle.mrpc_table.specs.declared.table.Table.{Table}
 use Rattle.wire_decode.specs.declared.fault.DecodeFault.{DecodeFault}
 use Rattle.wire_decode.specs.declared.fault.DecodeFault.TheVariants.{At, Memory}
+use Rattle.wire_decode.specs.declared.fault.DecodeReason.{DecodeReason}
 use Rattle.wire_decode.specs.Means.{Means}
 use Rattle.wire_decode.specs.Faults.{FaultsAs, IsFirstFault}
-use Rattle.wire_decode.proofs.Unique.{reads-faultless}
 
-pub only-memory : (T : Table) (msg : ℕ) (bytes : List ℕ) (t : Node) (f : DecodeFault) → Means T msg bytes t → FaultsAs (IsFirstFault T msg bytes) f → f ≡ Memory
-only-memory T msg bytes t Memory m h = refl
-only-memory T msg bytes t (At reason place) m h = absurd (reads-faultless m.reads h)
+-- bytes don't have both
+abbrev pub NotBoth : Type 0
+NotBoth = (T : Table) (msg : ℕ) (bytes : List ℕ) (t : Node) (reason : DecodeReason) (place : ℕ) → Means T msg bytes t → IsFirstFault T msg bytes reason place → ⊥
+
+pub only-memory : NotBoth → (T : Table) (msg : ℕ) (bytes : List ℕ) (t : Node) (f : DecodeFault) → Means T msg bytes t → FaultsAs (IsFirstFault T msg bytes) f → f ≡ Memory
+only-memory not_both T msg bytes t Memory m h = refl
+only-memory not_both T msg bytes t (At reason place) m h = absurd (not_both T msg bytes t reason place m h)

@@ -12,6 +12,7 @@ use Rattle.wire_base.specs.Records.{PayloadAt}
 use Rattle.wire_base.specs.declared.records.Payload.{Payload}
 use Rattle.wire_base.specs.declared.records.Payload.TheVariants.{Varint, I64, I32}
 use Rattle.wire_decode.specs.Words.{sign_extended, unzigzag_of, word_of, number_in}
+use Rattle.wire_decode.proofs.WireLaws.{ReadsBack}
 use Rattle.wire_decode.proofs.WordForms.{extended-low, extended-high, unzigzag-even, unzigzag-odd}
 use Rattle.wire_decode.proofs.Stands.{Stands, stands-within, stands-slice, stands-varint}
 
@@ -103,21 +104,21 @@ four-stands bytes at n small h =
     let end = at + length (to_le_bytes w32 n) in
     (refl, omega arith, stands-within bytes at (to_le_bytes w32 n) h, sym (ap (from_le_bytes w32) (stands-slice bytes at (to_le_bytes w32 n) end refl h) ∙ from_le_bytes-to_le_bytes_4 n small))
 
-pub number-stands : (bytes : List ℕ) (at : ℕ) (k : Kind) (n : ℕ) → IsWordForm k n → Stands bytes at (number_bytes k n) → PayloadAt bytes at (wire_type_of k) (payload_of k n) (at + length (number_bytes k n))
-number-stands bytes at Int32 n h s = (refl, stands-varint bytes at n (signed-below n h) s)
-number-stands bytes at (Choice i) n h s = (refl, stands-varint bytes at n (signed-below n h) s)
-number-stands bytes at Int64 n h s = (refl, stands-varint bytes at n h s)
-number-stands bytes at Uint32 n h s = (refl, stands-varint bytes at n (omega (arith, h)) s)
-number-stands bytes at Uint64 n h s = (refl, stands-varint bytes at n h s)
-number-stands bytes at TheBool n h s = (refl, stands-varint bytes at n (omega (arith, h)) s)
-number-stands bytes at Sint32 n h s = (refl, stands-varint bytes at (zigzag_of n) (zigzag-below n (signed-below n h)) s)
-number-stands bytes at Sint64 n h s = (refl, stands-varint bytes at (zigzag_of n) (zigzag-below n h) s)
-number-stands bytes at Fixed64 n h s = eight-stands bytes at n h s
-number-stands bytes at Sfixed64 n h s = eight-stands bytes at n h s
-number-stands bytes at Double n h s = eight-stands bytes at n h s
-number-stands bytes at Fixed32 n h s = four-stands bytes at n h s
-number-stands bytes at Sfixed32 n h s = four-stands bytes at (n % 2 ^ 32) (omega arith) s
-number-stands bytes at Float n h s = four-stands bytes at n h s
-number-stands bytes at Text n h s = absurd h
-number-stands bytes at Octets n h s = absurd h
-number-stands bytes at (Message i) n h s = absurd h
+pub number-stands : ReadsBack → (bytes : List ℕ) (at : ℕ) (k : Kind) (n : ℕ) → IsWordForm k n → Stands bytes at (number_bytes k n) → PayloadAt bytes at (wire_type_of k) (payload_of k n) (at + length (number_bytes k n))
+number-stands back_read bytes at Int32 n h s = (refl, stands-varint back_read bytes at n (signed-below n h) s)
+number-stands back_read bytes at (Choice i) n h s = (refl, stands-varint back_read bytes at n (signed-below n h) s)
+number-stands back_read bytes at Int64 n h s = (refl, stands-varint back_read bytes at n h s)
+number-stands back_read bytes at Uint32 n h s = (refl, stands-varint back_read bytes at n (omega (arith, h)) s)
+number-stands back_read bytes at Uint64 n h s = (refl, stands-varint back_read bytes at n h s)
+number-stands back_read bytes at TheBool n h s = (refl, stands-varint back_read bytes at n (omega (arith, h)) s)
+number-stands back_read bytes at Sint32 n h s = (refl, stands-varint back_read bytes at (zigzag_of n) (zigzag-below n (signed-below n h)) s)
+number-stands back_read bytes at Sint64 n h s = (refl, stands-varint back_read bytes at (zigzag_of n) (zigzag-below n h) s)
+number-stands back_read bytes at Fixed64 n h s = eight-stands bytes at n h s
+number-stands back_read bytes at Sfixed64 n h s = eight-stands bytes at n h s
+number-stands back_read bytes at Double n h s = eight-stands bytes at n h s
+number-stands back_read bytes at Fixed32 n h s = four-stands bytes at n h s
+number-stands back_read bytes at Sfixed32 n h s = four-stands bytes at (n % 2 ^ 32) (omega arith) s
+number-stands back_read bytes at Float n h s = four-stands bytes at n h s
+number-stands back_read bytes at Text n h s = absurd h
+number-stands back_read bytes at Octets n h s = absurd h
+number-stands back_read bytes at (Message i) n h s = absurd h

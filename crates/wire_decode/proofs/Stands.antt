@@ -6,7 +6,7 @@ use Rattle.wire_base.specs.Encoding.{varint, tag, delimited}
 use Rattle.wire_base.specs.Records.{VarintAt, PayloadAt, RecordAt}
 use Rattle.wire_base.specs.declared.records.Payload.{Payload}
 use Rattle.wire_base.specs.declared.records.Payload.TheVariants.{Len}
-use Rattle.wire_base.proofs.Varints.{VarintAt-varint}
+use Rattle.wire_decode.proofs.WireLaws.{ReadsBack}
 
 pub record Stands (bytes : List ℕ) (at : ℕ) (piece : List ℕ) : Type 0 where
   pub before : List ℕ
@@ -62,18 +62,18 @@ stands-cut bytes at piece end e h =
 pub cut-length : (bytes : List ℕ) (at : ℕ) (piece : List ℕ) (end : ℕ) → end ≡ at + length piece → Stands bytes at piece → length (take end bytes) ≡ end
 cut-length bytes at piece end e h = length-take-le end bytes (let w = stands-within bytes at piece h in omega (arith, e, w))
 
-pub stands-varint : (bytes : List ℕ) (at v : ℕ) → v < 2 ^ 64 → Stands bytes at (varint v) → VarintAt bytes at v (at + length (varint v))
-stands-varint bytes at v small h =
-    let here : VarintAt bytes (length h.before) v (length h.before + length (varint v)) = subst (λ (xs : List ℕ). VarintAt xs (length h.before) v (length h.before + length (varint v))) (sym h.is) (VarintAt-varint h.before h.after v small) in
+pub stands-varint : ReadsBack → (bytes : List ℕ) (at v : ℕ) → v < 2 ^ 64 → Stands bytes at (varint v) → VarintAt bytes at v (at + length (varint v))
+stands-varint back_read bytes at v small h =
+    let here : VarintAt bytes (length h.before) v (length h.before + length (varint v)) = subst (λ (xs : List ℕ). VarintAt xs (length h.before) v (length h.before + length (varint v))) (sym h.is) (back_read h.before h.after v small) in
     subst (λ (k : ℕ). VarintAt bytes k v (k + length (varint v))) (sym h.place) here
 
 -- a tag, and a payload behind it
-pub stands-record : (bytes : List ℕ) (at n w : ℕ) (p : Payload) (next : ℕ) → 0 < n → n < 2 ^ 29 → w < 8 → Stands bytes at (tag n w) → PayloadAt bytes (at + length (tag n w)) w p next → RecordAt bytes at (record { number = n; payload = p; next = next })
-stands-record bytes at n w p next positive small type h payload = record {
+pub stands-record : ReadsBack → (bytes : List ℕ) (at n w : ℕ) (p : Payload) (next : ℕ) → 0 < n → n < 2 ^ 29 → w < 8 → Stands bytes at (tag n w) → PayloadAt bytes (at + length (tag n w)) w p next → RecordAt bytes at (record { number = n; payload = p; next = next })
+stands-record back_read bytes at n w p next positive small type h payload = record {
   tag = 8 * n + w;
   start = at + length (tag n w);
   tagged = record {
-    stands = stands-varint bytes at (8 * n + w) (omega (arith, small, type)) h;
+    stands = stands-varint back_read bytes at (8 * n + w) (omega (arith, small, type)) h;
     small = omega (arith, small, type);
     numbered = λ e. omega (arith, e, positive, type);
   };
@@ -94,7 +94,7 @@ stands-inner piece h = stands-right (varint (length piece)) piece h
 pub end-length : (at : ℕ) (piece : List ℕ) → end_of at piece ≡ at + length (delimited piece)
 end-length at piece = omega (arith, length-append (varint (length piece)) piece)
 
-pub stands-delimited : (bytes : List ℕ) (at : ℕ) (piece : List ℕ) → length bytes < 2 ^ 64 → Stands bytes at (delimited piece) → PayloadAt bytes at 2 (Len (start_of at piece) (end_of at piece)) (at + length (delimited piece))
-stands-delimited bytes at piece few h =
+pub stands-delimited : ReadsBack → (bytes : List ℕ) (at : ℕ) (piece : List ℕ) → length bytes < 2 ^ 64 → Stands bytes at (delimited piece) → PayloadAt bytes at 2 (Len (start_of at piece) (end_of at piece)) (at + length (delimited piece))
+stands-delimited back_read bytes at piece few h =
     let within : end_of at piece ≤ length bytes = stands-within bytes (start_of at piece) piece (stands-inner piece h) in
-    (refl, length piece, stands-varint bytes at (length piece) (omega (arith, few, within)) (stands-left (varint (length piece)) piece h), refl, within, sym (end-length at piece))
+    (refl, length piece, stands-varint back_read bytes at (length piece) (omega (arith, few, within)) (stands-left (varint (length piece)) piece h), refl, within, sym (end-length at piece))

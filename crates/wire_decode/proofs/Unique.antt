@@ -1,5 +1,5 @@
 -- Bytes are read in one way, bytes that are read have no fault, and others one first fault.
-use Rattle.std.proofs.Common.{◌≡◌, ◌≢◌, ℕ, suc, ◌%◌, ◌<◌, ◌&&◌, ◌==◌, List, [], ◌∷◌, length, take, Option, Some, Bool, true, false, cond, refl, ap, sym, subst, ◌∙◌, arith}
+use Rattle.std.proofs.Common.{◌≡◌, ◌≢◌, ℕ, suc, ◌<◌, ◌&&◌, ◌==◌, List, [], ◌∷◌, length, take, Option, Some, Bool, true, false, cond, refl, ap, sym, subst, ◌∙◌, arith}
 use Rattle.std.specs.Option.{option_map, unwrap_or}
 use Rattle.std.specs.List.{slice_range}
 use Rattle.std.specs.Str.{IsUtf8}
@@ -18,7 +18,8 @@ use Rattle.wire_base.specs.declared.records.Payload.{Payload}
 use Rattle.wire_base.specs.declared.records.Payload.TheVariants.{Len}
 use Rattle.wire_base.specs.declared.records.Record.{Record}
 use Rattle.wire_base.specs.declared.fault.WireFault.{WireFault}
-use Rattle.wire_base.proofs.OneReading.{RecordAt-same, RecordAt-no_fault, FaultAt-same, PayloadAt-same, PayloadAt-ahead, PayloadAt-within, VarintAt-moves}
+use Rattle.wire_decode.proofs.WireLaws.{Law}
+use Rattle.wire_decode.proofs.Payloads.{PayloadAt-ahead, PayloadAt-within, RecordAt-ahead, RecordAt-within}
 use Rattle.std.proofs.lemmas.Bool.{or_left, or_right, eq-eqb}
 use Rattle.wire_decode.specs.Words.{word_of, number_in, payload_type, own_type, is_map, may_be_packed, suits, AreElements}
 use Rattle.wire_decode.specs.Reads.{Reads, read_end, read_other, read_known, Holds, holds_number, holds_piece, holds_text, holds_octets, holds_message, holds_entry, numbers, entry_fields, is_known}
@@ -27,27 +28,23 @@ use Rattle.wire_decode.specs.declared.fault.DecodeReason.{DecodeReason}
 
 -- a record is within the bytes
 record-ahead : (bytes : List ℕ) (at : ℕ) (r : Record) → RecordAt bytes at r → at < length bytes
-record-ahead bytes at r h =
-    let a = PayloadAt-ahead bytes h.start (h.tag % 8) r.payload r.next h.payload in
-    let w = PayloadAt-within bytes h.start (h.tag % 8) r.payload r.next h.payload in
-    let m = VarintAt-moves h.tagged.stands in
-    omega (arith, a, w, m)
+record-ahead bytes at r h = let a = RecordAt-ahead bytes at r h in let w = RecordAt-within bytes at r h in omega (arith, a, w)
 
-pub elements-same : (k : Kind) (bytes : List ℕ) (at : ℕ) (ws vs : List ℕ) → AreElements k bytes at ws → AreElements k bytes at vs → ws ≡ vs
-elements-same k bytes at [] [] g h = refl
-elements-same k bytes at [] (v ∷ vs) g h =
+pub elements-same : Law → (k : Kind) (bytes : List ℕ) (at : ℕ) (ws vs : List ℕ) → AreElements k bytes at ws → AreElements k bytes at vs → ws ≡ vs
+elements-same law k bytes at [] [] g h = refl
+elements-same law k bytes at [] (v ∷ vs) g h =
     let a = PayloadAt-ahead bytes at (wire_type_of k) h.0 h.1 h.2 in
     let w = PayloadAt-within bytes at (wire_type_of k) h.0 h.1 h.2 in
     absurd (omega (arith, a, w, g))
-elements-same k bytes at (w ∷ ws) [] g h =
+elements-same law k bytes at (w ∷ ws) [] g h =
     let a = PayloadAt-ahead bytes at (wire_type_of k) g.0 g.1 g.2 in
     let b = PayloadAt-within bytes at (wire_type_of k) g.0 g.1 g.2 in
     absurd (omega (arith, a, b, h))
-elements-same k bytes at (w ∷ ws) (v ∷ vs) g h =
-    let same = PayloadAt-same bytes at (wire_type_of k) g.0 h.0 g.1 h.1 g.2 h.2 in
+elements-same law k bytes at (w ∷ ws) (v ∷ vs) g h =
+    let same = law.one_payload bytes at (wire_type_of k) g.0 h.0 g.1 h.1 g.2 h.2 in
     let word : w ≡ v = g.3 ∙ ap (λ p. word_of k (number_in p)) same.0 ∙ sym h.3 in
     let P : ℕ → Type 0 = λ n. AreElements k bytes n vs in
-    let rest = elements-same k bytes g.1 ws vs g.4 (subst P (sym same.1) h.4) in
+    let rest = elements-same law k bytes g.1 ws vs g.4 (subst P (sym same.1) h.4) in
     ap (λ x. x ∷ ws) word ∙ ap (λ xs. v ∷ xs) rest
 
 -- which reader a payload has: of numbers, packed numbers, text, bytes, messages, entries
@@ -171,54 +168,54 @@ some-same : (f g : Field) (o : Option Field) → o ≡ Some f → o ≡ Some g �
 some-same f g o a b = (let e : Some f ≡ Some g = sym a ∙ b in cc)
 
 mutual
-  pub reads-same : {T : Table} {room : ℕ} {fs : List Field} {bytes : List ℕ} {at : ℕ} {t u : Node} → Reads T room fs bytes at t → Reads T room fs bytes at u → t ≡ u
-  reads-same (read_end a b) (read_end c d) = b ∙ sym d
-  reads-same {bytes = bytes} {at = at} (read_end a b) (read_other r here other g) = absurd (let h = record-ahead bytes at r here in omega (arith, h, a))
-  reads-same {bytes = bytes} {at = at} (read_end a b) (read_known r f c rest here at_f holds is g) = absurd (let h = record-ahead bytes at r here in omega (arith, h, a))
-  reads-same {bytes = bytes} {at = at} (read_other r here other g) (read_end a b) = absurd (let h = record-ahead bytes at r here in omega (arith, h, a))
-  reads-same {T} {room} {fs} {bytes} {at} {t} {u} (read_other r here other g) (read_other r' here' other' g') =
-      let same = RecordAt-same bytes at r r' here here' in
+  pub reads-same : Law → {T : Table} {room : ℕ} {fs : List Field} {bytes : List ℕ} {at : ℕ} {t u : Node} → Reads T room fs bytes at t → Reads T room fs bytes at u → t ≡ u
+  reads-same law (read_end a b) (read_end c d) = b ∙ sym d
+  reads-same law {bytes = bytes} {at = at} (read_end a b) (read_other r here other g) = absurd (let h = record-ahead bytes at r here in omega (arith, h, a))
+  reads-same law {bytes = bytes} {at = at} (read_end a b) (read_known r f c rest here at_f holds is g) = absurd (let h = record-ahead bytes at r here in omega (arith, h, a))
+  reads-same law {bytes = bytes} {at = at} (read_other r here other g) (read_end a b) = absurd (let h = record-ahead bytes at r here in omega (arith, h, a))
+  reads-same law {T} {room} {fs} {bytes} {at} {t} {u} (read_other r here other g) (read_other r' here' other' g') =
+      let same = law.one_record bytes at r r' here here' in
       let P : Record → Type 0 = λ x. Reads T room fs bytes x.next u in
-      reads-same g (subst P (sym same) g')
-  reads-same {T} {room} {fs} {bytes} {at} {t} {u} (read_other r here other g) (read_known r' f c rest here' at_f holds is g') =
-      let same = RecordAt-same bytes at r r' here here' in
+      reads-same law g (subst P (sym same) g')
+  reads-same law {T} {room} {fs} {bytes} {at} {t} {u} (read_other r here other g) (read_known r' f c rest here' at_f holds is g') =
+      let same = law.one_record bytes at r r' here here' in
       absurd (both (is_known fs r') (known fs r' f at_f (holds-suits holds)) (sym (ap (is_known fs) same) ∙ other))
-  reads-same {bytes = bytes} {at = at} (read_known r f c rest here at_f holds is g) (read_end a b) = absurd (let h = record-ahead bytes at r here in omega (arith, h, a))
-  reads-same {T} {room} {fs} {bytes} {at} {t} {u} (read_known r f c rest here at_f holds is g) (read_other r' here' other' g') =
-      let same = RecordAt-same bytes at r r' here here' in
+  reads-same law {bytes = bytes} {at = at} (read_known r f c rest here at_f holds is g) (read_end a b) = absurd (let h = record-ahead bytes at r here in omega (arith, h, a))
+  reads-same law {T} {room} {fs} {bytes} {at} {t} {u} (read_known r f c rest here at_f holds is g) (read_other r' here' other' g') =
+      let same = law.one_record bytes at r r' here here' in
       absurd (both (is_known fs r) (known fs r f at_f (holds-suits holds)) (ap (is_known fs) same ∙ other'))
-  reads-same {T} {room} {fs} {bytes} {at} {t} {u} (read_known r f c rest here at_f holds is g) (read_known r' f' c' rest' here' at_f' holds' is' g') =
-      let same : r' ≡ r = RecordAt-same bytes at r' r here' here in
+  reads-same law {T} {room} {fs} {bytes} {at} {t} {u} (read_known r f c rest here at_f holds is g) (read_known r' f' c' rest' here' at_f' holds' is' g') =
+      let same : r' ≡ r = law.one_record bytes at r' r here' here in
       let N : Record → Type 0 = λ x. Reads T room fs bytes x.next rest' in
       let F : Record → Type 0 = λ x. field_at fs x.number ≡ Some f' in
       let H : Record → Type 0 = λ x. Holds T room f'.label f'.kind bytes x.payload c' in
       let G : Field → Type 0 = λ x. Holds T room x.label x.kind bytes r.payload c' in
       let one_field : f' ≡ f = some-same f' f (field_at fs r.number) (subst F same at_f') at_f in
-      let contents = holds-same holds (subst G one_field (subst H same holds')) in
-      let rests = reads-same g (subst N same g') in
+      let contents = holds-same law holds (subst G one_field (subst H same holds')) in
+      let rests = reads-same law g (subst N same g') in
       is ∙ ap (λ x. field r.number x rest) contents ∙ ap (field r.number c') rests ∙ ap (λ x. field x.number c' rest') (sym same) ∙ sym is'
 
-  holds-same : {T : Table} {room : ℕ} {label : Label} {k : Kind} {bytes : List ℕ} {p : Payload} {c d : Content} → Holds T room label k bytes p c → Holds T room label k bytes p d → c ≡ d
-  holds-same (holds_number single numeric typed is) (holds_number single' numeric' typed' is') = is ∙ sym is'
-  holds-same {k = k} {bytes = bytes} (holds_piece s e ws packed at whole is) (holds_piece s' e' ws' packed' at' whole' is') =
+  holds-same : Law → {T : Table} {room : ℕ} {label : Label} {k : Kind} {bytes : List ℕ} {p : Payload} {c d : Content} → Holds T room label k bytes p c → Holds T room label k bytes p d → c ≡ d
+  holds-same law (holds_number single numeric typed is) (holds_number single' numeric' typed' is') = is ∙ sym is'
+  holds-same law {k = k} {bytes = bytes} (holds_piece s e ws packed at whole is) (holds_piece s' e' ws' packed' at' whole' is') =
       let same : Len s' e' ≡ Len s e = sym at' ∙ at in
       let starts : s' ≡ s = cc in
       let ends : e' ≡ e = cc in
       let P : ℕ → Type 0 = λ x. AreElements k (take e' bytes) x ws' in
       let Q : ℕ → Type 0 = λ x. AreElements k (take x bytes) s ws' in
-      let words = elements-same k (take e bytes) s ws ws' whole (subst Q ends (subst P starts whole')) in
+      let words = elements-same law k (take e bytes) s ws ws' whole (subst Q ends (subst P starts whole')) in
       is ∙ ap (λ x. many (numbers x)) words ∙ sym is'
-  holds-same {bytes = bytes} (holds_text s e single kind at utf8 is) (holds_text s' e' single' kind' at' utf8' is') =
+  holds-same law {bytes = bytes} (holds_text s e single kind at utf8 is) (holds_text s' e' single' kind' at' utf8' is') =
       let same : Len s e ≡ Len s' e' = sym at ∙ at' in
       let starts : s ≡ s' = cc in
       let ends : e ≡ e' = cc in
       is ∙ ap (λ x. one (run (slice_range bytes x e))) starts ∙ ap (λ x. one (run (slice_range bytes s' x))) ends ∙ sym is'
-  holds-same {bytes = bytes} (holds_octets s e single kind at is) (holds_octets s' e' single' kind' at' is') =
+  holds-same law {bytes = bytes} (holds_octets s e single kind at is) (holds_octets s' e' single' kind' at' is') =
       let same : Len s e ≡ Len s' e' = sym at ∙ at' in
       let starts : s ≡ s' = cc in
       let ends : e ≡ e' = cc in
       is ∙ ap (λ x. one (run (slice_range bytes x e))) starts ∙ ap (λ x. one (run (slice_range bytes s' x))) ends ∙ sym is'
-  holds-same {T} {room} {label} {k} {bytes} {p} {c} {d} (holds_message inside i s e t single kind at room_is reads is) (holds_message inside' i' s' e' t' single' kind' at' room_is' reads' is') =
+  holds-same law {T} {room} {label} {k} {bytes} {p} {c} {d} (holds_message inside i s e t single kind at room_is reads is) (holds_message inside' i' s' e' t' single' kind' at' room_is' reads' is') =
       let same : Len s' e' ≡ Len s e = sym at' ∙ at in
       let starts : s' ≡ s = cc in
       let ends : e' ≡ e = cc in
@@ -229,9 +226,9 @@ mutual
       let B : ℕ → Type 0 = λ x. Reads T inside (fields_of T x) (take e' bytes) s' t' in
       let C : ℕ → Type 0 = λ x. Reads T inside (fields_of T i) (take x bytes) s' t' in
       let D : ℕ → Type 0 = λ x. Reads T inside (fields_of T i) (take e bytes) x t' in
-      let trees = reads-same reads (subst D starts (subst C ends (subst B place (subst A rooms reads')))) in
+      let trees = reads-same law reads (subst D starts (subst C ends (subst B place (subst A rooms reads')))) in
       is ∙ ap (λ x. one (node x)) trees ∙ sym is'
-  holds-same {T} {room} {label} {k} {bytes} {p} {c} {d} (holds_entry key s e t map at reads room_is is) (holds_entry key' s' e' t' map' at' reads' room_is' is') =
+  holds-same law {T} {room} {label} {k} {bytes} {p} {c} {d} (holds_entry key s e t map at reads room_is is) (holds_entry key' s' e' t' map' at' reads' room_is' is') =
       let same : Len s' e' ≡ Len s e = sym at' ∙ at in
       let starts : s' ≡ s = cc in
       let ends : e' ≡ e = cc in
@@ -240,9 +237,9 @@ mutual
       let B : Kind → Type 0 = λ x. Reads T room (entry_fields x k) (take e' bytes) s' t' in
       let C : ℕ → Type 0 = λ x. Reads T room (entry_fields key k) (take x bytes) s' t' in
       let D : ℕ → Type 0 = λ x. Reads T room (entry_fields key k) (take e bytes) x t' in
-      let trees = reads-same reads (subst D starts (subst C ends (subst B keys reads'))) in
+      let trees = reads-same law reads (subst D starts (subst C ends (subst B keys reads'))) in
       is ∙ ap (λ x. one (node x)) trees ∙ sym is'
-  holds-same a b = absurd (let h : index a ≡ index b = sym (index-class a) ∙ index-class b in omega (arith, h))
+  holds-same law a b = absurd (let h : index a ≡ index b = sym (index-class a) ∙ index-class b in omega (arith, h))
 
 -- a single number, and bytes, have no fault of their own
 fail-kinds : {T : Table} {room : ℕ} {label : Label} {k : Kind} {bytes : List ℕ} {p : Payload} {reason : DecodeReason} {place : ℕ} (h : Fails T room label k bytes p reason place) → (0 < fail_index h) × (fail_index h ≢ 3)
@@ -254,50 +251,50 @@ fail-kinds (in_entry key s e map at faults) = (omega arith, λ e. omega (arith, 
 fail-kinds (no_room key e t map at reads room is) = (omega arith, λ e. omega (arith, e))
 
 mutual
-  pub reads-faultless : {T : Table} {room : ℕ} {fs : List Field} {bytes : List ℕ} {at : ℕ} {t : Node} {reason : DecodeReason} {place : ℕ} → Reads T room fs bytes at t → Faults T room fs bytes at reason place → ⊥
-  reads-faultless (read_end a b) (no_record f more fault is at_is) = omega (arith, more, a)
-  reads-faultless {bytes = bytes} {at = at} (read_end a b) (behind_other r here other g) = let h = record-ahead bytes at r here in omega (arith, h, a)
-  reads-faultless {bytes = bytes} {at = at} (read_end a b) (behind_known r f c here at_f holds g) = let h = record-ahead bytes at r here in omega (arith, h, a)
-  reads-faultless {bytes = bytes} {at = at} (read_end a b) (in_payload r f here at_f fails) = let h = record-ahead bytes at r here in omega (arith, h, a)
-  reads-faultless {bytes = bytes} {at = at} (read_other r here other g) (no_record f more fault is at_is) = RecordAt-no_fault bytes at r f here fault
-  reads-faultless {T} {room} {fs} {bytes} {at} {t} {reason} {place} (read_other r here other g) (behind_other r' here' other' g') =
+  pub reads-faultless : Law → {T : Table} {room : ℕ} {fs : List Field} {bytes : List ℕ} {at : ℕ} {t : Node} {reason : DecodeReason} {place : ℕ} → Reads T room fs bytes at t → Faults T room fs bytes at reason place → ⊥
+  reads-faultless law (read_end a b) (no_record f more fault is at_is) = omega (arith, more, a)
+  reads-faultless law {bytes = bytes} {at = at} (read_end a b) (behind_other r here other g) = let h = record-ahead bytes at r here in omega (arith, h, a)
+  reads-faultless law {bytes = bytes} {at = at} (read_end a b) (behind_known r f c here at_f holds g) = let h = record-ahead bytes at r here in omega (arith, h, a)
+  reads-faultless law {bytes = bytes} {at = at} (read_end a b) (in_payload r f here at_f fails) = let h = record-ahead bytes at r here in omega (arith, h, a)
+  reads-faultless law {bytes = bytes} {at = at} (read_other r here other g) (no_record f more fault is at_is) = law.not_both bytes at r f here fault
+  reads-faultless law {T} {room} {fs} {bytes} {at} {t} {reason} {place} (read_other r here other g) (behind_other r' here' other' g') =
       let P : Record → Type 0 = λ x. Faults T room fs bytes x.next reason place in
-      reads-faultless g (subst P (RecordAt-same bytes at r' r here' here) g')
-  reads-faultless {T} {room} {fs} {bytes} {at} (read_other r here other g) (behind_known r' f c here' at_f holds g') =
-      both (is_known fs r') (known fs r' f at_f (holds-suits holds)) (ap (is_known fs) (RecordAt-same bytes at r' r here' here) ∙ other)
-  reads-faultless {T} {room} {fs} {bytes} {at} (read_other r here other g) (in_payload r' f here' at_f fails) =
-      both (is_known fs r') (known fs r' f at_f (fails-suits fails)) (ap (is_known fs) (RecordAt-same bytes at r' r here' here) ∙ other)
-  reads-faultless {bytes = bytes} {at = at} (read_known r f c rest here at_f holds is g) (no_record w more fault is_w at_is) = RecordAt-no_fault bytes at r w here fault
-  reads-faultless {T} {room} {fs} {bytes} {at} (read_known r f c rest here at_f holds is g) (behind_other r' here' other' g') =
-      both (is_known fs r) (known fs r f at_f (holds-suits holds)) (ap (is_known fs) (RecordAt-same bytes at r r' here here') ∙ other')
-  reads-faultless {T} {room} {fs} {bytes} {at} {t} {reason} {place} (read_known r f c rest here at_f holds is g) (behind_known r' f' c' here' at_f' holds' g') =
+      reads-faultless law g (subst P (law.one_record bytes at r' r here' here) g')
+  reads-faultless law {T} {room} {fs} {bytes} {at} (read_other r here other g) (behind_known r' f c here' at_f holds g') =
+      both (is_known fs r') (known fs r' f at_f (holds-suits holds)) (ap (is_known fs) (law.one_record bytes at r' r here' here) ∙ other)
+  reads-faultless law {T} {room} {fs} {bytes} {at} (read_other r here other g) (in_payload r' f here' at_f fails) =
+      both (is_known fs r') (known fs r' f at_f (fails-suits fails)) (ap (is_known fs) (law.one_record bytes at r' r here' here) ∙ other)
+  reads-faultless law {bytes = bytes} {at = at} (read_known r f c rest here at_f holds is g) (no_record w more fault is_w at_is) = law.not_both bytes at r w here fault
+  reads-faultless law {T} {room} {fs} {bytes} {at} (read_known r f c rest here at_f holds is g) (behind_other r' here' other' g') =
+      both (is_known fs r) (known fs r f at_f (holds-suits holds)) (ap (is_known fs) (law.one_record bytes at r r' here here') ∙ other')
+  reads-faultless law {T} {room} {fs} {bytes} {at} {t} {reason} {place} (read_known r f c rest here at_f holds is g) (behind_known r' f' c' here' at_f' holds' g') =
       let P : Record → Type 0 = λ x. Faults T room fs bytes x.next reason place in
-      reads-faultless g (subst P (RecordAt-same bytes at r' r here' here) g')
-  reads-faultless {T} {room} {fs} {bytes} {at} {t} {reason} {place} (read_known r f c rest here at_f holds is g) (in_payload r' f' here' at_f' fails) =
-      let same : r' ≡ r = RecordAt-same bytes at r' r here' here in
+      reads-faultless law g (subst P (law.one_record bytes at r' r here' here) g')
+  reads-faultless law {T} {room} {fs} {bytes} {at} {t} {reason} {place} (read_known r f c rest here at_f holds is g) (in_payload r' f' here' at_f' fails) =
+      let same : r' ≡ r = law.one_record bytes at r' r here' here in
       let F : Record → Type 0 = λ x. field_at fs x.number ≡ Some f' in
       let H : Record → Type 0 = λ x. Fails T room f'.label f'.kind bytes x.payload reason place in
       let G : Field → Type 0 = λ x. Fails T room x.label x.kind bytes r.payload reason place in
       let one_field : f' ≡ f = some-same f' f (field_at fs r.number) (subst F same at_f') at_f in
-      holds-faultless holds (subst G one_field (subst H same fails))
+      holds-faultless law holds (subst G one_field (subst H same fails))
 
-  holds-faultless : {T : Table} {room : ℕ} {label : Label} {k : Kind} {bytes : List ℕ} {p : Payload} {c : Content} {reason : DecodeReason} {place : ℕ} → Holds T room label k bytes p c → Fails T room label k bytes p reason place → ⊥
-  holds-faultless {k = k} {bytes = bytes} {place = place} (holds_piece s e ws packed at whole is) (no_elements e' packed' at' is' none) =
+  holds-faultless : Law → {T : Table} {room : ℕ} {label : Label} {k : Kind} {bytes : List ℕ} {p : Payload} {c : Content} {reason : DecodeReason} {place : ℕ} → Holds T room label k bytes p c → Fails T room label k bytes p reason place → ⊥
+  holds-faultless law {k = k} {bytes = bytes} {place = place} (holds_piece s e ws packed at whole is) (no_elements e' packed' at' is' none) =
       let same : Len s e ≡ Len place e' = sym at ∙ at' in
       let starts : s ≡ place = cc in
       let ends : e ≡ e' = cc in
       let P : ℕ → Type 0 = λ x. AreElements k (take e bytes) x ws in
       let Q : ℕ → Type 0 = λ x. AreElements k (take x bytes) place ws in
       none ws (subst Q ends (subst P starts whole))
-  holds-faultless {bytes = bytes} {place = place} (holds_text s e single kind at utf8 is) (no_text e' single' kind' at' is' none) =
+  holds-faultless law {bytes = bytes} {place = place} (holds_text s e single kind at utf8 is) (no_text e' single' kind' at' is' none) =
       let same : Len s e ≡ Len place e' = sym at ∙ at' in
       let starts : s ≡ place = cc in
       let ends : e ≡ e' = cc in
       let P : ℕ → Type 0 = λ x. IsUtf8 (slice_range bytes x e) in
       let Q : ℕ → Type 0 = λ x. IsUtf8 (slice_range bytes place x) in
       none (subst Q ends (subst P starts utf8))
-  holds-faultless (holds_message inside i s e t single kind at room_is reads is) (too_deep i' e' single' kind' at' room_is' is') = (let h : suc inside ≡ 0 = sym room_is ∙ room_is' in omega (arith, h))
-  holds-faultless {T} {room} {label} {k} {bytes} {p} {c} {reason} {place} (holds_message inside i s e t single kind at room_is reads is) (in_message inside' i' s' e' single' kind' at' room_is' faults') =
+  holds-faultless law (holds_message inside i s e t single kind at room_is reads is) (too_deep i' e' single' kind' at' room_is' is') = (let h : suc inside ≡ 0 = sym room_is ∙ room_is' in omega (arith, h))
+  holds-faultless law {T} {room} {label} {k} {bytes} {p} {c} {reason} {place} (holds_message inside i s e t single kind at room_is reads is) (in_message inside' i' s' e' single' kind' at' room_is' faults') =
       let same : Len s' e' ≡ Len s e = sym at' ∙ at in
       let starts : s' ≡ s = cc in
       let ends : e' ≡ e = cc in
@@ -308,8 +305,8 @@ mutual
       let B : ℕ → Type 0 = λ x. Faults T inside (fields_of T x) (take e' bytes) s' reason place in
       let C : ℕ → Type 0 = λ x. Faults T inside (fields_of T i) (take x bytes) s' reason place in
       let D : ℕ → Type 0 = λ x. Faults T inside (fields_of T i) (take e bytes) x reason place in
-      reads-faultless reads (subst D starts (subst C ends (subst B at_i (subst A rooms faults'))))
-  holds-faultless {T} {room} {label} {k} {bytes} {p} {c} {reason} {place} (holds_entry key s e t map at reads room_is is) (in_entry key' s' e' map' at' faults') =
+      reads-faultless law reads (subst D starts (subst C ends (subst B at_i (subst A rooms faults'))))
+  holds-faultless law {T} {room} {label} {k} {bytes} {p} {c} {reason} {place} (holds_entry key s e t map at reads room_is is) (in_entry key' s' e' map' at' faults') =
       let same : Len s' e' ≡ Len s e = sym at' ∙ at in
       let starts : s' ≡ s = cc in
       let ends : e' ≡ e = cc in
@@ -318,26 +315,26 @@ mutual
       let B : Kind → Type 0 = λ x. Faults T room (entry_fields x k) (take e' bytes) s' reason place in
       let C : ℕ → Type 0 = λ x. Faults T room (entry_fields key k) (take x bytes) s' reason place in
       let D : ℕ → Type 0 = λ x. Faults T room (entry_fields key k) (take e bytes) x reason place in
-      reads-faultless reads (subst D starts (subst C ends (subst B keys faults')))
-  holds-faultless (holds_entry key s e t map at reads room_is is) (no_room key' e' t' map' at' reads' none is') = none room_is
-  holds-faultless {T} {room} {label} {k} {bytes} {p} {c} (holds_number single numeric typed is) b =
+      reads-faultless law reads (subst D starts (subst C ends (subst B keys faults')))
+  holds-faultless law (holds_entry key s e t map at reads room_is is) (no_room key' e' t' map' at' reads' none is') = none room_is
+  holds-faultless law {T} {room} {label} {k} {bytes} {p} {c} (holds_number single numeric typed is) b =
       let a : Holds T room label k bytes p c = holds_number single numeric typed is in
       let h : 0 ≡ fail_index b = sym (index-class a) ∙ fail-class b in
       let more = (fail-kinds b).0 in
       omega (arith, h, more)
-  holds-faultless {T} {room} {label} {k} {bytes} {p} {c} (holds_octets s e single kind at is) b =
+  holds-faultless law {T} {room} {label} {k} {bytes} {p} {c} (holds_octets s e single kind at is) b =
       let a : Holds T room label k bytes p c = holds_octets s e single kind at is in
       (fail-kinds b).1 (sym (fail-class b) ∙ index-class a)
-  holds-faultless a b = let h : index a ≡ fail_index b = sym (index-class a) ∙ fail-class b in omega (arith, h)
+  holds-faultless law a b = let h : index a ≡ fail_index b = sym (index-class a) ∙ fail-class b in omega (arith, h)
 
 -- ---- one fault
 
 -- a payload of the record that stands there fails in one way
-fails-at : (T : Table) (room : ℕ) (fs : List Field) (bytes : List ℕ) (at : ℕ) (r r' : Record) (f f' : Field) (reason : DecodeReason) (place : ℕ)
+fails-at : Law → (T : Table) (room : ℕ) (fs : List Field) (bytes : List ℕ) (at : ℕ) (r r' : Record) (f f' : Field) (reason : DecodeReason) (place : ℕ)
     → RecordAt bytes at r → RecordAt bytes at r' → field_at fs r.number ≡ Some f → field_at fs r'.number ≡ Some f'
     → Fails T room f'.label f'.kind bytes r'.payload reason place → Fails T room f.label f.kind bytes r.payload reason place
-fails-at T room fs bytes at r r' f f' reason place here here' at_f at_f' fails =
-    let same : r' ≡ r = RecordAt-same bytes at r' r here' here in
+fails-at law T room fs bytes at r r' f f' reason place here here' at_f at_f' fails =
+    let same : r' ≡ r = law.one_record bytes at r' r here' here in
     let F : Record → Type 0 = λ x. field_at fs x.number ≡ Some f' in
     let H : Record → Type 0 = λ x. Fails T room f'.label f'.kind bytes x.payload reason place in
     let G : Field → Type 0 = λ x. Fails T room x.label x.kind bytes r.payload reason place in
@@ -345,10 +342,10 @@ fails-at T room fs bytes at r r' f f' reason place here here' at_f at_f' fails =
     subst G one_field (subst H same fails)
 
 -- an entry that is read has no fault
-entry-faultless : (T : Table) (room : ℕ) (label : Label) (k : Kind) (bytes : List ℕ) (p : Payload) (key key' : Kind) (s e s' e' : ℕ) (t : Node) (reason : DecodeReason) (place : ℕ)
+entry-faultless : Law → (T : Table) (room : ℕ) (label : Label) (k : Kind) (bytes : List ℕ) (p : Payload) (key key' : Kind) (s e s' e' : ℕ) (t : Node) (reason : DecodeReason) (place : ℕ)
     → label ≡ Map key → label ≡ Map key' → p ≡ Len s e → p ≡ Len s' e'
     → Reads T room (entry_fields key' k) (take e' bytes) s' t → Faults T room (entry_fields key k) (take e bytes) s reason place → ⊥
-entry-faultless T room label k bytes p key key' s e s' e' t reason place map map' at at' reads faults =
+entry-faultless law T room label k bytes p key key' s e s' e' t reason place map map' at at' reads faults =
     let same : Len s e ≡ Len s' e' = sym at ∙ at' in
     let starts : s ≡ s' = cc in
     let ends : e ≡ e' = cc in
@@ -357,53 +354,53 @@ entry-faultless T room label k bytes p key key' s e s' e' t reason place map map
     let B : Kind → Type 0 = λ x. Faults T room (entry_fields x k) (take e bytes) s reason place in
     let C : ℕ → Type 0 = λ x. Faults T room (entry_fields key' k) (take x bytes) s reason place in
     let D : ℕ → Type 0 = λ x. Faults T room (entry_fields key' k) (take e' bytes) x reason place in
-    reads-faultless reads (subst D starts (subst C ends (subst B keys faults)))
+    reads-faultless law reads (subst D starts (subst C ends (subst B keys faults)))
 
 len-start : (p : Payload) (s e s' e' : ℕ) → p ≡ Len s e → p ≡ Len s' e' → s ≡ s'
 len-start p s e s' e' a b = let same : Len s e ≡ Len s' e' = sym a ∙ b in cc
 
 -- a first fault is the only one
 mutual
-  pub faults-same : {T : Table} {room : ℕ} {fs : List Field} {bytes : List ℕ} {at : ℕ} {reason why : DecodeReason} {place there : ℕ}
+  pub faults-same : Law → {T : Table} {room : ℕ} {fs : List Field} {bytes : List ℕ} {at : ℕ} {reason why : DecodeReason} {place there : ℕ}
       → Faults T room fs bytes at reason place → Faults T room fs bytes at why there → (reason ≡ why) × (place ≡ there)
-  faults-same {bytes = bytes} {at = at} (no_record f more fault is at_is) (no_record g more' fault' is' at_is') =
-      let one : f ≡ g = FaultAt-same bytes at f g fault fault' in
+  faults-same law {bytes = bytes} {at = at} (no_record f more fault is at_is) (no_record g more' fault' is' at_is') =
+      let one : f ≡ g = law.one_fault bytes at f g fault fault' in
       (is ∙ ap (λ (x : WireFault). reason_of x.reason) one ∙ sym is', at_is ∙ ap (λ (x : WireFault). x.place) one ∙ sym at_is')
-  faults-same {bytes = bytes} {at = at} (no_record f more fault is at_is) (behind_other r here other g) = absurd (RecordAt-no_fault bytes at r f here fault)
-  faults-same {bytes = bytes} {at = at} (no_record f more fault is at_is) (behind_known r h c here at_f holds g) = absurd (RecordAt-no_fault bytes at r f here fault)
-  faults-same {bytes = bytes} {at = at} (no_record f more fault is at_is) (in_payload r h here at_f fails) = absurd (RecordAt-no_fault bytes at r f here fault)
-  faults-same {bytes = bytes} {at = at} (behind_other r here other g) (no_record f more fault is at_is) = absurd (RecordAt-no_fault bytes at r f here fault)
-  faults-same {T} {room} {fs} {bytes} {at} {reason} {why} {place} {there} (behind_other r here other g) (behind_other r' here' other' g') =
+  faults-same law {bytes = bytes} {at = at} (no_record f more fault is at_is) (behind_other r here other g) = absurd (law.not_both bytes at r f here fault)
+  faults-same law {bytes = bytes} {at = at} (no_record f more fault is at_is) (behind_known r h c here at_f holds g) = absurd (law.not_both bytes at r f here fault)
+  faults-same law {bytes = bytes} {at = at} (no_record f more fault is at_is) (in_payload r h here at_f fails) = absurd (law.not_both bytes at r f here fault)
+  faults-same law {bytes = bytes} {at = at} (behind_other r here other g) (no_record f more fault is at_is) = absurd (law.not_both bytes at r f here fault)
+  faults-same law {T} {room} {fs} {bytes} {at} {reason} {why} {place} {there} (behind_other r here other g) (behind_other r' here' other' g') =
       let P : Record → Type 0 = λ x. Faults T room fs bytes x.next why there in
-      faults-same g (subst P (RecordAt-same bytes at r' r here' here) g')
-  faults-same {T} {room} {fs} {bytes} {at} (behind_other r here other g) (behind_known r' f c here' at_f holds g') =
-      absurd (both (is_known fs r') (known fs r' f at_f (holds-suits holds)) (ap (is_known fs) (RecordAt-same bytes at r' r here' here) ∙ other))
-  faults-same {T} {room} {fs} {bytes} {at} (behind_other r here other g) (in_payload r' f here' at_f fails) =
-      absurd (both (is_known fs r') (known fs r' f at_f (fails-suits fails)) (ap (is_known fs) (RecordAt-same bytes at r' r here' here) ∙ other))
-  faults-same {bytes = bytes} {at = at} (behind_known r h c here at_f holds g) (no_record f more fault is at_is) = absurd (RecordAt-no_fault bytes at r f here fault)
-  faults-same {T} {room} {fs} {bytes} {at} (behind_known r f c here at_f holds g) (behind_other r' here' other g') =
-      absurd (both (is_known fs r) (known fs r f at_f (holds-suits holds)) (ap (is_known fs) (RecordAt-same bytes at r r' here here') ∙ other))
-  faults-same {T} {room} {fs} {bytes} {at} {reason} {why} {place} {there} (behind_known r f c here at_f holds g) (behind_known r' f' c' here' at_f' holds' g') =
+      faults-same law g (subst P (law.one_record bytes at r' r here' here) g')
+  faults-same law {T} {room} {fs} {bytes} {at} (behind_other r here other g) (behind_known r' f c here' at_f holds g') =
+      absurd (both (is_known fs r') (known fs r' f at_f (holds-suits holds)) (ap (is_known fs) (law.one_record bytes at r' r here' here) ∙ other))
+  faults-same law {T} {room} {fs} {bytes} {at} (behind_other r here other g) (in_payload r' f here' at_f fails) =
+      absurd (both (is_known fs r') (known fs r' f at_f (fails-suits fails)) (ap (is_known fs) (law.one_record bytes at r' r here' here) ∙ other))
+  faults-same law {bytes = bytes} {at = at} (behind_known r h c here at_f holds g) (no_record f more fault is at_is) = absurd (law.not_both bytes at r f here fault)
+  faults-same law {T} {room} {fs} {bytes} {at} (behind_known r f c here at_f holds g) (behind_other r' here' other g') =
+      absurd (both (is_known fs r) (known fs r f at_f (holds-suits holds)) (ap (is_known fs) (law.one_record bytes at r r' here here') ∙ other))
+  faults-same law {T} {room} {fs} {bytes} {at} {reason} {why} {place} {there} (behind_known r f c here at_f holds g) (behind_known r' f' c' here' at_f' holds' g') =
       let P : Record → Type 0 = λ x. Faults T room fs bytes x.next why there in
-      faults-same g (subst P (RecordAt-same bytes at r' r here' here) g')
-  faults-same {T} {room} {fs} {bytes} {at} {reason} {why} {place} {there} (behind_known r f c here at_f holds g) (in_payload r' f' here' at_f' fails) =
-      absurd (holds-faultless holds (fails-at T room fs bytes at r r' f f' why there here here' at_f at_f' fails))
-  faults-same {bytes = bytes} {at = at} (in_payload r h here at_f fails) (no_record f more fault is at_is) = absurd (RecordAt-no_fault bytes at r f here fault)
-  faults-same {T} {room} {fs} {bytes} {at} (in_payload r f here at_f fails) (behind_other r' here' other g') =
-      absurd (both (is_known fs r) (known fs r f at_f (fails-suits fails)) (ap (is_known fs) (RecordAt-same bytes at r r' here here') ∙ other))
-  faults-same {T} {room} {fs} {bytes} {at} {reason} {why} {place} {there} (in_payload r f here at_f fails) (behind_known r' f' c' here' at_f' holds' g') =
-      absurd (holds-faultless holds' (fails-at T room fs bytes at r' r f' f reason place here' here at_f' at_f fails))
-  faults-same {T} {room} {fs} {bytes} {at} {reason} {why} {place} {there} (in_payload r f here at_f fails) (in_payload r' f' here' at_f' fails') =
-      fails-same fails (fails-at T room fs bytes at r r' f f' why there here here' at_f at_f' fails')
+      faults-same law g (subst P (law.one_record bytes at r' r here' here) g')
+  faults-same law {T} {room} {fs} {bytes} {at} {reason} {why} {place} {there} (behind_known r f c here at_f holds g) (in_payload r' f' here' at_f' fails) =
+      absurd (holds-faultless law holds (fails-at law T room fs bytes at r r' f f' why there here here' at_f at_f' fails))
+  faults-same law {bytes = bytes} {at = at} (in_payload r h here at_f fails) (no_record f more fault is at_is) = absurd (law.not_both bytes at r f here fault)
+  faults-same law {T} {room} {fs} {bytes} {at} (in_payload r f here at_f fails) (behind_other r' here' other g') =
+      absurd (both (is_known fs r) (known fs r f at_f (fails-suits fails)) (ap (is_known fs) (law.one_record bytes at r r' here here') ∙ other))
+  faults-same law {T} {room} {fs} {bytes} {at} {reason} {why} {place} {there} (in_payload r f here at_f fails) (behind_known r' f' c' here' at_f' holds' g') =
+      absurd (holds-faultless law holds' (fails-at law T room fs bytes at r' r f' f reason place here' here at_f' at_f fails))
+  faults-same law {T} {room} {fs} {bytes} {at} {reason} {why} {place} {there} (in_payload r f here at_f fails) (in_payload r' f' here' at_f' fails') =
+      fails-same law fails (fails-at law T room fs bytes at r r' f f' why there here here' at_f at_f' fails')
 
-  fails-same : {T : Table} {room : ℕ} {label : Label} {k : Kind} {bytes : List ℕ} {p : Payload} {reason why : DecodeReason} {place there : ℕ}
+  fails-same : Law → {T : Table} {room : ℕ} {label : Label} {k : Kind} {bytes : List ℕ} {p : Payload} {reason why : DecodeReason} {place there : ℕ}
       → Fails T room label k bytes p reason place → Fails T room label k bytes p why there → (reason ≡ why) × (place ≡ there)
-  fails-same {p = p} {place = s} {there = s'} (no_elements e packed at is none) (no_elements e' packed' at' is' none') = (is ∙ sym is', len-start p s e s' e' at at')
-  fails-same {p = p} {place = s} {there = s'} (no_text e single kind at is none) (no_text e' single' kind' at' is' none') = (is ∙ sym is', len-start p s e s' e' at at')
-  fails-same {p = p} {place = s} {there = s'} (too_deep i e single kind at room is) (too_deep i' e' single' kind' at' room' is') = (is ∙ sym is', len-start p s e s' e' at at')
-  fails-same (too_deep i e single kind at room_is is) (in_message inside i' s' e' single' kind' at' room_is' faults') = absurd (let h : suc inside ≡ 0 = sym room_is' ∙ room_is in omega (arith, h))
-  fails-same (in_message inside i s e single kind at room_is faults) (too_deep i' e' single' kind' at' room_is' is') = absurd (let h : suc inside ≡ 0 = sym room_is ∙ room_is' in omega (arith, h))
-  fails-same {T} {room} {label} {k} {bytes} {p} {reason} {why} {place} {there} (in_message inside i s e single kind at room_is faults) (in_message inside' i' s' e' single' kind' at' room_is' faults') =
+  fails-same law {p = p} {place = s} {there = s'} (no_elements e packed at is none) (no_elements e' packed' at' is' none') = (is ∙ sym is', len-start p s e s' e' at at')
+  fails-same law {p = p} {place = s} {there = s'} (no_text e single kind at is none) (no_text e' single' kind' at' is' none') = (is ∙ sym is', len-start p s e s' e' at at')
+  fails-same law {p = p} {place = s} {there = s'} (too_deep i e single kind at room is) (too_deep i' e' single' kind' at' room' is') = (is ∙ sym is', len-start p s e s' e' at at')
+  fails-same law (too_deep i e single kind at room_is is) (in_message inside i' s' e' single' kind' at' room_is' faults') = absurd (let h : suc inside ≡ 0 = sym room_is' ∙ room_is in omega (arith, h))
+  fails-same law (in_message inside i s e single kind at room_is faults) (too_deep i' e' single' kind' at' room_is' is') = absurd (let h : suc inside ≡ 0 = sym room_is ∙ room_is' in omega (arith, h))
+  fails-same law {T} {room} {label} {k} {bytes} {p} {reason} {why} {place} {there} (in_message inside i s e single kind at room_is faults) (in_message inside' i' s' e' single' kind' at' room_is' faults') =
       let same : Len s' e' ≡ Len s e = sym at' ∙ at in
       let starts : s' ≡ s = cc in
       let ends : e' ≡ e = cc in
@@ -414,8 +411,8 @@ mutual
       let B : ℕ → Type 0 = λ x. Faults T inside (fields_of T x) (take e' bytes) s' why there in
       let C : ℕ → Type 0 = λ x. Faults T inside (fields_of T i) (take x bytes) s' why there in
       let D : ℕ → Type 0 = λ x. Faults T inside (fields_of T i) (take e bytes) x why there in
-      faults-same faults (subst D starts (subst C ends (subst B at_i (subst A rooms faults'))))
-  fails-same {T} {room} {label} {k} {bytes} {p} {reason} {why} {place} {there} (in_entry key s e map at faults) (in_entry key' s' e' map' at' faults') =
+      faults-same law faults (subst D starts (subst C ends (subst B at_i (subst A rooms faults'))))
+  fails-same law {T} {room} {label} {k} {bytes} {p} {reason} {why} {place} {there} (in_entry key s e map at faults) (in_entry key' s' e' map' at' faults') =
       let same : Len s' e' ≡ Len s e = sym at' ∙ at in
       let starts : s' ≡ s = cc in
       let ends : e' ≡ e = cc in
@@ -424,10 +421,10 @@ mutual
       let B : Kind → Type 0 = λ x. Faults T room (entry_fields x k) (take e' bytes) s' why there in
       let C : ℕ → Type 0 = λ x. Faults T room (entry_fields key k) (take x bytes) s' why there in
       let D : ℕ → Type 0 = λ x. Faults T room (entry_fields key k) (take e bytes) x why there in
-      faults-same faults (subst D starts (subst C ends (subst B keys faults')))
-  fails-same {T} {room} {label} {k} {bytes} {p} {reason} {why} {place} {there} (in_entry key s e map at faults) (no_room key' e' t' map' at' reads' none' is') =
-      absurd (entry-faultless T room label k bytes p key key' s e there e' t' reason place map map' at at' reads' faults)
-  fails-same {T} {room} {label} {k} {bytes} {p} {reason} {why} {place} {there} (no_room key e t map at reads none is) (in_entry key' s' e' map' at' faults') =
-      absurd (entry-faultless T room label k bytes p key' key s' e' place e t why there map' map at' at reads faults')
-  fails-same {p = p} {place = s} {there = s'} (no_room key e t map at reads none is) (no_room key' e' t' map' at' reads' none' is') = (is ∙ sym is', len-start p s e s' e' at at')
-  fails-same a b = absurd (let h : fail_index a ≡ fail_index b = sym (fail-class a) ∙ fail-class b in omega (arith, h))
+      faults-same law faults (subst D starts (subst C ends (subst B keys faults')))
+  fails-same law {T} {room} {label} {k} {bytes} {p} {reason} {why} {place} {there} (in_entry key s e map at faults) (no_room key' e' t' map' at' reads' none' is') =
+      absurd (entry-faultless law T room label k bytes p key key' s e there e' t' reason place map map' at at' reads' faults)
+  fails-same law {T} {room} {label} {k} {bytes} {p} {reason} {why} {place} {there} (no_room key e t map at reads none is) (in_entry key' s' e' map' at' faults') =
+      absurd (entry-faultless law T room label k bytes p key' key s' e' place e t why there map' map at' at reads faults')
+  fails-same law {p = p} {place = s} {there = s'} (no_room key e t map at reads none is) (no_room key' e' t' map' at' reads' none' is') = (is ∙ sym is', len-start p s e s' e' at at')
+  fails-same law a b = absurd (let h : fail_index a ≡ fail_index b = sym (fail-class a) ∙ fail-class b in omega (arith, h))

@@ -1,8 +1,6 @@
 -- The contents of a field's records in one content, which means what they mean.
 use Rattle.std.specs.Prelude.{◌≡◌, ◌≢◌, ℕ, ◌<◌, ◌≤◌, Bool, true, false, Option, Some, None, option_and_then, List, [], ◌∷◌, ◌++◌}
 use Rattle.mrpc_table.specs.Node.{Node, no_fields, field, Content, Item}
-use Rattle.mrpc_table.specs.View.{item_of}
-use Rattle.mrpc_table.specs.declared.tree.Value.{Value}
 use Rattle.mrpc_table.specs.Normal.{field_at}
 use Rattle.mrpc_table.specs.declared.table.Field.{Field}
 use Rattle.mrpc_table.specs.declared.table.Kind.{Kind}
@@ -99,6 +97,3 @@ part_of inner k (Some v) = element inner k v
 
 abbrev pub entry_of : (ℕ → Node → Node) → Kind → Kind → Node → Item × Item
 entry_of inner key k t = (part inner 1 key t, part inner 2 k t)
-
-abbrev pub items_of_entry : Value × Value → Item × Item
-items_of_entry e = (item_of e.0, item_of e.1)

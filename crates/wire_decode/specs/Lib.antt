@@ -1,6 +1,5 @@
 pub mod Ascending
 pub mod Behind
-pub mod Entries
 pub mod Faults
 pub mod Gathered
 pub mod Means

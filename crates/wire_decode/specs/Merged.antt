@@ -1,13 +1,9 @@
 -- The message that the contents of records, in the order of the bytes, stand for: each field has its value from
 -- the records of its number alone (Protocol Buffers, "Encoding": "Last One Wins", "Oneofs", "Maps").
 use Rattle.std.specs.Prelude.{◌==◌, ◌||◌, ◌&&◌, ℕ, zero, suc, Bool, true, false, not, List, [], ◌∷◌, ◌++◌, map, Option, Some, None, option_and_then, unwrap_or, if◌then◌else◌}
-use Rattle.std.specs.Ordering.{nat_cmp}
-use Rattle.std.specs.declared.cmp.Ordering.{Ordering}
-use Rattle.std.specs.declared.cmp.Ordering.TheVariants.{Less, Equal, Greater}
-use Rattle.std.specs.Cmp.Lexicographic.{slice_cmp}
 use Rattle.mrpc_table.specs.Node.{Node, no_fields, field, Content, one, many, pairs, Item, number, run, node, Items, no_items, item, Pairs, no_pairs, pair}
 use Rattle.mrpc_table.specs.Normal.{fields_of, field_at}
-use Rattle.mrpc_table.specs.Words.{rank}
+use Rattle.map_entries.specs.Last.{last_of_each}
 use Rattle.mrpc_table.specs.declared.table.Kind.{Kind}
 use Rattle.mrpc_table.specs.declared.table.Kind.TheVariants.{Text, Octets, Message as OfMessage}
 use Rattle.mrpc_table.specs.declared.table.Label.{Label}
@@ -87,25 +83,6 @@ part inner n k t = unwrap_or (singular inner k (singles_in (contents_of n t))) (
 
 abbrev pub entry : (ℕ → Node → Node) → Kind → Kind → Item → Item × Item
 entry inner key k v = (part inner 1 key (joined (v ∷ [])), part inner 2 k (joined (v ∷ [])))
-
--- keys as numbers of their kind, or by bytes
-abbrev pub key_code : Kind → Item → List ℕ
-key_code k (number n) = 0 ∷ rank k n ∷ []
-key_code k (run bytes) = 1 ∷ bytes
-key_code k (node t) = 2 ∷ []
-
-abbrev pub key_cmp : Kind → Item → Item → Ordering
-key_cmp k i j = slice_cmp nat_cmp (key_code k i) (key_code k j)
-
--- a pair at its key's place in ascending order; a key that is there stays as it is
-abbrev pub with_pair : Kind → Item → Item → Pairs → Pairs
-with_pair key k v no_pairs = pair k v no_pairs
-with_pair key k v (pair l w ps) = elim (key_cmp key k l) [ Less ↦ pair k v (pair l w ps) | Equal ↦ pair l w ps | Greater ↦ pair l w (with_pair key k v ps) ]
-
--- each key once, by ascending key, with the value of its last entry
-abbrev pub last_of_each : Kind → List (Item × Item) → Pairs
-last_of_each key [] = no_pairs
-last_of_each key (e ∷ es) = with_pair key e.0 e.1 (last_of_each key es)
 
 -- what a field has, from the contents of its records; under implicit presence a default is nothing
 abbrev pub present : Option Item → Option Content

@@ -1,6 +1,6 @@
 //! Laws of the definitions. These functions do nothing; their clauses hold.
 
-ghost use Rattle.std.specs.Prelude.{◌≡◌, ◌<◌, ◌^◌, ℕ, List, length, All};
+ghost use Rattle.std.specs.Prelude.{◌≡◌, ◌<◌, ◌^◌, ◌⊎◌, ℕ, List, length, All};
 ghost use Rattle.mrpc_table.specs.Node.{Node};
 ghost use Rattle.mrpc_table.specs.Normal.{IsNormal};
 ghost use Rattle.mrpc_table.specs.Valid.{IsValid};
@@ -10,30 +10,49 @@ ghost use Rattle.wire_decode.specs.Means.{Means};
 ghost use Rattle.wire_decode.specs.Faults.{IsFirstFault};
 ghost use Rattle.wire_decode.specs.declared.fault.DecodeReason.{DecodeReason};
 
+use map_entries::kept_entries_are_normal;
+use wire_base::{payload_or_reason, record_or_fault, varint_is_read_back};
+
 /// Bytes have one meaning.
 pub fn one_meaning()
     ensures { (T : Table) (msg : ℕ) (bytes : List ℕ) (t u : Node) → Means T msg bytes t → Means T msg bytes u → t ≡ u }
-{}
+{
+    payload_or_reason();
+    record_or_fault();
+}
 
-/// Bytes that have a meaning have no fault.
+/// Bytes mean a message or have a first fault, and never both.
 pub fn meaning_or_fault()
-    ensures { (T : Table) (msg : ℕ) (bytes : List ℕ) (t : Node) (reason : DecodeReason) (place : ℕ) → Means T msg bytes t → IsFirstFault T msg bytes reason place → ⊥ }
-{}
+    ensures either { (T : Table) (msg : ℕ) (bytes : List ℕ) → ((t : Node) × Means T msg bytes t)
+        ⊎ ((reason : DecodeReason) × (place : ℕ) × IsFirstFault T msg bytes reason place) }
+    ensures not_both { (T : Table) (msg : ℕ) (bytes : List ℕ) (t : Node) (reason : DecodeReason) (place : ℕ) → Means T msg bytes t
+        → IsFirstFault T msg bytes reason place → ⊥ }
+{
+    payload_or_reason();
+    record_or_fault();
+}
 
 /// Bytes have one first fault at most.
 pub fn one_fault()
     ensures { (T : Table) (msg : ℕ) (bytes : List ℕ) (reason other : DecodeReason) (place at : ℕ) → IsFirstFault T msg bytes reason place
         → IsFirstFault T msg bytes other at → (reason ≡ other) × (place ≡ at) }
-{}
+{
+    payload_or_reason();
+    record_or_fault();
+}
 
 /// What bytes mean is a tree in normal form.
 pub fn meaning_is_normal()
     ensures { (T : Table) (msg : ℕ) (bytes : List ℕ) (t : Node) → IsValid T → msg < length T.messages → All (λ b. b < 256) bytes
         → Means T msg bytes t → IsNormal T msg t }
-{}
+{
+    kept_entries_are_normal();
+}
 
 /// The encoding of a tree in normal form means that tree. A length is a varint of 64 bits, hence the bound.
 pub fn meaning_of_encoding()
     ensures { (T : Table) (msg : ℕ) (t : Node) → IsValid T → msg < length T.messages → IsNormal T msg t
         → length (encoding T msg t) < 2 ^ 64 → Means T msg (encoding T msg t) t }
-{}
+{
+    varint_is_read_back();
+}

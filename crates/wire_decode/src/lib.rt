@@ -20,7 +20,6 @@ mod fault;
 mod gather;
 mod laws;
 mod look_up;
-mod map;
 mod merge;
 mod number;
 mod oneof;
@@ -54,6 +53,7 @@ pub fn decode(alloc: Global, bytes: &[u8], table: &Table, msg: u32) -> Result<Tr
     ensures only { (t : Node) → Means table.now msg bytes.now t
         → MatchResult result (λ u. u ≡ t) (λ f. f ≡ DecodeFault.Memory) }
 {
+    meaning_is_normal();
     decoded(alloc, bytes, table, msg)
 }
 
@@ -65,6 +65,8 @@ fn decoded(alloc: Global, bytes: &[u8], table: &Table, msg: u32) -> Result<Tree,
     ensures only { (t : Node) → Means table.now msg bytes.now t
         → MatchResult result (λ u. u ≡ t) (λ f. f ≡ DecodeFault.Memory) }
 {
+    one_meaning();
+    meaning_or_fault();
     let fields = fields_of(table, msg);
     let raw = read_message(alloc, bytes, 0, table, fields, MAX_DEPTH - 1)?;
     Ok(merged(alloc, raw, table, msg, MAX_DEPTH)?)

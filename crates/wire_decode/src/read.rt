@@ -23,7 +23,7 @@ use mrpc_table::{
     Bytes, Field, FieldValue, Kind, Label, Name, Numbered, Table, Tree, Value, Values,
 };
 use std::alloc::Global;
-use wire_base::{Payload, WireFault, WireReason, read_record, read_varint};
+use wire_base::{Payload, WireFault, WireReason, payload_or_reason, read_record, read_varint};
 
 /// The contents of the records of known fields, from the place `start` to the end of the bytes.
 /// `room` more messages may stand in one another inside.
@@ -238,6 +238,7 @@ fn elements(alloc: Global, bytes: &[u8], start: usize, kind: Kind) -> Result<Val
     ensures fault { IfErr result
         (FaultsAs (λ reason at. (reason ≡ PackedLength) × (at ≡ start) × NoPiece kind bytes.now start)) }
 {
+    payload_or_reason();
     let wire_type = wire_type_of(kind);
     let mut values = Vec::new(alloc);
     let mut at = start;

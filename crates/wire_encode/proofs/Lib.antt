@@ -1,4 +1,5 @@
-pub mod FieldPlaces
-pub mod Parts
-pub mod Standing
-pub mod Weights
+mod FieldPlaces
+mod Parts
+mod ShortVarints
+mod Standing
+mod Weights

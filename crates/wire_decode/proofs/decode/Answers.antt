@@ -2,8 +2,6 @@ use Rattle.std.proofs.Common.{◌<◌, arith}
 use Rattle.std.proofs.lemmas.List.Elements.{All-from_get_or}
 use Rattle.std.proofs.lemmas.Result.{IfOk-weaker, IfErr-weaker}
 use Rattle.wire_decode.proofs.WordForms.{AreBytes}
-use Rattle.wire_decode.proofs.UsableTables.{usable-valid}
-use Rattle.wire_decode.proofs.NormalMeaning.{normal-meaning}
 use Rattle.wire_decode.proofs.FaultPlaces.{fault-within}
 use Rattle.wire_decode.proofs.Faulty.{faults_as}
 use Rattle.wire_decode.proofs.decode.Goals as goal
@@ -13,7 +11,7 @@ returns-clause-normal c =
     let table = c.args.table.now in
     let bytes = c.args.bytes.now in
     let small : AreBytes bytes = All-from_get_or (λ b. b < 256) bytes 0 (λ i within. omega (arith, c.type_inv.bytes i)) in
-    IfOk-weaker c.decoded.result _ _ (λ t means. normal-meaning table c.args.msg bytes t (usable-valid table c.requires.valid) small means) c.decoded.ensures.means
+    IfOk-weaker c.decoded.result _ _ (λ t means. c.meaning_is_normal.ensures table c.args.msg bytes t c.requires.valid c.requires.known small means) c.decoded.ensures.means
 
 pub returns-clause-within : goal.returns-clause-within
 returns-clause-within c = IfErr-weaker c.decoded.result _ _ (λ f h. faults_as _ _ f h (λ r p. fault-within)) c.decoded.ensures.fault

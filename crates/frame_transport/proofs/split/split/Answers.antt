@@ -1,6 +1,6 @@
-use Rattle.std.proofs.Common.{arith, rules, subst}
-use Rattle.frame_transport.specs.Parts.{EndsFrame, IsFront}
-use Rattle.frame_transport.proofs.Found.{found_next, found_total}
+use Rattle.std.proofs.Common.{None, ◌++◌, arith, rules, subst}
+use Rattle.frame_transport.specs.Parts.{EndsFrame, HasNoFrame, IsFront}
+use Rattle.frame_transport.proofs.Found.{found_next, found_total, found_all}
 use Rattle.frame_transport.proofs.split.split.Goals as goal
 
 pub front_of-requires-clause-room : goal.front_of-requires-clause-room
@@ -19,3 +19,9 @@ frames-preserved c =
     let h : EndsFrame c.frames.end c.frames.ahead.now c.frames.left.now c.in-Whole.frame = subst (IsFront c.frames.end c.frames.ahead.now c.frames.left.now) c.in-Whole.is c.in_ok-frame.ensures in
     found_next c.args.place c.args.begun.now c.args.piece.now c.frames.frames.items c.frames.end c.frames.ahead.now c.frames.left.now c.in-Whole.frame c.len-size.result c.push_back.new.self.items
     c.frames.invariant h c.len-size.ensures (search rules)
+
+pub returns-in-Partial : goal.returns-in-Partial
+returns-in-Partial c =
+    let h : HasNoFrame c.frames.end (c.frames.ahead.now ++ c.frames.left.now) None =
+    subst (IsFront c.frames.end c.frames.ahead.now c.frames.left.now) c.in-Partial.is c.in_ok-frame.ensures in
+    found_all c.args.place c.args.begun.now c.args.piece.now c.frames.frames.items c.frames.end c.frames.ahead.now c.frames.left.now None c.frames.invariant h

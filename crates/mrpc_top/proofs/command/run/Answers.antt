@@ -20,5 +20,5 @@ returns-in-Whole-clause-cut_short g c faulty decode =
 pub returns-in-Whole-clause-undecoded : goal.returns-in-Whole-clause-undecoded
 returns-in-Whole-clause-undecoded g c text told decode fault done =
     let input : IsInput (g.S.Source.left c.args.input.now) c.in-Whole.text.items = record { all = c.in-Whole.ensures.whole.1; short = c.in-Whole.ensures.whole.0 } in
-    no_decoding _ text c.in-Whole.text.items _ _ told fault input
+    no_decoding c.one_decoding.ensures.no_cut _ text c.in-Whole.text.items _ _ told fault input
     (subst (λ t. DecodesText t (g.K.Sink.written c.args.out.now) (g.K.Sink.written c.decode_text.new.out)) c.deref-in-Decode.ensures.value (c.decode_text.ensures.done done))

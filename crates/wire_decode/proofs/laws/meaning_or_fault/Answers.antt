@@ -1,5 +1,30 @@
+use Rattle.wire_decode.proofs.WireLaws.{Law}
+use Rattle.wire_decode.proofs.Choices.{meaning-or}
 use Rattle.wire_decode.proofs.Unique.{reads-faultless}
 use Rattle.wire_decode.proofs.laws.meaning_or_fault.Goals as goal
 
-pub returns : goal.returns
-returns c = λ T msg bytes t reason place a b. reads-faultless a.reads b
+pub returns-clause-either : goal.returns-clause-either
+returns-clause-either c =
+    let law : Law = record {
+      some_payload = c.payload_or_reason.ensures.either;
+      no_payload = c.payload_or_reason.ensures.not_both;
+      one_payload = c.payload_or_reason.ensures.one_payload;
+      some_record = c.record_or_fault.ensures.either;
+      one_record = c.record_or_fault.ensures.one_record;
+      not_both = c.record_or_fault.ensures.not_both;
+      one_fault = c.record_or_fault.ensures.one_fault;
+    } in
+    meaning-or law
+
+pub returns-clause-not_both : goal.returns-clause-not_both
+returns-clause-not_both c =
+    let law : Law = record {
+      some_payload = c.payload_or_reason.ensures.either;
+      no_payload = c.payload_or_reason.ensures.not_both;
+      one_payload = c.payload_or_reason.ensures.one_payload;
+      some_record = c.record_or_fault.ensures.either;
+      one_record = c.record_or_fault.ensures.one_record;
+      not_both = c.record_or_fault.ensures.not_both;
+      one_fault = c.record_or_fault.ensures.one_fault;
+    } in
+    λ T msg bytes t reason place a b. reads-faultless law a.reads b

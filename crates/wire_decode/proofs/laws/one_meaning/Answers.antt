@@ -1,7 +1,18 @@
 use Rattle.std.proofs.Common.{ap, sym, ◌∙◌}
 use Rattle.wire_decode.specs.Merged.{merged}
+use Rattle.wire_decode.proofs.WireLaws.{Law}
 use Rattle.wire_decode.proofs.Unique.{reads-same}
 use Rattle.wire_decode.proofs.laws.one_meaning.Goals as goal
 
 pub returns : goal.returns
-returns c = λ T msg bytes t u a b. a.value ∙ ap (merged T 32 msg) (reads-same a.reads b.reads) ∙ sym b.value
+returns c =
+    let law : Law = record {
+      some_payload = c.payload_or_reason.ensures.either;
+      no_payload = c.payload_or_reason.ensures.not_both;
+      one_payload = c.payload_or_reason.ensures.one_payload;
+      some_record = c.record_or_fault.ensures.either;
+      one_record = c.record_or_fault.ensures.one_record;
+      not_both = c.record_or_fault.ensures.not_both;
+      one_fault = c.record_or_fault.ensures.one_fault;
+    } in
+    λ T msg bytes t u a b. a.value ∙ ap (merged T 32 msg) (reads-same law a.reads b.reads) ∙ sym b.value

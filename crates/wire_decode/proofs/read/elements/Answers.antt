@@ -22,7 +22,7 @@ loop-at-preserved c =
     let done = c.loop-at.invariant.1 in
     let word = c.word_of.result in
     let items = ap items_of c.in_ok-push.ensures.items ∙ items_of-last c.loop-at.values.items (Number word) ∙ ap (λ is. push_item is (number word)) c.loop-at.invariant.3 ∙ sym (numbers-last done word) in
-    (c.in-Some.ensures.within, done ++ word ∷ [], sofar-more c.args.kind c.args.bytes.now c.args.start c.loop-at.at c.in-Some.found.1 c.in-Some.found.0 word done c.loop-at-test.true c.loop-at.invariant.2 here c.word_of.ensures, items)
+    (c.in-Some.ensures.within, done ++ word ∷ [], sofar-more c.payload_or_reason.ensures.one_payload c.args.kind c.args.bytes.now c.args.start c.loop-at.at c.in-Some.found.1 c.in-Some.found.0 word done c.loop-at-test.true c.loop-at.invariant.2 here c.word_of.ensures, items)
 
 pub returns-clause-found : goal.returns-clause-found
 returns-clause-found c =

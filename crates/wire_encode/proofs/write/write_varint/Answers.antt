@@ -1,7 +1,7 @@
 use Rattle.std.proofs.Common.{◌≡◌, ◌+◌, ◌-◌, ◌≤◌, [], ◌∷◌, ◌++◌, drop, length, ap, sym, ◌∙◌, arith}
 use Rattle.std.proofs.lemmas.List.{drop-set}
 use Rattle.wire_base.specs.Encoding.{varint}
-use Rattle.wire_base.proofs.Varints.{groups-small, length-varint-least}
+use Rattle.wire_encode.proofs.ShortVarints.{varint-small, length-varint-least}
 use Rattle.wire_encode.proofs.write.write_varint.Goals as goal
 
 pub overflow_sub-out : goal.overflow_sub-out
@@ -18,7 +18,7 @@ unfolding varint
 returns-then-v-lt128 c =
     let end = c.args.end in
     let old = c.args.out.now in
-    let one : varint c.args.v ≡ c.args.v ∷ [] = groups-small 9 c.args.v c.if-v-lt128.true in
+    let one : varint c.args.v ≡ c.args.v ∷ [] = varint-small c.args.v c.if-v-lt128.true in
     let some : 1 ≤ end = omega (arith, ap length one, c.requires.room) in
     record {
       place = omega (arith, ap length one);

@@ -1,6 +1,7 @@
-use Rattle.std.proofs.Common.{◌≡◌, ◌+◌, ◌<◌, ◌^◌, ◌++◌, length, Some, None, inr, sym, ap, subst, ◌∙◌, arith}
+use Rattle.std.proofs.Common.{◌≡◌, ◌+◌, ◌<◌, ◌^◌, ◌++◌, length, List, ℕ, Some, None, inr, sym, subst, ◌∙◌, arith}
 use Rattle.frame_transport.specs.Feed.{Fed, total, StopsAt}
-use Rattle.frame_transport.specs.Frames.{Ends, joined, fault_at}
+use Rattle.frame_transport.specs.Frames.{Ends, joined, IsFaultAt, HasFault}
+use Rattle.frame_transport.specs.declared.fault.FeedFault.TheVariants.{Memory}
 use Rattle.frame_transport.proofs.FaultFacts.{not_memory}
 use Rattle.frame_transport.proofs.KeptFacts.{seen, kept_ends, kept_advanced, ends_advanced, stops, same_fault, no_fault_before}
 use Rattle.frame_transport.proofs.Splitting.{ends_stays}
@@ -8,30 +9,31 @@ use Rattle.frame_transport.proofs.feed.Feed.feed.Goals as goal
 
 pub returns-in-Some-clause-fault : goal.returns-in-Some-clause-fault
 returns-in-Some-clause-fault c =
-    let found : fault_at c.self.inside.end c.self.inside.begun.items ≡ Some c.in-Some.fault =
-    sym (c.fault_in.ensures ∙ ap (fault_at c.self.inside.end) c.deref.ensures.value) ∙ c.in-Some.is in
+    let found : IsFaultAt c.self.inside.end c.self.inside.begun.items c.in-Some.fault =
+    subst (HasFault c.self.inside.end c.self.inside.begun.items) c.in-Some.is (subst (λ (bs : List ℕ). HasFault c.self.inside.end bs c.fault_in.result) c.deref.ensures.value c.fault_in.ensures) in
     inr (subst (λ (s : Fed). Ends s.place (s.bytes ++ c.args.piece.now) (Some c.in-Some.fault)) c.self.view_is
     (ends_stays c.self.inside.taken (joined c.self.inside.waiting.items ++ c.self.inside.begun.items) c.args.piece.now c.in-Some.fault
     (kept_ends c.self.inside.taken c.self.inside.waiting.items c.self.inside.end c.self.inside.begun.items c.self.inside.behind (Some c.in-Some.fault) c.self.invariant found)))
 
 pub returns-in-Some-clause-again : goal.returns-in-Some-clause-again
 returns-in-Some-clause-again c fault e =
-    let found : fault_at c.self.inside.end c.self.inside.begun.items ≡ Some c.in-Some.fault =
-    sym (c.fault_in.ensures ∙ ap (fault_at c.self.inside.end) c.deref.ensures.value) ∙ c.in-Some.is in
+    let found : IsFaultAt c.self.inside.end c.self.inside.begun.items c.in-Some.fault =
+    subst (HasFault c.self.inside.end c.self.inside.begun.items) c.in-Some.is (subst (λ (bs : List ℕ). HasFault c.self.inside.end bs c.fault_in.result) c.deref.ensures.value c.fault_in.ensures) in
     let same : Some c.in-Some.fault ≡ Some fault =
     same_fault c.self.inside.taken c.self.inside.waiting.items c.self.inside.end c.self.inside.begun.items c.self.inside.behind (Some c.in-Some.fault) fault c.self.invariant found (subst (λ (s : Fed). Ends s.place s.bytes (Some fault)) (sym c.self.view_is) e) in
     cc
 
 pub returns-in-Some-clause-memory : goal.returns-in-Some-clause-memory
 returns-in-Some-clause-memory c e =
-    let found : fault_at c.self.inside.end c.self.inside.begun.items ≡ Some c.in-Some.fault =
-    sym (c.fault_in.ensures ∙ ap (fault_at c.self.inside.end) c.deref.ensures.value) ∙ c.in-Some.is in
-    absurd (not_memory c.self.inside.end c.self.inside.begun.items (found ∙ cc))
+    let found : IsFaultAt c.self.inside.end c.self.inside.begun.items c.in-Some.fault =
+    subst (HasFault c.self.inside.end c.self.inside.begun.items) c.in-Some.is (subst (λ (bs : List ℕ). HasFault c.self.inside.end bs c.fault_in.result) c.deref.ensures.value c.fault_in.ensures) in
+    let memory : c.in-Some.fault ≡ Memory = cc in
+    absurd (not_memory c.self.inside.end c.self.inside.begun.items (subst (IsFaultAt c.self.inside.end c.self.inside.begun.items) memory found))
 
 pub returns-in_err-went-clause-again : goal.returns-in_err-went-clause-again
 returns-in_err-went-clause-again c fault e =
-    let none : fault_at c.self.inside.end c.self.inside.begun.items ≡ None =
-    sym (c.fault_in.ensures ∙ ap (fault_at c.self.inside.end) c.deref.ensures.value) ∙ c.in_default.is in
+    let none : HasFault c.self.inside.end c.self.inside.begun.items None =
+    subst (HasFault c.self.inside.end c.self.inside.begun.items) c.in_default.is (subst (λ (bs : List ℕ). HasFault c.self.inside.end bs c.fault_in.result) c.deref.ensures.value c.fault_in.ensures) in
     absurd (no_fault_before c.self.inside.taken c.self.inside.waiting.items c.self.inside.end c.self.inside.begun.items c.self.inside.behind fault c.self.invariant none (subst (λ (s : Fed). Ends s.place s.bytes (Some fault)) (sym c.self.view_is) e))
 
 pub overflow_add-self-2 : goal.overflow_add-self-2
@@ -63,13 +65,14 @@ returns-in-Some-fault-clause-stops c =
 
 pub returns-in-Some-fault-clause-again : goal.returns-in-Some-fault-clause-again
 returns-in-Some-fault-clause-again c fault e =
-    let none : fault_at c.self.inside.end c.self.inside.begun.items ≡ None =
-    sym (c.fault_in.ensures ∙ ap (fault_at c.self.inside.end) c.deref.ensures.value) ∙ c.in_default.is in
+    let none : HasFault c.self.inside.end c.self.inside.begun.items None =
+    subst (HasFault c.self.inside.end c.self.inside.begun.items) c.in_default.is (subst (λ (bs : List ℕ). HasFault c.self.inside.end bs c.fault_in.result) c.deref.ensures.value c.fault_in.ensures) in
     absurd (no_fault_before c.self.inside.taken c.self.inside.waiting.items c.self.inside.end c.self.inside.begun.items c.self.inside.behind fault c.self.invariant none (subst (λ (s : Fed). Ends s.place s.bytes (Some fault)) (sym c.self.view_is) e))
 
 pub returns-in-Some-fault-clause-memory : goal.returns-in-Some-fault-clause-memory
 returns-in-Some-fault-clause-memory c e =
-    absurd (not_memory c.in_ok-went.went.end c.go_on.new.begun.items (c.in_ok-went.ensures.ok.first ∙ c.in-Some-fault.is ∙ cc))
+    let memory : Some c.in-Some-fault.fault ≡ Some Memory = cc in
+    absurd (not_memory c.in_ok-went.went.end c.go_on.new.begun.items (subst (HasFault c.in_ok-went.went.end c.go_on.new.begun.items) (c.in-Some-fault.is ∙ memory) c.in_ok-went.ensures.ok.first))
 
 pub invariant_of-self-2 : goal.invariant_of-self-2
 invariant_of-self-2 c =
@@ -85,6 +88,6 @@ returns-clause-clean c =
 
 pub returns-clause-again : goal.returns-clause-again
 returns-clause-again c fault e =
-    let none : fault_at c.self.inside.end c.self.inside.begun.items ≡ None =
-    sym (c.fault_in.ensures ∙ ap (fault_at c.self.inside.end) c.deref.ensures.value) ∙ c.in_default.is in
+    let none : HasFault c.self.inside.end c.self.inside.begun.items None =
+    subst (HasFault c.self.inside.end c.self.inside.begun.items) c.in_default.is (subst (λ (bs : List ℕ). HasFault c.self.inside.end bs c.fault_in.result) c.deref.ensures.value c.fault_in.ensures) in
     absurd (no_fault_before c.self.inside.taken c.self.inside.waiting.items c.self.inside.end c.self.inside.begun.items c.self.inside.behind fault c.self.invariant none (subst (λ (s : Fed). Ends s.place s.bytes (Some fault)) (sym c.self.view_is) e))

@@ -1,5 +1,5 @@
 use Rattle.std.proofs.Common.{refl}
-use Rattle.frame_transport.proofs.written.frame.Goals as goal
+use Rattle.frame_transport.proofs.written.write.Goals as goal
 use Rattle.frame_transport.specs.Bytes.{header_bytes}
 
 pub returns : goal.returns

@@ -1,0 +1,32 @@
+-- Kinds of numbers and of runs, which are no messages.
+use Rattle.std.proofs.Common.{◌≡◌, ℕ, List, false, true, refl, ap, sym, ◌∙◌}
+use Rattle.mrpc_table.specs.Words.{is_numeric, IsWordForm}
+use Rattle.mrpc_table.specs.Normal.{IsRun}
+use Rattle.mrpc_table.specs.declared.table.Kind.{Kind}
+use Rattle.mrpc_table.specs.declared.table.Kind.TheVariants.{Text, Octets, Message as OfMessage}
+use Rattle.wire_decode.specs.Reads.{is_message}
+
+pub word-numeric : (k : Kind) (n : ℕ) → IsWordForm k n → is_numeric k ≡ true
+word-numeric Text n h = absurd h
+word-numeric Octets n h = absurd h
+word-numeric (OfMessage i) n h = absurd h
+word-numeric _ n h = refl
+
+pub run-not_numeric : (k : Kind) (bytes : List ℕ) → IsRun k bytes → is_numeric k ≡ false
+run-not_numeric Text bytes h = refl
+run-not_numeric Octets bytes h = refl
+run-not_numeric _ bytes h = absurd h
+
+pub word-plain : (k : Kind) (n : ℕ) → IsWordForm k n → is_message k ≡ false
+word-plain (OfMessage i) n h = absurd h
+word-plain _ n h = refl
+
+pub run-plain : (k : Kind) (bytes : List ℕ) → IsRun k bytes → is_message k ≡ false
+run-plain (OfMessage i) bytes h = absurd h
+run-plain _ bytes h = refl
+
+both-kinds : (k : Kind) (n : ℕ) (bytes : List ℕ) → IsWordForm k n → IsRun k bytes → ⊥
+both-kinds k n bytes a b = let h : true ≡ false = sym (word-numeric k n a) ∙ run-not_numeric k bytes b in cc
+
+pub not_message : (k : Kind) (i : ℕ) → is_message k ≡ false → k ≡ OfMessage i → ⊥
+not_message k i plain e = let h : false ≡ true = sym plain ∙ ap is_message e in cc
