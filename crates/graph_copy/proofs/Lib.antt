@@ -1,0 +1,11 @@
+mod Completing
+mod Fitting
+mod Gathering
+mod Inserting
+mod Leading
+mod Making
+mod Messages
+mod Running
+mod Sorting
+mod Stacking
+mod Taking

@@ -1,0 +1,69 @@
+-- What a valid table says of the message at a place.
+use Rattle.std.proofs.Common.{◌≡◌, ◌≢◌, ℕ, suc, ◌+◌, ◌^◌, ◌≤◌, List, [], ◌∷◌, length, All, cond, Option, Some, None, refl, ap, subst, ◌∙◌, arith, slice_get, option_map, unwrap_or, inl, inr}
+use Rattle.std.proofs.lemmas.Option.{slice_get_cases}
+use Rattle.std.proofs.lemmas.Bool.{ne_eqb}
+use Rattle.std.proofs.lemmas.List.Elements.{All-head, All-tail}
+use Rattle.mrpc_table.specs.Normal.{fields_of, field_at}
+use Rattle.mrpc_table.specs.Valid.{IsValid, IsMessage, IsField, Joins, OneofsFollow}
+use Rattle.mrpc_table.specs.declared.table.Label.{Label}
+use Rattle.mrpc_table.specs.declared.table.Label.TheVariants.{Plain, Optional, Repeated, Packed, Map, Member}
+use Rattle.mrpc_table.specs.declared.table.Field.{Field}
+use Rattle.mrpc_table.specs.declared.table.Message.{Message}
+use Rattle.mrpc_table.specs.declared.table.Table.{Table}
+use Rattle.graph_form.specs.Roles.{oneofs_of, own_slots, size_words}
+
+all_got : {X : Type 0} (P : X → Type 0) (xs : List X) (i : ℕ) (x : X) → All P xs → slice_get xs i ≡ Some x → P x
+all_got P xs i x all got =
+    elim (slice_get_cases xs i).1 [
+      | inl in_range ↦ let same : in_range.0 ≡ x = cc (in_range.2, got) in subst P same (subst P in_range.3 (all i in_range.0 in_range.1))
+      | inr past ↦ absurd (cc (past.1, got))
+    ]
+
+pub message_valid : (T : Table) (i : ℕ) (m : Message) → IsValid T → slice_get T.messages i ≡ Some m → IsMessage T m
+message_valid T i m valid got = all_got (IsMessage T) T.messages i m valid.messages got
+
+pub fields_at : (T : Table) (i : ℕ) (m : Message) → slice_get T.messages i ≡ Some m → fields_of T i ≡ m.fields
+fields_at T i m got = ap (λ o. unwrap_or (option_map (λ x. x.fields) o) []) got
+
+pub no_fields_at : (T : Table) (i : ℕ) → slice_get T.messages i ≡ None → fields_of T i ≡ []
+no_fields_at T i got = ap (λ (o : Option Message). unwrap_or (option_map (λ x. x.fields) o) []) got
+
+pub oneofs_at : (T : Table) (i : ℕ) (m : Message) → slice_get T.messages i ≡ Some m → oneofs_of T i ≡ length m.oneofs
+oneofs_at T i m got = ap (λ o. unwrap_or (option_map (λ x. length x.oneofs) o) 0) got
+
+pub no_oneofs_at : (T : Table) (i : ℕ) → slice_get T.messages i ≡ None → oneofs_of T i ≡ 0
+no_oneofs_at T i got = ap (λ (o : Option Message). unwrap_or (option_map (λ x. length x.oneofs) o) 0) got
+
+pub no_words_at : (T : Table) (i : ℕ) → slice_get T.messages i ≡ None → size_words T i ≡ 0
+no_words_at T i got =
+    let none : length (own_slots (fields_of T i)) ≡ 0 = ap (λ fs. length (own_slots fs)) (no_fields_at T i got) in
+    omega (arith, none, no_oneofs_at T i got)
+
+joined_le : (met all n : ℕ) (l : Label) (Same Next : Type 0) → (Same → all ≤ met + n) → (Next → all ≤ met + 1 + n) → Joins met l Same Next → all ≤ met + suc n
+joined_le met all n Plain Same Next same next h = omega (arith, same h)
+joined_le met all n Optional Same Next same next h = omega (arith, same h)
+joined_le met all n Repeated Same Next same next h = omega (arith, same h)
+joined_le met all n Packed Same Next same next h = omega (arith, same h)
+joined_le met all n (Map k) Same Next same next h = omega (arith, same h)
+joined_le met all n (Member o) Same Next same next h = elim h [ inl old ↦ omega (arith, same old.1) | inr new ↦ omega (arith, next new.1) ]
+
+follow_le : (met all : ℕ) (fs : List Field) → OneofsFollow met all fs → all ≤ met + length fs
+follow_le met all [] h = omega (arith, h)
+follow_le met all (f ∷ fs) h = joined_le met all (length fs) f.label (OneofsFollow met all fs) (OneofsFollow (met + 1) all fs) (follow_le met all fs) (follow_le (met + 1) all fs) h
+
+pub few_oneofs : (T : Table) (m : Message) → IsMessage T m → length m.oneofs ≤ 128
+few_oneofs T m h = omega (arith, follow_le 0 (length m.oneofs) m.fields h.oneof_order, h.few)
+
+no_field_past : (T : Table) (oneofs : ℕ) (fs : List Field) (n : ℕ) → All (IsField T oneofs) fs → 2 ^ 32 ≤ n → field_at fs n ≡ None
+no_field_past T oneofs [] n all past = refl
+no_field_past T oneofs (f ∷ fs) n all past =
+    let head = All-head (IsField T oneofs) f fs all in
+    let differs : f.number ≢ n = λ e. omega (arith, e, past, head.number.small) in
+    ap (λ b. cond b (Some f) (field_at fs n)) (ne_eqb f.number n differs) ∙ no_field_past T oneofs fs n (All-tail (IsField T oneofs) f fs all) past
+
+pub none_past : (T : Table) (i n : ℕ) → IsValid T → 2 ^ 32 ≤ n → field_at (fields_of T i) n ≡ None
+none_past T i n valid past =
+    elim (slice_get_cases T.messages i).1 [
+      | inl in_range ↦ let m = in_range.0 in ap (λ fs. field_at fs n) (fields_at T i m in_range.2) ∙ no_field_past T (length m.oneofs) m.fields n (message_valid T i m valid in_range.2).fields past
+      | inr out ↦ ap (λ fs. field_at fs n) (no_fields_at T i out.1)
+    ]

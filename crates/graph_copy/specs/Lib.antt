@@ -1,0 +1,9 @@
+pub mod Answers
+pub mod Copies
+pub mod Expects
+pub mod Follows
+pub mod Judged
+pub mod Makes
+pub mod Opens
+pub mod Shapes
+pub mod Stops

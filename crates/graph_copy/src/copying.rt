@@ -1,0 +1,148 @@
+//! The copy of a message.
+
+ghost use Rattle.std.specs.Prelude.{◌≡◌, ◌≤◌, ◌<◌, List, [], ◌∷◌, ◌++◌, ℕ, length, IfOk};
+ghost use Rattle.mrpc_base.specs.Heap.{AfterLoads};
+ghost use Rattle.mrpc_table.specs.Valid.{IsValid};
+ghost use Rattle.graph_form.specs.Malformed.{IsMalformed};
+ghost use Rattle.graph_copy.specs.Copies.{since, OnlyLoads, IsCopied};
+ghost use Rattle.graph_copy.specs.Answers.{IfCopied, IfMalformed, loads_of};
+
+use crate::build::make_tree;
+use crate::judge::lies_in;
+use crate::look_up::node_words;
+use crate::take::{Loads, take_words};
+use crate::walk::Walk;
+use graph_form::{Reason, loads_end_malformed};
+use mrpc_base::{Room, Words};
+use mrpc_table::{Memory, Table, Tree};
+use std::alloc::Global;
+
+/// What a copy comes to.
+#[derive(Debug, Drop)]
+pub enum CopyResult {
+    /// The tree of a sound graph, with the number of loads that it took.
+    Copied {
+        tree: Tree,
+        loads: u64,
+    },
+    /// The graph is malformed: for which reason, at the place and with the value of the last load, and how many loads
+    /// were made. Where the root doesn't lie in the heap, there is no load, the place is 0 and the value the address.
+    Malformed {
+        reason: Reason,
+        place: u64,
+        value: u64,
+        loads: u64,
+    },
+}
+
+/// Copies the message of a type, by its place in the table, at an address of a heap: a tree of its own, from at most
+/// `limit` loads, each of a word that is loaded once for its place in the graph. `Reason::NoMethod` never comes. Room
+/// for `limit` loads is made before the first one. After `Memory` the loads that were made stand in the heap's list.
+pub fn copy<W: Words>(
+    alloc: Global,
+    words: &mut W,
+    table: &Table,
+    msg: u32,
+    addr: u64,
+    limit: u64,
+) -> Result<CopyResult, Memory>
+    requires valid { IsValid table.now }
+    requires known { msg < length table.now.messages }
+    requires least_heap { 4 ≤ W.size words.old }
+    requires greatest_heap { W.size words.old ≤ 65536 }
+    requires least_limit { 1 ≤ limit }
+    requires greatest_limit { limit ≤ 16384 }
+
+    // Whatever the answer is, the heap has room made and these loads more, and nothing else.
+    ensures size { W.size words.new ≡ W.size words.old }
+    ensures adds { W.loads words.new ≡ W.loads words.old ++ since (W.loads words.old) (W.loads words.new) }
+    ensures only_loads { OnlyLoads W.after_room W.after_load words.old
+        (since (W.loads words.old) (W.loads words.new)) words.new }
+    ensures few { length (since (W.loads words.old) (W.loads words.new)) ≤ limit }
+
+    ensures copied { IfOk result (IfCopied (IsCopied table.now (W.size words.old) msg addr
+        (since (W.loads words.old) (W.loads words.new)))) }
+    ensures malformed { IfOk result (IfMalformed (IsMalformed table.now (W.size words.old) msg addr limit
+        (since (W.loads words.old) (W.loads words.new)))) }
+    ensures counted { IfOk result (λ answer. loads_of answer ≡ length (since (W.loads words.old) (W.loads words.new))) }
+{
+    match words.room_loads(limit) {
+        Room::Memory => Err(Memory),
+        Room::Made => {
+            let mut loads = Vec::new(alloc);
+            let answer = copy_graph(alloc, words, table, msg, addr, limit, &mut loads)?;
+            Ok(answer)
+        }
+    }
+}
+
+/// The copy, where there is room for the loads. They are noted.
+fn copy_graph<W: Words>(
+    alloc: Global,
+    words: &mut W,
+    table: &Table,
+    msg: u32,
+    addr: u64,
+    limit: u64,
+    loads: &mut Loads,
+) -> Result<CopyResult, Memory>
+    requires valid { IsValid table.now }
+    requires least_heap { 1 ≤ W.size words.old }
+    requires greatest_heap { W.size words.old ≤ 65536 }
+    requires least_limit { 1 ≤ limit }
+    requires room { limit ≤ W.room words.old }
+    requires none { loads.old.items ≡ [] }
+
+    ensures size { W.size words.new ≡ W.size words.old }
+    ensures adds { W.loads words.new ≡ W.loads words.old ++ loads.new.items }
+    ensures changes { AfterLoads W.after_load words.old loads.new.items words.new }
+    ensures few { length loads.new.items ≤ limit }
+
+    ensures copied { IfOk result (IfCopied (IsCopied table.now (W.size words.old) msg addr loads.new.items)) }
+    ensures malformed { IfOk result
+        (IfMalformed (IsMalformed table.now (W.size words.old) msg addr limit loads.new.items)) }
+    ensures counted { IfOk result (λ answer. loads_of answer ≡ length loads.new.items) }
+{
+    loads_end_malformed();
+    let size = words.words();
+    let root = node_words(table, msg);
+    if !lies_in(size, addr, root) {
+        return Ok(CopyResult::Malformed {
+            reason: Reason::Address,
+            place: 0,
+            value: addr,
+            loads: 0,
+        });
+    }
+    let mut walk = Walk::new(alloc, size);
+    walk.expect_node(table, msg, 1, addr, root)?;
+    match take_words(words, table, &mut walk, limit, loads)? {
+        Some(reason) => Ok(malformed(reason, loads)),
+        None => {
+            let tree = make_tree(alloc, table, msg, loads)?;
+            let loads = loads.len() as u64;
+            Ok(CopyResult::Copied { tree, loads })
+        }
+    }
+}
+
+/// The last load says where the graph is malformed.
+fn malformed(reason: Reason, loads: &[(u64, u64)]) -> CopyResult
+    ensures { (front : List (ℕ × ℕ)) (last : ℕ × ℕ) → loads.now ≡ front ++ last ∷ []
+        → result ≡ CopyResult.Malformed reason last.0 last.1 (length loads.now) }
+{
+    match loads.last() {
+        Some(last) => CopyResult::Malformed {
+            reason,
+            place: last.0,
+            value: last.1,
+            loads: loads.len() as u64,
+        },
+        None => CopyResult::Malformed {
+            reason,
+            place: 0,
+            value: 0,
+            loads: 0,
+        },
+    }
+}

@@ -1,0 +1,297 @@
+//! What a word that was loaded leads to: it is judged, and what stands behind it is expected next.
+
+ghost use Rattle.std.specs.Prelude.{◌≡◌, ◌≤◌, ◌<◌, ◌+◌, ◌*◌, ◌^◌, ◌↔◌, ℕ, List, [], ◌∷◌, IfOk, OnOk, IsTrue, if◌then◌else◌};
+ghost use Rattle.std.specs.Str.{IsUtf8};
+ghost use Rattle.mrpc_table.specs.Normal.{fields_of};
+ghost use Rattle.mrpc_table.specs.Valid.{IsValid};
+ghost use Rattle.mrpc_table.specs.declared.table.Table.{Table};
+ghost use Rattle.graph_form.specs.Roles.{run_word, link, case_word, behind, elements_from, entries_from};
+ghost use Rattle.graph_form.specs.Placed.{IsFine};
+ghost use Rattle.graph_copy.specs.Expects.{role_of, next_word, Fits};
+ghost use Rattle.graph_copy.specs.Follows.{Follows, Leads};
+ghost use Rattle.graph_copy.specs.Judged.{Told};
+
+use crate::judge::offence;
+use crate::look_up::{field_of, node_words};
+use crate::role::{Role, plain_role};
+use crate::walk::{Frame, Next, RunWord, Walk};
+use graph_form::Reason;
+use mrpc_table::{Kind, Memory, Table};
+
+impl Walk {
+    /// Goes on behind a word with this value; or why it offends, first.
+    pub fn follow(
+        &mut self,
+        table: &Table,
+        next: Next,
+        value: u64,
+    ) -> Result<Option<Reason>, Memory>
+        requires valid { IsValid table.now }
+        requires size { self.old.size ≤ 65536 }
+        requires no_run { self.old.run ≡ None }
+        requires fits { Fits self.old.size (next_word table.now self.old.bytes.items next) }
+        ensures follows { IfOk result
+            (Follows table.now (next_word table.now self.old.bytes.items next) value self.old self.new) }
+        ensures size { self.new.size ≡ self.old.size }
+    {
+        match next {
+            Next::Word { role, place } => self.follow_word(table, role, place, value),
+            Next::Run(run) => self.follow_run(run, value),
+        }
+    }
+
+    fn follow_word(
+        &mut self,
+        table: &Table,
+        role: Role,
+        place: u64,
+        value: u64,
+    ) -> Result<Option<Reason>, Memory>
+        requires valid { IsValid table.now }
+        requires size { self.old.size ≤ 65536 }
+        requires no_run { self.old.run ≡ None }
+        requires fits { Fits self.old.size (role_of table.now role, place) }
+        ensures follows { IfOk result (Follows table.now (role_of table.now role, place) value self.old self.new) }
+        ensures size { self.new.size ≡ self.old.size }
+    {
+        if let Some(reason) = offence(table, self.size, role, value) {
+            return Ok(Some(reason));
+        }
+        self.lead(table, role, place, value)?;
+        Ok(None)
+    }
+
+    /// What stands behind a word that doesn't offend is expected.
+    fn lead(&mut self, table: &Table, role: Role, place: u64, value: u64) -> Result<(), Memory>
+        requires valid { IsValid table.now }
+        requires size { self.old.size ≤ 65536 }
+        requires no_run { self.old.run ≡ None }
+        requires fits { Fits self.old.size (role_of table.now role, place) }
+        requires fine { IsFine table.now self.old.size (role_of table.now role) value }
+        ensures expected { OnOk result
+            (Leads table.now (behind table.now (role_of table.now role) place value) self.old self.new) }
+        ensures size { self.new.size ≡ self.old.size }
+    {
+        match role {
+            Role::Value(_) => Ok(()),
+            Role::Presence(kind) => self.expect_if(value != 0, Role::Value(kind), place),
+            Role::RunLength(kind) => {
+                self.expect_if(value != 0, Role::RunAddress { kind, bytes: value }, place)
+            }
+            Role::RunPresence(kind) => {
+                let bytes = value.saturating_sub(1);
+                self.expect_if(value > 1, Role::RunAddress { kind, bytes }, place)
+            }
+            Role::RunAddress { kind, bytes } => {
+                self.begin_run(kind, bytes, value);
+                Ok(())
+            }
+            Role::Link {
+                message,
+                depth,
+                needed,
+            } => self.lead_link(table, message, depth, needed, value),
+            Role::Count { kind, depth } => {
+                let count = value;
+                self.expect_if(value != 0, Role::Elements { kind, count, depth }, place)
+            }
+            Role::Elements { kind, count, depth } => self.expect_elements(
+                kind, count, depth, value,
+            ),
+            Role::EntryCount { key, kind, depth } => {
+                let count = value;
+                let role = Role::Entries {
+                    key,
+                    kind,
+                    count,
+                    depth,
+                };
+                self.expect_if(value != 0, role, place)
+            }
+            Role::Entries {
+                key,
+                kind,
+                count,
+                depth,
+            } => self.expect_entries(key, kind, count, depth, value),
+            Role::Case {
+                message,
+                oneof,
+                depth,
+            } => self.lead_case(table, message, oneof, depth, place, value),
+        }
+    }
+
+    /// Expects a word right behind a place, or nothing.
+    fn expect_if(&mut self, is_there: bool, role: Role, place: u64) -> Result<(), Memory>
+        requires room { place + 1 < 2 ^ 64 }
+        requires no_run { self.old.run ≡ None }
+        ensures expected { OnOk result
+            ((T : Table) → Leads T (if is_there then (role_of T role, place + 1) ∷ [] else []) self.old self.new) }
+        ensures size { self.new.size ≡ self.old.size }
+    {
+        if is_there {
+            self.push(Frame::Word {
+                role,
+                place: place + 1,
+            })?;
+        }
+        Ok(())
+    }
+
+    fn begin_run(&mut self, kind: Kind, bytes: u64, place: u64)
+        requires { self.old.run ≡ None }
+        ensures expected { (T : Table) → Leads T ((run_word kind bytes [], place) ∷ []) self.old self.new }
+        ensures size { self.new.size ≡ self.old.size }
+    {
+        self.bytes.clear();
+        self.run = Some(RunWord {
+            kind,
+            left: bytes,
+            place,
+        });
+    }
+
+    fn lead_link(
+        &mut self,
+        table: &Table,
+        message: u32,
+        depth: u32,
+        needed: bool,
+        value: u64,
+    ) -> Result<(), Memory>
+        requires valid { IsValid table.now }
+        requires size { self.old.size ≤ 65536 }
+        requires no_run { self.old.run ≡ None }
+        requires fine { IsFine table.now self.old.size (link message depth needed) value }
+        ensures expected { OnOk result
+            (Leads table.now (behind table.now (link message depth needed) 0 value) self.old self.new) }
+        ensures size { self.new.size ≡ self.old.size }
+    {
+        if value == 0 {
+            return Ok(());
+        }
+        let words = node_words(table, message);
+        self.expect_node(table, message, depth + 1, value, words)
+    }
+
+    fn expect_elements(
+        &mut self,
+        kind: Kind,
+        left: u64,
+        depth: u32,
+        place: u64,
+    ) -> Result<(), Memory>
+        requires { self.old.run ≡ None }
+        ensures expected { OnOk result ((T : Table) → Leads T (elements_from left kind depth place) self.old self.new) }
+        ensures size { self.new.size ≡ self.old.size }
+    {
+        self.push(Frame::Elements {
+            kind,
+            left,
+            depth,
+            place,
+        })?;
+        Ok(())
+    }
+
+    fn expect_entries(
+        &mut self,
+        key: Kind,
+        kind: Kind,
+        left: u64,
+        depth: u32,
+        place: u64,
+    ) -> Result<(), Memory>
+        requires { self.old.run ≡ None }
+        ensures expected { OnOk result
+            ((T : Table) → Leads T (entries_from left key kind depth place) self.old self.new) }
+        ensures size { self.new.size ≡ self.old.size }
+    {
+        self.push(Frame::Entries {
+            key,
+            kind,
+            left,
+            depth,
+            place,
+        })?;
+        Ok(())
+    }
+
+    fn lead_case(
+        &mut self,
+        table: &Table,
+        message: u32,
+        oneof: u32,
+        depth: u32,
+        place: u64,
+        value: u64,
+    ) -> Result<(), Memory>
+        requires valid { IsValid table.now }
+        requires room { place + 1 < 2 ^ 64 }
+        requires no_run { self.old.run ≡ None }
+        requires fine { IsFine table.now self.old.size (case_word (fields_of table.now message) oneof depth) value }
+        ensures expected { OnOk result
+            (Leads table.now (behind table.now (case_word (fields_of table.now message) oneof depth) place value) self.old self.new) }
+        ensures size { self.new.size ≡ self.old.size }
+    {
+        if value == 0 {
+            return Ok(());
+        }
+        match field_of(table, message, value) {
+            Some(field) => {
+                let role = plain_role(field.kind, depth, true);
+                self.expect_if(true, role, place)
+            }
+            None => Ok(()),
+        }
+    }
+
+    /// A word of a run: spare bytes are 0, and the bytes of a string are judged with its last word.
+    fn follow_run(&mut self, run: RunWord, value: u64) -> Result<Option<Reason>, Memory>
+        requires no_run { self.old.run ≡ None }
+        requires room { run.place + 1 < 2 ^ 64 }
+        ensures follows { IfOk result (λ found. (T : Table)
+            → Follows T (run_word run.kind run.left self.old.bytes.items, run.place) value self.old self.new found) }
+        ensures size { self.new.size ≡ self.old.size }
+    {
+        if has_spare_bytes(run.left, value) {
+            return Ok(Some(Reason::Narrow));
+        }
+        let word = value.to_le_bytes();
+        if run.left > 8 {
+            self.bytes.extend_from_slice(&word)?;
+            self.run = Some(RunWord {
+                kind: run.kind,
+                left: run.left - 8,
+                place: run.place + 1,
+            });
+            return Ok(None);
+        }
+        self.bytes.extend_from_slice(&word[..run.left as usize])?;
+        Ok(judge_run(run.kind, self.bytes.as_slice()))
+    }
+}
+
+/// Whether a byte of the word isn't 0 past the bytes that are left of a run.
+fn has_spare_bytes(left: u64, value: u64) -> bool
+    ensures { IsTrue result ↔ ((left < 8) × (2 ^ (8 * left) ≤ value)) }
+{
+    left < 8 && value >= 1 << (8 * left)
+}
+
+/// A string is UTF-8.
+fn judge_run(kind: Kind, bytes: &[u8]) -> Option<Reason>
+    ensures { Told (kind ≡ Kind.Text → IsUtf8 bytes.now) Reason.Utf8 result }
+{
+    match kind {
+        Kind::Text => {
+            if str::from_utf8(bytes).is_ok() {
+                None
+            } else {
+                Some(Reason::Utf8)
+            }
+        }
+        _ => None,
+    }
+}

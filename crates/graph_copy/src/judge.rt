@@ -1,0 +1,158 @@
+//! Which words offend, and first for which reason.
+
+ghost use Rattle.std.specs.Prelude.{◌≡◌, ◌≤◌, ◌↔◌, ℕ, IsTrue};
+ghost use Rattle.mrpc_table.specs.Normal.{fields_of};
+ghost use Rattle.mrpc_table.specs.Valid.{IsValid};
+ghost use Rattle.mrpc_table.specs.Words.{IsWordForm};
+ghost use Rattle.mrpc_table.specs.declared.table.Table.{Table};
+ghost use Rattle.graph_form.specs.Roles.{link, case_word, size_words};
+ghost use Rattle.graph_form.specs.Placed.{LiesIn};
+ghost use Rattle.graph_copy.specs.Expects.{role_of};
+ghost use Rattle.graph_copy.specs.Judged.{Judged, Told, IsMember};
+
+use crate::look_up::{field_of, node_words};
+use crate::role::{Role, element_words, run_words};
+use graph_form::Reason;
+use mrpc_table::{Kind, Label, MAX_DEPTH, Table};
+
+/// Whether the word is the form of a number of the kind.
+fn is_word_form(kind: Kind, word: u64) -> bool
+    ensures { IsTrue result ↔ IsWordForm kind word }
+{
+    match kind {
+        Kind::Int32 | Kind::Sint32 | Kind::Sfixed32 | Kind::Choice(_) => {
+            word < 0x8000_0000 || word >= 0xffff_ffff_8000_0000
+        }
+        Kind::Uint32 | Kind::Fixed32 | Kind::Float => word < 0x1_0000_0000,
+        Kind::Bool => word < 2,
+        Kind::Int64 | Kind::Sint64 | Kind::Uint64 | Kind::Fixed64 | Kind::Sfixed64 | Kind::Double =>
+            true,
+        Kind::Text | Kind::Octets | Kind::Message(_) => false,
+    }
+}
+
+/// Whether a span of words lies in a heap, whose word 0 belongs to nobody.
+pub fn lies_in(size: u64, place: u64, words: u64) -> bool
+    ensures { IsTrue result ↔ LiesIn size place words }
+{
+    place >= 1 && place <= size && words <= size - place
+}
+
+/// Why a word of the role offends in a heap of a size, first; none where it doesn't.
+pub fn offence(table: &Table, size: u64, role: Role, value: u64) -> Option<Reason>
+    requires valid { IsValid table.now }
+    requires least { 1 ≤ size }
+    requires most { size ≤ 65536 }
+    ensures { Judged table.now size (role_of table.now role) value result }
+{
+    match role {
+        Role::Value(kind) => judge_value(kind, value),
+        Role::Presence(_) => judge_presence(value),
+        Role::RunLength(_) => judge_length(value, 8 * size - 8),
+        Role::RunPresence(_) => judge_length(value, 8 * size - 7),
+        Role::RunAddress { kind: _, bytes } => judge_address(size, value, run_words(bytes)),
+        Role::Link {
+            message,
+            depth,
+            needed,
+        } => judge_link(size, node_words(table, message), depth, needed, value),
+        Role::Count { kind, depth: _ } => judge_length(value, (size - 1) / element_words(kind)),
+        Role::Elements {
+            kind,
+            count,
+            depth: _,
+        } => judge_address(size, value, count.saturating_mul(element_words(kind))),
+        Role::EntryCount { .. } => judge_length(value, (size - 1) / 4),
+        Role::Entries {
+            key: _,
+            kind: _,
+            count,
+            depth: _,
+        } => judge_address(size, value, count.saturating_mul(4)),
+        Role::Case {
+            message,
+            oneof,
+            depth: _,
+        } => judge_case(table, message, oneof, value),
+    }
+}
+
+fn judge_value(kind: Kind, value: u64) -> Option<Reason>
+    ensures { Told (IsWordForm kind value) Reason.Narrow result }
+{
+    if is_word_form(kind, value) {
+        None
+    } else {
+        Some(Reason::Narrow)
+    }
+}
+
+fn judge_presence(value: u64) -> Option<Reason>
+    ensures { Told (value ≤ 1) Reason.Presence result }
+{
+    if value <= 1 {
+        None
+    } else {
+        Some(Reason::Presence)
+    }
+}
+
+fn judge_length(value: u64, most: u64) -> Option<Reason>
+    ensures { Told (value ≤ most) Reason.Length result }
+{
+    if value <= most {
+        None
+    } else {
+        Some(Reason::Length)
+    }
+}
+
+fn judge_address(size: u64, place: u64, words: u64) -> Option<Reason>
+    ensures { Told (LiesIn size place words) Reason.Address result }
+{
+    if lies_in(size, place, words) {
+        None
+    } else {
+        Some(Reason::Address)
+    }
+}
+
+fn judge_link(size: u64, words: u64, depth: u32, needed: bool, value: u64) -> Option<Reason>
+    ensures { (T : Table) (m : ℕ) → words ≡ size_words T m → Judged T size (link m depth needed) value result }
+{
+    if value == 0 && !needed {
+        return None;
+    }
+    if !lies_in(size, value, words) {
+        return Some(Reason::Address);
+    }
+    if depth >= MAX_DEPTH {
+        return Some(Reason::Depth);
+    }
+    None
+}
+
+fn judge_case(table: &Table, message: u32, oneof: u32, value: u64) -> Option<Reason>
+    requires { IsValid table.now }
+    ensures { (H depth : ℕ) → Judged table.now H (case_word (fields_of table.now message) oneof depth) value result }
+{
+    if value == 0 || has_member(table, message, oneof, value) {
+        None
+    } else {
+        Some(Reason::Case)
+    }
+}
+
+/// Whether the field of a number is a member of the oneof.
+fn has_member(table: &Table, message: u32, oneof: u32, number: u64) -> bool
+    requires { IsValid table.now }
+    ensures { IsTrue result ↔ IsMember (fields_of table.now message) oneof number }
+{
+    match field_of(table, message, number) {
+        Some(field) => match field.label {
+            Label::Member(place) => place == oneof,
+            _ => false,
+        },
+        None => false,
+    }
+}

@@ -1,0 +1,145 @@
+//! What a word of a graph is for.
+
+ghost use Rattle.std.specs.Prelude.{◌≡◌, ◌≤◌};
+ghost use Rattle.mrpc_table.specs.declared.table.Table.{Table};
+ghost use Rattle.graph_form.specs.Roles.{plain_role, optional_role, slot_role, element_words, run_words};
+ghost use Rattle.graph_copy.specs.Shapes.{shape_of};
+ghost use Rattle.graph_copy.specs.Expects.{role_of};
+
+use mrpc_table::{Kind, Label};
+
+/// What a word is for. A depth is that of the message in which the word stands, the root counting 1.
+#[derive(Clone, Copy)]
+pub enum Role {
+    /// A number of the kind.
+    Value(Kind),
+    /// 0, or 1 where the number follows.
+    Presence(Kind),
+    /// The length of a run.
+    RunLength(Kind),
+    /// 0 where the run is absent, else its length plus 1.
+    RunPresence(Kind),
+    /// The address of a run of so many bytes.
+    RunAddress {
+        kind: Kind,
+        bytes: u64,
+    },
+    /// The address of a message; 0 is one that is absent, unless it must be there.
+    Link {
+        message: u32,
+        depth: u32,
+        needed: bool,
+    },
+    /// The number of elements.
+    Count {
+        kind: Kind,
+        depth: u32,
+    },
+    /// The address of so many elements.
+    Elements {
+        kind: Kind,
+        count: u64,
+        depth: u32,
+    },
+    /// The number of entries of a map.
+    EntryCount {
+        key: Kind,
+        kind: Kind,
+        depth: u32,
+    },
+    /// The address of so many entries.
+    Entries {
+        key: Kind,
+        kind: Kind,
+        count: u64,
+        depth: u32,
+    },
+    /// The number of the member that a oneof of the message has, or 0.
+    Case {
+        message: u32,
+        oneof: u32,
+        depth: u32,
+    },
+}
+
+/// How a value of a kind lies in words.
+#[derive(Clone, Copy)]
+pub enum Shape {
+    /// In one word.
+    Number,
+    /// In a run of bytes.
+    Run,
+    /// In the node of the message at this place of the table.
+    Message(u32),
+}
+
+/// How a value of the kind lies in words.
+pub fn shape_of(kind: Kind) -> Shape
+    ensures { result ≡ shape_of kind }
+{
+    match kind {
+        Kind::Text | Kind::Octets => Shape::Run,
+        Kind::Message(message) => Shape::Message(message),
+        _ => Shape::Number,
+    }
+}
+
+/// The first word of a plain slot.
+pub fn plain_role(kind: Kind, depth: u32, needed: bool) -> Role
+    ensures { (T : Table) → role_of T result ≡ plain_role kind depth needed }
+{
+    match shape_of(kind) {
+        Shape::Number => Role::Value(kind),
+        Shape::Run => Role::RunLength(kind),
+        Shape::Message(message) => Role::Link {
+            message,
+            depth,
+            needed,
+        },
+    }
+}
+
+/// The first word of a slot with explicit presence.
+fn optional_role(kind: Kind) -> Role
+    ensures { (T : Table) → role_of T result ≡ optional_role kind }
+{
+    match shape_of(kind) {
+        Shape::Run => Role::RunPresence(kind),
+        _ => Role::Presence(kind),
+    }
+}
+
+/// The first word of a field's slot.
+pub fn slot_role(label: Label, kind: Kind, depth: u32) -> Role
+    ensures { (T : Table) → role_of T result ≡ slot_role label kind depth }
+{
+    match label {
+        Label::Optional => optional_role(kind),
+        Label::Repeated | Label::Packed => Role::Count { kind, depth },
+        Label::Map(key) => Role::EntryCount { key, kind, depth },
+        Label::Plain | Label::Member(_) => plain_role(kind, depth, false),
+    }
+}
+
+/// How many words an element of a repeated field takes.
+pub fn element_words(kind: Kind) -> u64
+    ensures value { result ≡ element_words kind }
+    ensures least { 1 ≤ result }
+    ensures most { result ≤ 2 }
+{
+    match shape_of(kind) {
+        Shape::Run => 2,
+        _ => 1,
+    }
+}
+
+/// How many words a run of so many bytes takes.
+pub fn run_words(bytes: u64) -> u64
+    ensures { result ≡ run_words bytes }
+{
+    if bytes % 8 == 0 {
+        bytes / 8
+    } else {
+        bytes / 8 + 1
+    }
+}

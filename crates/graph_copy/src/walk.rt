@@ -1,0 +1,346 @@
+//! What is expected of a graph next: the words that weren't loaded yet, each with what it is for.
+
+ghost use Rattle.std.specs.Prelude.{◌≡◌, ◌≤◌, ◌+◌, ℕ, List, [], ◌∷◌, ◌++◌, IfOk, OnOk, MatchOption};
+ghost use Rattle.mrpc_table.specs.Valid.{IsValid};
+ghost use Rattle.mrpc_table.specs.declared.table.Table.{Table};
+ghost use Rattle.graph_form.specs.Roles.{size_words, node_words, elements_from, entries_from};
+ghost use Rattle.graph_copy.specs.Expects.{expected, frame_words, stack_words, next_word, AllFit};
+ghost use Rattle.graph_copy.specs.Opens.{Opens};
+
+use crate::look_up::{fields_of, next_slot, oneofs_of};
+use crate::role::{Role, element_words, plain_role, slot_role};
+use mrpc_table::{Kind, Memory, Table};
+use std::alloc::Global;
+
+/// Some words that are expected, one behind another.
+#[derive(Clone, Copy)]
+pub enum Frame {
+    /// One word.
+    Word {
+        role: Role,
+        place: u64,
+    },
+    /// The slots of a message's fields from a place in its list on.
+    Slots {
+        message: u32,
+        field: usize,
+        depth: u32,
+        place: u64,
+    },
+    /// The slots of a message's oneofs from one on.
+    Oneofs {
+        message: u32,
+        oneof: u32,
+        depth: u32,
+        place: u64,
+    },
+    /// So many elements.
+    Elements {
+        kind: Kind,
+        left: u64,
+        depth: u32,
+        place: u64,
+    },
+    /// So many entries.
+    Entries {
+        key: Kind,
+        kind: Kind,
+        left: u64,
+        depth: u32,
+        place: u64,
+    },
+}
+
+/// The next word of a run: so many bytes are left with it.
+#[derive(Clone, Copy)]
+pub struct RunWord {
+    pub kind: Kind,
+    pub left: u64,
+    pub place: u64,
+}
+
+/// The word that is loaded next.
+#[derive(Clone, Copy)]
+pub enum Next {
+    Word { role: Role, place: u64 },
+    Run(RunWord),
+}
+
+impl Next {
+    pub fn place(self) -> u64
+        ensures { (T : Table) (bytes : List ℕ) → result ≡ (next_word T bytes self).1 }
+    {
+        match self {
+            Next::Word { role: _, place } => place,
+            Next::Run(run) => run.place,
+        }
+    }
+}
+
+/// The words that are expected of a graph, in a heap of a size: those of the run that is being loaded, and then
+/// those of the frames, the last one first.
+#[derive(Drop)]
+pub struct Walk {
+    pub size: u64,
+    pub run: Option<RunWord>,
+    /// The bytes of the run so far.
+    pub bytes: Vec<u8>,
+    pub frames: Vec<Frame>,
+}
+
+impl Walk {
+    /// Nothing is expected.
+    pub fn new(alloc: Global, size: u64) -> Walk
+        ensures size { result.size ≡ size }
+        ensures run { result.run ≡ None }
+        ensures expected { (T : Table) → expected T result ≡ [] }
+    {
+        Walk {
+            size,
+            run: None,
+            bytes: Vec::new(alloc),
+            frames: Vec::new(alloc),
+        }
+    }
+
+    /// The words of a frame are expected before those of the others.
+    pub fn push(&mut self, frame: Frame) -> Result<(), Memory>
+        ensures frames { OnOk result ((T : Table)
+            → stack_words T self.new.frames.items ≡ frame_words T frame ++ stack_words T self.old.frames.items) }
+        ensures size { self.new.size ≡ self.old.size }
+        ensures run { self.new.run ≡ self.old.run }
+        ensures bytes { self.new.bytes ≡ self.old.bytes }
+    {
+        self.frames.push(frame)?;
+        Ok(())
+    }
+
+    /// The words of a node of the message at a place of the table are expected before all others.
+    pub fn expect_node(
+        &mut self,
+        table: &Table,
+        message: u32,
+        depth: u32,
+        place: u64,
+        words: u64,
+    ) -> Result<(), Memory>
+        requires valid { IsValid table.now }
+        requires words { words ≡ size_words table.now message }
+        requires lies { place + words ≤ self.old.size }
+        requires size { self.old.size ≤ 65536 }
+        requires no_run { self.old.run ≡ None }
+        ensures expected { OnOk result
+            (expected table.now self.new ≡ node_words table.now message depth place ++ expected table.now self.old) }
+        ensures size { self.new.size ≡ self.old.size }
+        ensures no_run { self.new.run ≡ None }
+    {
+        let oneofs = u64::from(oneofs_of(table, message));
+        self.push(Frame::Oneofs {
+            message,
+            oneof: 0,
+            depth,
+            place: place + (words - 3 * oneofs),
+        })?;
+        self.push(Frame::Slots {
+            message,
+            field: 0,
+            depth,
+            place,
+        })?;
+        Ok(())
+    }
+
+    /// Takes the word that is loaded next; none where no more is expected.
+    pub fn next(&mut self, table: &Table) -> Result<Option<Next>, Memory>
+        requires valid { IsValid table.now }
+        requires fits { AllFit self.old.size (expected table.now self.old) }
+        requires size { self.old.size ≤ 65536 }
+        ensures word { IfOk result (λ found. MatchOption found (expected table.now self.old ≡ [])
+            (λ next. expected table.now self.old
+            ≡ next_word table.now self.new.bytes.items next ∷ expected table.now self.new)) }
+        ensures size { self.new.size ≡ self.old.size }
+        ensures no_run { self.new.run ≡ None }
+    {
+        if let Some(run) = self.run {
+            self.run = None;
+            return Ok(Some(Next::Run(run)));
+        }
+        while let Some(frame) = self.frames.pop() {
+            if let Some((role, place)) = self.open(table, frame)? {
+                return Ok(Some(Next::Word { role, place }));
+            }
+        }
+        Ok(None)
+    }
+
+    /// The first word of a frame, whose others are expected before all else.
+    fn open(&mut self, table: &Table, frame: Frame) -> Result<Option<(Role, u64)>, Memory>
+        requires valid { IsValid table.now }
+        requires fits { AllFit self.old.size (frame_words table.now frame) }
+        requires size { self.old.size ≤ 65536 }
+        ensures found { IfOk result
+            (Opens table.now (frame_words table.now frame) self.old.frames.items self.new.frames.items) }
+        ensures size { self.new.size ≡ self.old.size }
+        ensures run { self.new.run ≡ self.old.run }
+        ensures bytes { self.new.bytes ≡ self.old.bytes }
+    {
+        match frame {
+            Frame::Word { role, place } => Ok(Some((role, place))),
+            Frame::Slots {
+                message,
+                field,
+                depth,
+                place,
+            } => self.open_slots(table, message, field, depth, place),
+            Frame::Oneofs {
+                message,
+                oneof,
+                depth,
+                place,
+            } => self.open_oneofs(table, message, oneof, depth, place),
+            Frame::Elements {
+                kind,
+                left,
+                depth,
+                place,
+            } => self.open_elements(kind, left, depth, place),
+            Frame::Entries {
+                key,
+                kind,
+                left,
+                depth,
+                place,
+            } => self.open_entries(key, kind, left, depth, place),
+        }
+    }
+
+    fn open_slots(
+        &mut self,
+        table: &Table,
+        message: u32,
+        from: usize,
+        depth: u32,
+        place: u64,
+    ) -> Result<Option<(Role, u64)>, Memory>
+        requires valid { IsValid table.now }
+        requires fits { AllFit self.old.size (frame_words table.now (Frame.Slots message from depth place)) }
+        requires size { self.old.size ≤ 65536 }
+        ensures found { IfOk result
+            (Opens table.now (frame_words table.now (Frame.Slots message from depth place))
+            self.old.frames.items self.new.frames.items) }
+        ensures size { self.new.size ≡ self.old.size }
+        ensures run { self.new.run ≡ self.old.run }
+        ensures bytes { self.new.bytes ≡ self.old.bytes }
+    {
+        let fields = fields_of(table, message);
+        match next_slot(fields, from) {
+            Some(index) => {
+                let field = &fields[index];
+                let role = slot_role(field.label, field.kind, depth);
+                self.push(Frame::Slots {
+                    message,
+                    field: index + 1,
+                    depth,
+                    place: place + 2,
+                })?;
+                Ok(Some((role, place)))
+            }
+            None => Ok(None),
+        }
+    }
+
+    fn open_oneofs(
+        &mut self,
+        table: &Table,
+        message: u32,
+        oneof: u32,
+        depth: u32,
+        place: u64,
+    ) -> Result<Option<(Role, u64)>, Memory>
+        requires valid { IsValid table.now }
+        requires fits { AllFit self.old.size (frame_words table.now (Frame.Oneofs message oneof depth place)) }
+        requires size { self.old.size ≤ 65536 }
+        ensures found { IfOk result
+            (Opens table.now (frame_words table.now (Frame.Oneofs message oneof depth place))
+            self.old.frames.items self.new.frames.items) }
+        ensures size { self.new.size ≡ self.old.size }
+        ensures run { self.new.run ≡ self.old.run }
+        ensures bytes { self.new.bytes ≡ self.old.bytes }
+    {
+        if oneof >= oneofs_of(table, message) {
+            return Ok(None);
+        }
+        self.push(Frame::Oneofs {
+            message,
+            oneof: oneof + 1,
+            depth,
+            place: place + 3,
+        })?;
+        let role = Role::Case {
+            message,
+            oneof,
+            depth,
+        };
+        Ok(Some((role, place)))
+    }
+
+    fn open_elements(
+        &mut self,
+        kind: Kind,
+        left: u64,
+        depth: u32,
+        place: u64,
+    ) -> Result<Option<(Role, u64)>, Memory>
+        requires fits { AllFit self.old.size (elements_from left kind depth place) }
+        requires size { self.old.size ≤ 65536 }
+        ensures found { IfOk result (λ found. (T : Table)
+            → Opens T (elements_from left kind depth place) self.old.frames.items self.new.frames.items found) }
+        ensures size { self.new.size ≡ self.old.size }
+        ensures run { self.new.run ≡ self.old.run }
+        ensures bytes { self.new.bytes ≡ self.old.bytes }
+    {
+        if left == 0 {
+            return Ok(None);
+        }
+        self.push(Frame::Elements {
+            kind,
+            left: left - 1,
+            depth,
+            place: place + element_words(kind),
+        })?;
+        Ok(Some((plain_role(kind, depth, true), place)))
+    }
+
+    fn open_entries(
+        &mut self,
+        key: Kind,
+        kind: Kind,
+        left: u64,
+        depth: u32,
+        place: u64,
+    ) -> Result<Option<(Role, u64)>, Memory>
+        requires fits { AllFit self.old.size (entries_from left key kind depth place) }
+        requires size { self.old.size ≤ 65536 }
+        ensures found { IfOk result (λ found. (T : Table)
+            → Opens T (entries_from left key kind depth place) self.old.frames.items self.new.frames.items found) }
+        ensures size { self.new.size ≡ self.old.size }
+        ensures run { self.new.run ≡ self.old.run }
+        ensures bytes { self.new.bytes ≡ self.old.bytes }
+    {
+        if left == 0 {
+            return Ok(None);
+        }
+        self.push(Frame::Entries {
+            key,
+            kind,
+            left: left - 1,
+            depth,
+            place: place + 4,
+        })?;
+        self.push(Frame::Word {
+            role: plain_role(kind, depth, true),
+            place: place + 2,
+        })?;
+        Ok(Some((plain_role(key, depth, true), place)))
+    }
+}
