@@ -1,9 +1,7 @@
-mod Finding
 mod Judging
 mod NameLemmas
 mod ReadLemmas
 mod Rows
 mod ReadRows
 mod TextLemmas
-mod Ways
 mod Words

@@ -1,16 +1,14 @@
--- The words of a line and the numbers of a path.
-use Rattle.std.proofs.Common.{◌≡◌, ℕ, suc, ◌==◌, ◌||◌, Bool, true, false, cond, List, [], ◌∷◌, ◌++◌, length, Option, Some, None, refl, sym, ap, ◌∙◌, append_assoc, arith, Bor, IfSome}
+-- The words of a line.
+use Rattle.std.proofs.Common.{◌≡◌, ℕ, suc, ◌==◌, ◌||◌, Bool, true, false, cond, List, [], ◌∷◌, length, Option, Some, None, refl, ap, ◌∙◌, arith, Bor, IfSome}
 use Rattle.std.specs.Prelude.{if◌then◌else◌, option_map}
 use Rattle.std.specs.List.{slice_split, onto_first}
 use Rattle.std.proofs.lemmas.List.Splits.{join_with_byte-slice_split}
 use Rattle.mrpc_table.specs.Lines.{words_of}
-use Rattle.mrpc_table.specs.declared.words.Decimal.{Decimal}
-use Rattle.policy_access.specs.Lines.{value_of, is_quoted, path_of_parts, begins_path, decimal_of, optional_test, test_of}
+use Rattle.policy_access.specs.Lines.{value_of, is_quoted, optional_test, test_of}
 use Rattle.policy_access.specs.Values.{quoted, quoted_part}
-use Rattle.policy_access.specs.declared.line.PathLine.{PathLine}
 
 -- a list has at least one part
-pub has_part : (sep : ℕ) (text : List ℕ) → (part : List ℕ) × (parts : List (List ℕ)) × (slice_split (λ c. c == sep) text ≡ part ∷ parts)
+has_part : (sep : ℕ) (text : List ℕ) → (part : List ℕ) × (parts : List (List ℕ)) × (slice_split (λ c. c == sep) text ≡ part ∷ parts)
 has_part sep [] = ([], [], refl)
 has_part sep (x ∷ xs) =
     let rest = has_part sep xs in
@@ -22,25 +20,6 @@ has_part sep (x ∷ xs) =
 -- the words of a line, joined, are the line
 pub value_of_line : (line : List ℕ) → value_of (words_of line) ≡ (if is_quoted line || length (words_of line) == 1 then Some line else None)
 value_of_line line = ap (λ (v : List ℕ). if is_quoted v || length (words_of line) == 1 then Some v else None) (join_with_byte-slice_split 32 line)
-
--- a path with numbers in front of it
-abbrev pub behind_numbers : List Decimal → PathLine → PathLine
-behind_numbers ns p = record { way = ns ++ p.way; last = p.last }
-
-pub one_more : (ns : List Decimal) (n : Decimal) (p : Option PathLine) → option_map (behind_numbers ns) (option_map (begins_path n) p) ≡ option_map (behind_numbers (ns ++ n ∷ [])) p
-one_more ns n None = refl
-one_more ns n (Some p) = ap (λ (w : List Decimal). Some (record { way = w; last = p.last })) (sym (append_assoc ns (n ∷ []) p.way))
-
-pub step_path : (part : List ℕ) (n : Decimal) (text : List ℕ) → decimal_of part ≡ Some n
-    → path_of_parts (part ∷ slice_split (λ c. c == 46) text) ≡ option_map (begins_path n) (path_of_parts (slice_split (λ c. c == 46) text))
-step_path part n text is = let rest = has_part 46 text in rw (rest.2, is) refl
-
-pub no_number : (part : List ℕ) (text : List ℕ) → decimal_of part ≡ None → path_of_parts (part ∷ slice_split (λ c. c == 46) text) ≡ None
-no_number part text is = let rest = has_part 46 text in rw (rest.2, is) refl
-
-pub none_either : {X : Type 0} (b : Bool) (r : Option X) → r ≡ None → (if b then r else None) ≡ None
-none_either true r is = is
-none_either false r is = refl
 
 pub more_words : (r : Option (Bor (List ℕ) × Bor (List ℕ))) → IfSome r (λ p. (word : List ℕ) × (words : List (List ℕ)) × (words_of p.1.now ≡ word ∷ words))
 more_words None = tt

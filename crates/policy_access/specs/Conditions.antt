@@ -6,14 +6,15 @@ use Rattle.std.specs.Str.{bytes_eq}
 use Rattle.mrpc_table.specs.Node.{Node, Item, number, run}
 use Rattle.mrpc_table.specs.Words.{rank}
 use Rattle.mrpc_table.specs.declared.table.Kind.{Kind}
-use Rattle.policy_access.specs.Paths.{content_behind, item_behind}
+use Rattle.field_path.specs.Trees.{content_behind}
+use Rattle.field_path.specs.declared.path.Path.{Path}
+use Rattle.policy_access.specs.Paths.{item_behind}
 use Rattle.policy_access.specs.declared.rule.Operand.{Operand}
 use Rattle.policy_access.specs.declared.rule.Operand.TheVariants.{Number, Run}
 use Rattle.policy_access.specs.declared.rule.Condition.{Condition}
 use Rattle.policy_access.specs.declared.rule.Condition.TheVariants.{Present, Compares}
 use Rattle.policy_access.specs.declared.rule.Comparison.{Comparison}
 use Rattle.policy_access.specs.declared.rule.Comparison.TheVariants.{Equal, NotEqual, Less, Greater, Starts}
-use Rattle.policy_access.specs.declared.rule.Path.{Path}
 use Rattle.policy_access.specs.declared.rule.Test.{Test}
 
 -- the value of a field is that of the rule

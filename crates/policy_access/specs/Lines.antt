@@ -1,9 +1,10 @@
 -- What a line of an access policy says, by its form alone (this project's own format).
-use Rattle.std.specs.Prelude.{ℕ, ◌==◌, nat_le, Bool, true, false, ◌||◌, if◌then◌else◌, List, [], ◌∷◌, codes, length, Option, Some, None, option_map, option_and_then}
-use Rattle.std.specs.List.{slice_split, join_with_byte}
+use Rattle.std.specs.Prelude.{ℕ, ◌==◌, Bool, true, false, ◌||◌, if◌then◌else◌, List, [], ◌∷◌, codes, length, Option, Some, None, option_map, option_and_then}
+use Rattle.std.specs.List.{join_with_byte}
 use Rattle.std.specs.Str.{bytes_eq}
-use Rattle.mrpc_table.specs.Lines.{words_of, number_of, in_64_bits}
+use Rattle.mrpc_table.specs.Lines.{words_of}
 use Rattle.mrpc_table.specs.declared.words.Decimal.{Decimal}
+use Rattle.field_path.specs.Words.{decimal_of, path_of}
 use Rattle.policy_access.specs.declared.rule.Comparison.{Comparison}
 use Rattle.policy_access.specs.declared.rule.Comparison.TheVariants.{Equal, NotEqual, Less, Greater, Starts}
 use Rattle.policy_access.specs.declared.line.Line.{Line}
@@ -13,32 +14,12 @@ use Rattle.policy_access.specs.declared.line.AboutLine.{AboutLine}
 use Rattle.policy_access.specs.declared.line.AboutLine.TheVariants.{Every, Calls}
 use Rattle.policy_access.specs.declared.line.CallsLine.{CallsLine}
 use Rattle.policy_access.specs.declared.line.TestLine.{TestLine}
-use Rattle.policy_access.specs.declared.line.PathLine.{PathLine}
 use Rattle.policy_access.specs.declared.line.ConditionLine.{ConditionLine}
 use Rattle.policy_access.specs.declared.line.ConditionLine.TheVariants.{Present, Compares}
 
 -- `allow` or `deny`
 abbrev pub allow_of : List ℕ → Option Bool
 allow_of word = if bytes_eq word (codes "allow") then Some true else if bytes_eq word (codes "deny") then Some false else None
-
--- a number of any length
-abbrev pub decimal_of : List ℕ → Option Decimal
-decimal_of word = option_map in_64_bits (number_of word)
-
--- the numbers of a path; a path has at most 32
-abbrev pub ends_path : Decimal → PathLine
-ends_path n = record { way = []; last = n }
-
-abbrev pub begins_path : Decimal → PathLine → PathLine
-begins_path n p = record { way = n ∷ p.way; last = p.last }
-
-abbrev pub path_of_parts : List (List ℕ) → Option PathLine
-path_of_parts [] = None
-path_of_parts (part ∷ []) = option_map ends_path (decimal_of part)
-path_of_parts (part ∷ other ∷ parts) = option_and_then (λ n. option_map (begins_path n) (path_of_parts (other ∷ parts))) (decimal_of part)
-
-abbrev pub path_of : List ℕ → Option PathLine
-path_of word = let parts = slice_split (λ c. c == 46) word in if nat_le (length parts) 32 then path_of_parts parts else None
 
 -- how a value is compared
 abbrev pub comparison_of : List ℕ → Option Comparison

@@ -1,39 +1,13 @@
--- What a tree has at the end of a path, and the value there (this project's own rule language, over the
--- presence of Protocol Buffers, "Field Presence").
-use Rattle.std.specs.Prelude.{ℕ, ◌<◌, ◌==◌, if◌then◌else◌, List, [], ◌∷◌, Option, Some, None, option_and_then}
-use Rattle.mrpc_table.specs.Node.{Node, no_fields, field, Content, one, Item, number, run, node}
+-- The value that a tree has at the end of a path (this project's own rule language, over the presence of
+-- Protocol Buffers, "Field Presence").
+use Rattle.std.specs.Prelude.{[], Option, Some, None, option_and_then}
+use Rattle.mrpc_table.specs.Node.{Node, Content, Item, number, run, node}
 use Rattle.mrpc_table.specs.declared.table.Kind.{Kind}
 use Rattle.mrpc_table.specs.declared.table.Kind.TheVariants.{Text, Octets, Message}
 use Rattle.mrpc_table.specs.declared.table.Label.{Label}
 use Rattle.mrpc_table.specs.declared.table.Label.TheVariants.{Plain}
-use Rattle.policy_access.specs.declared.rule.Path.{Path}
-
--- what a tree has under a number
-abbrev pub content_under : Node → ℕ → Option Content
-content_under no_fields n = None
-content_under (field m c t) n = if m == n then Some c else content_under t n
-
--- one value, and the message that it is
-abbrev pub item_in : Content → Option Item
-item_in (one i) = Some i
-item_in _ = None
-
-abbrev pub message_in : Item → Option Node
-message_in (node t) = Some t
-message_in _ = None
-
--- the message that a tree has under a number
-abbrev pub message_under : Node → ℕ → Option Node
-message_under t n = option_and_then message_in (option_and_then item_in (content_under t n))
-
--- the message at the end of a way; none where one on the way is unset
-abbrev pub message_behind : Node → List ℕ → Option Node
-message_behind t [] = Some t
-message_behind t (n ∷ way) = option_and_then (λ m. message_behind m way) (message_under t n)
-
--- what the tree has at the end of a path
-abbrev pub content_behind : Node → Path → Option Content
-content_behind t path = option_and_then (λ m. content_under m path.number) (message_behind t path.way)
+use Rattle.field_path.specs.Trees.{content_under, item_in, message_behind}
+use Rattle.field_path.specs.declared.path.Path.{Path}
 
 -- the default of a kind: 0, the empty text or no bytes; a message has none
 abbrev pub default_item : Kind → Option Item
@@ -61,20 +35,3 @@ item_of_field k label (Some c) = option_and_then compared_item (item_in c)
 -- the value at the end of a path: none where a message on the way is unset
 abbrev pub item_behind : Node → Path → Option Item
 item_behind t path = option_and_then (λ m. item_of_field path.kind path.label (content_under m path.number)) (message_behind t path.way)
-
--- the numbers of a message's fields ascend, and so in each message inside it that stands alone in its field
-abbrev mutual
-  pub AscendsFrom : ℕ → Node → Type 0
-  AscendsFrom last no_fields = Unit {0}
-  AscendsFrom last (field n c t) = (last < n) × HoldsAscending c × AscendsFrom n t
-
-  pub HoldsAscending : Content → Type 0
-  HoldsAscending (one i) = IsAscendingItem i
-  HoldsAscending _ = Unit {0}
-
-  pub IsAscendingItem : Item → Type 0
-  IsAscendingItem (node t) = AscendsFrom 0 t
-  IsAscendingItem _ = Unit {0}
-
-abbrev pub IsAscending : Node → Type 0
-IsAscending t = AscendsFrom 0 t

@@ -6,6 +6,7 @@ use crate::call::{Call, Verdict};
 use crate::condition::first_match;
 use crate::copied::copied_rules;
 use crate::rule::Rule;
+use field_path::normal_ascends;
 use mrpc_table::{Bytes, Memory, Name, Sequence, Table};
 use std::alloc::Global;
 use std::marker::Model;
@@ -55,6 +56,7 @@ impl Access {
         ensures within { result.rule ≤ length self.now.rules }
     {
         prove!((call.method as usize) < table.methods.len());
+        normal_ascends();
         let rules = self.rules.as_slice();
         match first_match(rules, call) {
             Some(place) => Verdict {

@@ -4,13 +4,14 @@ ghost use Rattle.std.specs.Prelude.{◌≡◌, false, option_map, position};
 ghost use Rattle.std.specs.Option.{option_copied, option_map_or};
 ghost use Rattle.mrpc_table.specs.Node.{number, run};
 ghost use Rattle.mrpc_table.specs.View.{content_of};
-ghost use Rattle.policy_access.specs.Paths.{IsAscending, unset_item, item_of_field};
+ghost use Rattle.field_path.specs.Trees.{IsAscending};
+ghost use Rattle.policy_access.specs.Paths.{unset_item, item_of_field};
 ghost use Rattle.policy_access.specs.Conditions.{compares, meets};
 ghost use Rattle.policy_access.specs.Verdict.{is_among, matches};
 
 use crate::call::{Call, is_reply};
-use crate::find::{content_under, message_behind};
-use crate::rule::{About, Calls, Comparison, Condition, Operand, Path, Rule, Test};
+use crate::rule::{About, Calls, Comparison, Condition, Operand, Rule, Test};
+use field_path::{Path, content_under, message_behind};
 use mrpc_table::{FieldValue, Kind, Label, Tree, Value};
 
 fn number_compares(comparison: Comparison, kind: Kind, wanted: &Operand, word: u64) -> bool
@@ -108,7 +109,7 @@ fn is_among(calls: &Calls, call: &Call) -> bool
     }
 }
 
-// The place of the first rule that matches.
+/// The place of the first rule that matches.
 pub fn first_match(rules: &[Rule], call: &Call) -> Option<usize>
     requires { IsAscending call.now.tree }
     ensures { result ≡ position (λ rule. matches rule call.now) rules.now }

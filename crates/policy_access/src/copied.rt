@@ -2,7 +2,7 @@
 
 ghost use Rattle.std.specs.Prelude.{◌≡◌, IfOk, map, take};
 
-use crate::rule::{About, Calls, Condition, Operand, Path, Rule, Test};
+use crate::rule::{About, Calls, Condition, Operand, Rule, Test};
 use mrpc_table::{Memory, Sequence};
 use std::alloc::Global;
 
@@ -53,20 +53,6 @@ impl Test {
         Ok(Test {
             path: self.path.copied(alloc)?,
             condition: self.condition.copied(alloc)?,
-        })
-    }
-}
-
-impl Path {
-    fn copied(&self, alloc: Global) -> Result<Path, Memory>
-        ensures { IfOk result (λ r. r ≡ self.now) }
-    {
-        let way = Vec::from_slice(alloc, self.way.as_slice())?;
-        Ok(Path {
-            way: Sequence::from_vec(way),
-            number: self.number,
-            kind: self.kind,
-            label: self.label,
         })
     }
 }

@@ -3,11 +3,12 @@
 ghost use Rattle.std.specs.Prelude.{◌≡◌, ◌∷◌, ℕ, List, [], Some, IfOk, IfSome, MatchOption};
 ghost use Rattle.std.specs.Str.{bytes_eq};
 ghost use Rattle.mrpc_table.specs.Lines.{words_of};
-ghost use Rattle.policy_access.specs.Lines.{allow_of, path_of, comparison_of, value_of, condition_of, condition_of_words, test_of, calls_with, calls_of, about_of, rule_of, default_of, line_of, is_quoted};
+ghost use Rattle.policy_access.specs.Lines.{allow_of, comparison_of, value_of, condition_of, condition_of_words, test_of, calls_with, calls_of, about_of, rule_of, default_of, line_of, is_quoted};
 
-use crate::line::{AboutLine, CallsLine, ConditionLine, Line, PathLine, RuleLine, TestLine};
+use crate::line::{AboutLine, CallsLine, ConditionLine, Line, RuleLine, TestLine};
 use crate::rule::Comparison;
-use mrpc_table::{Bytes, Decimal, Memory, Sequence, cut, number_of};
+use field_path::PathWord;
+use mrpc_table::{Bytes, Decimal, Memory, cut, number_of};
 use std::alloc::Global;
 
 // The first of at least two words, and the line of the others.
@@ -53,32 +54,6 @@ fn comparison_of(word: &[u8]) -> Option<Comparison>
     } else {
         None
     }
-}
-
-/// How many numbers a path has at most.
-const NUMBERS: usize = 32;
-
-// The numbers of a path, which are joined by dots.
-fn path_of(alloc: Global, word: &[u8]) -> Result<Option<PathLine>, Memory>
-    ensures { IfOk result (λ p. p ≡ path_of word.now) }
-{
-    let mut way = Vec::new(alloc);
-    let mut rest = word;
-    while let Some((part, others)) = cut(rest, b'.') {
-        let Some(number) = number_of(part) else {
-            return Ok(None);
-        };
-        way.push(number)?;
-        rest = others;
-    }
-    let Some(last) = number_of(rest) else {
-        return Ok(None);
-    };
-    if way.len() >= NUMBERS {
-        return Ok(None);
-    }
-    let way = Sequence::from_vec(way);
-    Ok(Some(PathLine { way, last }))
 }
 
 fn is_quoted(value: &[u8]) -> bool
@@ -139,7 +114,7 @@ fn test_line(alloc: Global, line: &[u8]) -> Result<Option<TestLine>, Memory>
     if !is_word(first, b"where") {
         return Ok(None);
     }
-    let Some(path) = path_of(alloc, path)? else {
+    let Some(path) = PathWord::read(alloc, path)? else {
         return Ok(None);
     };
     match condition_line(alloc, rest)? {

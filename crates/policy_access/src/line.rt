@@ -1,7 +1,8 @@
 //! What a line of a policy says, by its form alone.
 
 use crate::rule::Comparison;
-use mrpc_table::{Bytes, Decimal, Sequence};
+use field_path::PathWord;
+use mrpc_table::{Bytes, Decimal};
 
 /// A line in form.
 #[derive(Debug, Drop)]
@@ -41,16 +42,8 @@ pub struct CallsLine {
 /// `where PATH OP [VALUE]`
 #[derive(Debug, Drop)]
 pub struct TestLine {
-    pub path: PathLine,
+    pub path: PathWord,
     pub condition: ConditionLine,
-}
-
-/// Field numbers joined by dots.
-#[derive(Debug, Drop)]
-pub struct PathLine {
-    /// All numbers but the last, in order.
-    pub way: Sequence<Decimal>,
-    pub last: Decimal,
 }
 
 /// `OP [VALUE]`

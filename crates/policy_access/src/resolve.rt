@@ -1,96 +1,16 @@
 //! What a rule is about in a table.
 
-ghost use Rattle.std.specs.Prelude.{◌≡◌, ◌<◌, ℕ, length, IfOk, option_map};
-ghost use Rattle.std.specs.Option.{option_copied};
-ghost use Rattle.mrpc_table.specs.Normal.{fields_of, field_at};
+ghost use Rattle.std.specs.Prelude.{◌≡◌, ◌<◌, length, IfOk};
 ghost use Rattle.mrpc_table.specs.Valid.{IsValid};
-ghost use Rattle.policy_access.specs.Rules.{field_numbered, is_single, step_in, way_in, path_in, has_value, is_comparable, is_run, suits, condition_in, test_in, tests_in, message_of, calls_of_method, calls_in, about_in};
+ghost use Rattle.policy_access.specs.Rules.{has_value, is_comparable, is_run, suits, condition_in, test_in, tests_in, message_of, calls_of_method, calls_in, about_in};
 
 use crate::fault::PartReason;
-use crate::line::{AboutLine, CallsLine, ConditionLine, PathLine, TestLine};
-use crate::rule::{About, Calls, Comparison, Condition, Path, Test};
+use crate::line::{AboutLine, CallsLine, ConditionLine, TestLine};
+use crate::rule::{About, Calls, Comparison, Condition, Test};
 use crate::value::operand_of;
-use mrpc_table::{Decimal, Field, Kind, Label, Memory, Sequence, Table};
+use field_path::Path;
+use mrpc_table::{Decimal, Kind, Label, Memory, Table};
 use std::alloc::Global;
-
-fn field_of(table: &Table, msg: u32, number: u32) -> Option<&Field>
-    requires { IsValid table.now }
-    ensures { option_copied result ≡ field_at (fields_of table.now msg) number }
-{
-    match table.messages.as_slice().get(msg as usize) {
-        Some(message) => message.field(number),
-        None => None,
-    }
-}
-
-// The field of a number; no field has a number of more than 32 bits.
-fn field_numbered(table: &Table, msg: u32, number: Decimal) -> Option<&Field>
-    requires { IsValid table.now }
-    ensures { option_copied result ≡ field_numbered table.now msg number }
-{
-    match number {
-        Decimal::Small(number) if number < 0x1_0000_0000 => field_of(table, msg, number as u32),
-        _ => None,
-    }
-}
-
-fn is_single(label: Label) -> bool
-    ensures { result ≡ is_single label }
-{
-    matches!(label, Label::Plain | Label::Member(_))
-}
-
-// A field on the way: its number, and the message that it has.
-fn step_in(table: &Table, msg: u32, number: Decimal) -> Option<(u32, u32)>
-    requires { IsValid table.now }
-    ensures { result ≡ step_in table.now msg number }
-{
-    let field = field_numbered(table, msg, number)?;
-    match field.kind {
-        Kind::Message(inner) if is_single(field.label) => Some((field.number, inner)),
-        _ => None,
-    }
-}
-
-// The numbers of a way and the message at its end.
-fn way_in(
-    alloc: Global,
-    table: &Table,
-    msg: u32,
-    numbers: &[Decimal],
-) -> Result<Option<(Vec<u32>, u32)>, Memory>
-    requires { IsValid table.now }
-    ensures { IfOk result (λ w. option_map (λ p. (p.0.items, p.1)) w ≡ way_in table.now msg numbers.now) }
-{
-    let mut way = Vec::with_capacity(alloc, numbers.len())?;
-    let mut message = msg;
-    for number in numbers {
-        let Some((step, inner)) = step_in(table, message, *number) else {
-            return Ok(None);
-        };
-        way.push(step)?;
-        message = inner;
-    }
-    Ok(Some((way, message)))
-}
-
-fn path_in(alloc: Global, table: &Table, msg: u32, path: &PathLine) -> Result<Option<Path>, Memory>
-    requires { IsValid table.now }
-    ensures { IfOk result (λ p. p ≡ path_in table.now msg path.now) }
-{
-    let Some((way, message)) = way_in(alloc, table, msg, path.way.as_slice())? else {
-        return Ok(None);
-    };
-    let Some(field) = field_numbered(table, message, path.last) else {
-        return Ok(None);
-    };
-    Ok(Some(Path {
-        way: Sequence::from_vec(way),
-        number: field.number,
-        kind: field.kind,
-        label: field.label,
-    }))
-}
 
 fn has_value(label: Label) -> bool
     ensures { result ≡ has_value label }
@@ -150,7 +70,7 @@ fn test_in(
     requires { IsValid table.now }
     ensures { IfOk result (λ t. t ≡ test_in table.now msg test.now) }
 {
-    let Some(path) = path_in(alloc, table, msg, &test.path)? else {
+    let Some(path) = test.path.resolve(alloc, table, msg)? else {
         return Ok(Err(PartReason::Path));
     };
     match condition_in(alloc, &path, &test.condition)? {

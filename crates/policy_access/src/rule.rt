@@ -1,6 +1,7 @@
 //! What one rule says.
 
-use mrpc_table::{Bytes, Kind, Label, Name, Sequence};
+use field_path::Path;
+use mrpc_table::{Bytes, Name};
 
 /// One rule of a policy.
 #[derive(Debug, Drop)]
@@ -35,19 +36,6 @@ pub struct Calls {
 pub struct Test {
     pub path: Path,
     pub condition: Condition,
-}
-
-/// A way into a tree, and the field at its end.
-#[derive(Debug, Drop)]
-pub struct Path {
-    /// The numbers of the messages on the way, the outermost first.
-    pub way: Sequence<u32>,
-    /// The number of the field at the end.
-    pub number: u32,
-    /// The kind of that field.
-    pub kind: Kind,
-    /// The label of that field.
-    pub label: Label,
 }
 
 /// What is asked of the field at the end of a path.

@@ -1,4 +1,4 @@
-//! Tests of access policies, which need a table that was read. It has no code of its own, and nothing stands on it.
+//! Tests of policies on calls, which need a table that was read. It has no code of its own, and nothing stands on it.
 #![tactic(auto)]
 
 #[cfg(test)]

@@ -1,0 +1,12 @@
+//! Laws of the trees that paths lead into. These functions do nothing; their clauses hold.
+
+ghost use Rattle.std.specs.Prelude.{ℕ};
+ghost use Rattle.mrpc_table.specs.Node.{Node};
+ghost use Rattle.mrpc_table.specs.Normal.{IsNormal};
+ghost use Rattle.mrpc_table.specs.declared.table.Table.{Table};
+ghost use Rattle.field_path.specs.Trees.{IsAscending};
+
+/// The fields of a normal tree ascend, and so in the messages inside it.
+pub fn normal_ascends()
+    ensures { (T : Table) (msg : ℕ) (t : Node) → IsNormal T msg t → IsAscending t }
+{}

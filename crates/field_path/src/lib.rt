@@ -1,0 +1,18 @@
+//! Paths into messages: field numbers joined by dots, of which each but the last is a message.
+//!
+//! [`PathWord::read`] reads the numbers of a path from a word, [`PathWord::resolve`] says where they lead in a
+//! message of a table, and [`message_behind`], [`content_under`] and [`place_under`] find what a tree has there.
+//! `specs/Words.antt` says which words spell a path, `specs/Fields.antt` which of them lead to a field, and
+//! `specs/Trees.antt` what a tree has at its end. It stands on `mrpc_table`. The layers above use one contract: a
+//! word and a table determine a path or none, and a path and a tree what stands at its end.
+#![tactic(auto)]
+
+mod find;
+mod laws;
+mod path;
+mod read;
+mod resolve;
+
+pub use find::{content_under, message_behind, place_under};
+pub use laws::normal_ascends;
+pub use path::{Path, PathWord};

@@ -1,0 +1,40 @@
+use Rattle.std.proofs.Common.{◌≡◌, ◌<◌, List, length, get_or, ap, sym, ◌∙◌, subst, refl}
+use Rattle.mrpc_table.specs.Node.{Node}
+use Rattle.mrpc_table.specs.Calls.{message_at}
+use Rattle.field_path.specs.Trees.{IsAscending}
+use Rattle.policy_access.specs.declared.call.Call.{Call}
+use Rattle.policy_access.specs.Call.{IsCallOf}
+use Rattle.policy_redact.specs.declared.redact.Clear.{Clear}
+use Rattle.policy_redact.proofs.Listed.{nothing-listed, cleared-ascends, more-cleared, smaller-still, unchanged-still}
+use Rattle.policy_redact.proofs.Normality.{call-fits}
+use Rattle.policy_redact.proofs.redact.Redact.clear.Goals as goal
+
+pub loop-clear-init : goal.loop-clear-init
+loop-clear-init c = record {
+  left = ap (λ (t : Node). record c.args.call.now { tree = t }) (sym (nothing-listed c.args.call.now));
+  smaller = tt;
+  unchanged = refl;
+}
+
+pub remove_from-changed-requires : goal.remove_from-changed-requires
+remove_from-changed-requires c =
+    let fits = c.requires in
+    let start = c.args.call.now in
+    let up = c.normal_ascends.ensures fits.0 (message_at fits.0 start.method start.number) start.tree fits.1.tree in
+    subst (λ (call : Call). IsAscending call.tree) (sym c.loop-clear.invariant.left) (cleared-ascends _ start up)
+
+pub loop-clear-preserved : goal.loop-clear-preserved
+loop-clear-preserved c =
+    let step = c.remove_from-changed in
+    let before = c.loop-clear.invariant in
+    let listed = c.as_slice-clear-items.ensures ∙ c.self.view_is in
+    let within = subst (λ (cs : List Clear). c.loop-clear.clear-index < length cs) listed c.loop-clear-test.true in
+    let at = subst (λ (cs : List Clear). c.clear-item.result ≡ get_or cs c.loop-clear.clear-index c.clear-item.result) listed c.clear-item.is in
+    record {
+      left = more-cleared c.args.self.now c.loop-clear.clear-index c.clear-item.result c.args.call.now c.loop-clear.call step.new.call within at before.left step.ensures.left;
+      smaller = smaller-still c.loop-clear.changed step.result c.args.call.now c.loop-clear.call step.new.call before.smaller before.unchanged step.ensures.smaller step.ensures.unchanged;
+      unchanged = unchanged-still c.loop-clear.changed step.result c.args.call.now c.loop-clear.call step.new.call before.unchanged step.ensures.unchanged;
+    }
+
+pub returns-clause-fits : goal.returns-clause-fits
+returns-clause-fits c = λ T fits. subst (λ (call : Call). IsCallOf T call) (sym c.loop-clear.invariant.left) (call-fits T _ c.args.call.now fits)

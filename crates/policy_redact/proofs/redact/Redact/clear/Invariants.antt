@@ -1,0 +1,13 @@
+-- The tree is what the clears so far leave.
+use Rattle.std.proofs.Common.{◌≡◌, ◌<◌, take}
+use Rattle.std.specs.Bool.{OnTrue, OnFalse}
+use Rattle.mrpc_table.specs.Weight.{weight}
+use Rattle.policy_redact.specs.Redacting.{cleared_call}
+use Rattle.policy_redact.proofs.redact.Redact.clear.Given as goal
+
+abbrev pub invariant-loop-clear : goal.invariant-loop-clear
+invariant-loop-clear l = record {
+  left : l.call ≡ cleared_call (take l.clear-index l.self) l.fn.call;
+  smaller : OnTrue l.changed (weight l.call.tree < weight l.fn.call.tree);
+  unchanged : OnFalse l.changed (l.call ≡ l.fn.call);
+}

@@ -1,0 +1,112 @@
+//! Redacting policies from their lines.
+
+ghost use Rattle.std.specs.Prelude.{◌≡◌, ◌+◌, ◌^◌, ◌<◌, ℕ, List, IfOk, IfErr, MatchResult};
+ghost use Rattle.mrpc_table.specs.Valid.{IsValid};
+ghost use Rattle.policy_access.specs.declared.fault.RuleFault.TheVariants.{Memory as NoMemory};
+ghost use Rattle.policy_redact.specs.Faults.{IsFaultOf};
+ghost use Rattle.policy_redact.specs.Lines.{line_of};
+ghost use Rattle.policy_redact.specs.Said.{said_in};
+ghost use Rattle.policy_redact.specs.Texts.{path_in_call, IsTextOf};
+ghost use Rattle.policy_redact.specs.declared.redact.Clear.{Clear as TheClear};
+
+use crate::form::line_of;
+use crate::line::ClearLine;
+use crate::redact::{Clear, Redact};
+use field_path::{Path, PathWord};
+use mrpc_table::{Bytes, Decimal, Memory, Table};
+use policy_access::{Lines, RuleFault, RuleReason};
+use std::alloc::Global;
+
+/// How many lines a policy has at most.
+const CLEARS: usize = 64;
+
+// The path in the message of a method's replies, or of its requests.
+fn path_in_call(
+    alloc: Global,
+    table: &Table,
+    method: u16,
+    reply: bool,
+    path: &PathWord,
+) -> Result<Option<Path>, Memory>
+    requires { IsValid table.now }
+    ensures { IfOk result (λ p. p ≡ path_in_call table.now method reply path.now) }
+{
+    if method as usize >= table.methods.len() {
+        return Ok(None);
+    }
+    let message = table.message_of(method, if reply { 1 } else { 0 });
+    path.resolve(alloc, table, message)
+}
+
+// The clear that a line says, or the reason that stands against it.
+fn said_in(alloc: Global, table: &Table, line: &[u8]) -> Result<Result<Clear, RuleReason>, Memory>
+    requires { IsValid table.now }
+    ensures { IfOk result (λ s. s ≡ said_in table.now (line_of line.now)) }
+{
+    let Some(line) = line_of(alloc, line)? else {
+        return Ok(Err(RuleReason::Word));
+    };
+    let method = match line.index {
+        Decimal::Small(index) if index < 65536 => index as u16,
+        _ => return Ok(Err(RuleReason::Number)),
+    };
+    let reply = line.reply;
+    match path_in_call(alloc, table, method, reply, &line.path)? {
+        None => Ok(Err(RuleReason::Path)),
+        Some(path) => Ok(Ok(Clear {
+            method,
+            reply,
+            path,
+        })),
+    }
+}
+
+// The fault at a place, counted from 0.
+fn fault_at(place: usize, reason: RuleReason) -> RuleFault
+    requires { place < 2 ^ 63 }
+    ensures { result ≡ RuleFault.At (place + 1) reason }
+{
+    RuleFault::At {
+        line: place as u64 + 1,
+        reason,
+    }
+}
+
+fn read_lines(alloc: Global, lines: &[Bytes], table: &Table) -> Result<Redact, RuleFault>
+    requires { IsValid table.now }
+    ensures accepted { IfOk result (λ policy. IsTextOf table.now lines.now policy) }
+    ensures fault { IfErr result (λ e. IsFaultOf table.now lines.now e) }
+{
+    if lines.is_empty() {
+        return Err(fault_at(0, RuleReason::Word));
+    }
+    let mut clears = Vec::new(alloc);
+    for (place, line) in lines.iter().enumerate() {
+        if place >= CLEARS {
+            return Err(fault_at(place, RuleReason::Word));
+        }
+        match said_in(alloc, table, line.as_slice())? {
+            Err(reason) => return Err(fault_at(place, reason)),
+            Ok(clear) => clears.push(clear)?,
+        }
+    }
+    Ok(Redact::new(clears))
+}
+
+/// The redacting policy that the lines say, or their first fault. Each line is `clear method INDEX [reply] PATH`, and
+/// there are 1 to 64. Methods and paths are those of the table; the last number of a path is any field. It takes time
+/// in proportion to the text, but for the look-up of fields by search. The reasons are `Word` for a line out of form,
+/// for a 65th line, and at line 1 where there is none, `Number` for an index above 65535, and `Path` for a method or
+/// a field that the table lacks. `RuleFault::Memory` comes where memory is wanted.
+pub fn read_redact(alloc: Global, lines: &Lines, table: &Table) -> Result<Redact, RuleFault>
+    requires { IsValid table.now }
+    // What is read is what the lines say.
+    ensures accepted { IfOk result (λ policy. IsTextOf table.now lines.now policy) }
+    // The text of a policy gives this policy, unless memory runs out.
+    ensures only { (policy : List TheClear) → IsTextOf table.now lines.now policy →
+        MatchResult result (λ read. read ≡ policy) (λ fault. fault ≡ NoMemory) }
+    // A fault is the first one of the lines.
+    ensures fault { IfErr result (λ fault. IsFaultOf table.now lines.now fault) }
+{
+    read_lines(alloc, lines.as_slice(), table)
+}

@@ -1,0 +1,121 @@
+//! A redacting policy, as it was read.
+
+ghost use Rattle.std.specs.Prelude.{◌≡◌, ◌≢◌, ◌<◌, ◌≤◌, ◌↔◌, length, IsTrue, IfOk};
+ghost use Rattle.std.specs.Bool.{OnTrue, OnFalse};
+ghost use Rattle.mrpc_table.specs.Weight.{weight};
+
+use crate::remove::remove_at;
+use field_path::{Path, normal_ascends};
+use mrpc_table::{Memory, Sequence};
+use policy_access::Call;
+use std::alloc::Global;
+use std::marker::Model;
+
+/// A field that is cleared, of the requests or of the replies of a method.
+#[derive(Debug, Drop)]
+pub struct Clear {
+    /// The index of the method in the table.
+    pub method: u16,
+    /// Whether it is cleared of replies, and else of requests.
+    pub reply: bool,
+    pub path: Path,
+}
+
+impl Clear {
+    ghost use Rattle.std.specs.Prelude.{◌&&◌};
+    ghost use Rattle.field_path.specs.Trees.{IsAscending};
+    ghost use Rattle.policy_redact.specs.Leaving.{without};
+    ghost use Rattle.policy_redact.specs.Redacting.{is_for, is_at};
+
+    fn is_for(&self, call: &Call) -> bool
+        ensures { result ≡ is_for self.now call.now }
+    {
+        call.method == self.method && (call.number != 0) == self.reply
+    }
+
+    // Removes the field, where the call is of the method and the sort, and answers whether it was there.
+    fn remove_from(&self, call: &mut Call) -> bool
+        requires { IsAscending call.old.tree }
+        ensures left { call.new ≡
+            record call.old { tree = without (λ path. is_for self.now call.old && is_at self.now path) call.old.tree } }
+        ensures smaller { OnTrue result (weight call.new.tree < weight call.old.tree) }
+        ensures unchanged { OnFalse result (call.new ≡ call.old) }
+    {
+        if !self.is_for(call) {
+            return false;
+        }
+        remove_at(&mut call.tree, self.path.way.as_slice(), self.path.number)
+    }
+
+    fn copied(&self, alloc: Global) -> Result<Clear, Memory>
+        ensures { IfOk result (λ c. c ≡ self.now) }
+    {
+        Ok(Clear {
+            method: self.method,
+            reply: self.reply,
+            path: self.path.copied(alloc)?,
+        })
+    }
+}
+
+/// A redacting policy: 1 to 64 clears. Clauses see their list.
+#[derive(Debug, Drop)]
+pub struct Redact {
+    clears: Sequence<Clear>,
+}
+
+impl Model for Redact {
+    ghost use Rattle.std.specs.Prelude.{List};
+    ghost use Rattle.policy_redact.specs.declared.redact.Clear.{Clear as TheClear};
+
+    ghost Value = { List TheClear };
+
+    ghost view = { λ r. r.clears };
+}
+
+impl Redact {
+    ghost use Rattle.mrpc_table.specs.declared.table.Table.{Table};
+    ghost use Rattle.policy_access.specs.Call.{IsCallOf};
+    ghost use Rattle.policy_redact.specs.Redacting.{cleared, cleared_call, FitsSomeTable};
+
+    // The policy of these clears.
+    pub(crate) fn new(clears: Vec<Clear>) -> Redact
+        ensures { result ≡ clears.items }
+    {
+        Redact {
+            clears: Sequence::from_vec(clears),
+        }
+    }
+
+    /// Removes from the call's tree the field at each path that is listed for calls of its method and sort, where
+    /// every message on the way is set, and answers whether the tree changed. Each path takes time by the logarithm
+    /// of the fields on its way, and in proportion to those of the message that loses one. It takes no memory.
+    pub fn clear(&self, call: &mut Call) -> bool
+        requires { FitsSomeTable call.old }
+        // The tree is the old one without the fields at the listed paths, and nothing else changes.
+        ensures left { call.new ≡ cleared_call self.now call.old }
+        ensures changed { IsTrue result ↔ (call.new.tree ≢ call.old.tree) }
+        ensures smaller { OnTrue result (weight call.new.tree < weight call.old.tree) }
+        ensures unchanged { OnFalse result (call.new ≡ call.old) }
+        ensures fits { (T : Table) → IsCallOf T call.old → IsCallOf T call.new }
+    {
+        normal_ascends();
+        let mut changed = false;
+        for clear in self.clears.as_slice() {
+            changed |= clear.remove_from(call);
+        }
+        changed
+    }
+
+    /// An equal policy.
+    pub fn copied(&self, alloc: Global) -> Result<Redact, Memory>
+        ensures { IfOk result (λ r. r ≡ self.now) }
+    {
+        let clears = self.clears.as_slice();
+        let mut copies = Vec::with_capacity(alloc, clears.len())?;
+        for clear in clears {
+            copies.push(clear.copied(alloc)?)?;
+        }
+        Ok(Redact::new(copies))
+    }
+}

@@ -1,0 +1,58 @@
+//! A field that is removed from a tree.
+
+ghost use Rattle.std.specs.Prelude.{◌≡◌, ◌<◌, ◌∷◌, [], ◌++◌};
+ghost use Rattle.std.specs.Bool.{OnTrue, OnFalse};
+ghost use Rattle.std.specs.Str.{bytes_eq};
+ghost use Rattle.mrpc_table.specs.View.{content_of};
+ghost use Rattle.mrpc_table.specs.Weight.{weight, content_weight};
+ghost use Rattle.field_path.specs.Trees.{IsAscending, HoldsAscending};
+ghost use Rattle.policy_redact.specs.Leaving.{without, content_without};
+
+use field_path::place_under;
+use mrpc_table::{FieldValue, Tree, Value};
+
+fn remove_field(tree: &mut Tree, number: u32) -> bool
+    requires { IsAscending tree.old }
+    ensures left { tree.new ≡ without (bytes_eq (number ∷ [])) tree.old }
+    ensures smaller { OnTrue result (weight tree.new < weight tree.old) }
+    ensures unchanged { OnFalse result (tree.new ≡ tree.old) }
+{
+    let Some(place) = place_under(tree.fields.as_slice(), number) else {
+        return false;
+    };
+    tree.fields.remove(place);
+    true
+}
+
+// Removes it from the message that a field has, if it has one.
+#[cycle(remove)]
+fn remove_inside(content: &mut FieldValue, way: &[u32], number: u32) -> bool
+    requires { HoldsAscending (content_of content.old) }
+    ensures left { content_of content.new ≡ content_without (bytes_eq (way.now ++ number ∷ [])) (content_of content.old) }
+    ensures smaller { OnTrue result (content_weight (content_of content.new) < content_weight (content_of content.old)) }
+    ensures unchanged { OnFalse result (content_of content.new ≡ content_of content.old) }
+{
+    match content {
+        FieldValue::One(Value::Node(message)) => remove_at(message, way, number),
+        FieldValue::One(Value::Number(_) | Value::Run(_)) => false,
+        FieldValue::Many(_) | FieldValue::Pairs(_) => false,
+    }
+}
+
+/// Removes the field of a number from the message behind a way, where each message on the way is set, and answers
+/// whether there was one.
+#[cycle(remove)]
+pub fn remove_at(tree: &mut Tree, way: &[u32], number: u32) -> bool
+    requires { IsAscending tree.old }
+    ensures left { tree.new ≡ without (bytes_eq (way.now ++ number ∷ [])) tree.old }
+    ensures smaller { OnTrue result (weight tree.new < weight tree.old) }
+    ensures unchanged { OnFalse result (tree.new ≡ tree.old) }
+{
+    match way {
+        [] => remove_field(tree, number),
+        [first, rest @ ..] => match place_under(tree.fields.as_slice(), *first) {
+            None => false,
+            Some(place) => remove_inside(&mut tree.fields[place].1, rest, number),
+        },
+    }
+}
