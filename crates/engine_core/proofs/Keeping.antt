@@ -1,0 +1,91 @@
+-- The marks that are left of a call where those of some engines are kept.
+use Rattle.std.proofs.Common.{◌≡◌, ◌≢◌, ℕ, ◌+◌, ◌≤◌, ◌<◌, ◌==◌, Bool, true, false, not, List, [], ◌∷◌, filter, length, All, None, refl, arith, length-append}
+use Rattle.std.proofs.lemmas.Grind.{common_steps}
+use Rattle.std.proofs.lemmas.Bool.Decides.{nat_tests}
+use Rattle.std.proofs.lemmas.List.Folds.{list_any_none, list_any-append}
+use Rattle.std.proofs.lemmas.List.Elements.{All-weaker}
+use Rattle.std.specs.List.{list_any}
+use Rattle.engine_core.specs.Engines.{EngineParts}
+use Rattle.engine_core.specs.Marks.{IsOneEach, note_of, other_marks}
+use Rattle.engine_core.specs.Steps.{marked}
+use Rattle.engine_core.specs.declared.mark.Mark.{Mark}
+use Rattle.engine_core.specs.declared.mark.Note.{Note}
+use Rattle.engine_core.specs.declared.mark.Note.TheVariants.{Counted}
+use Rattle.engine_core.proofs.MarkLemmas.{find-kept, none-other, IsOneEach-filter, IsOneEach-marked}
+
+-- one of the engines has the attachment, or one of the marks
+abbrev pub has_engine : List EngineParts → ℕ → Bool
+has_engine es b = list_any (λ e. e.entry.attach == b) es
+
+abbrev has_mark : List Mark → ℕ → Bool
+has_mark ms b = list_any (λ m. m.attach == b) ms
+
+abbrev pub kept : List EngineParts → List Mark → List Mark
+kept es ms = filter (λ m. has_engine es m.attach) ms
+
+pub note_of-kept : (es : List EngineParts) (b : ℕ) (ms : List Mark) → has_engine es b ≡ true → note_of (kept es ms) b ≡ note_of ms b
+note_of-kept es b ms known = rw (find-kept (has_engine es) b ms, known) refl
+
+pub note_of-gone : (es : List EngineParts) (b : ℕ) (ms : List Mark) → All (λ e. e.entry.attach ≢ b) es → note_of (kept es ms) b ≡ None
+note_of-gone es b ms apart =
+    let unknown : has_engine es b ≡ false = list_any_none (λ (e : EngineParts). e.entry.attach == b) es
+    (All-weaker (λ (e : EngineParts). e.entry.attach ≢ b) (λ (e : EngineParts). (e.entry.attach == b) ≡ false) (λ e other. grind (arith, nat_tests, common_steps)) es apart) in
+    rw (find-kept (has_engine es) b ms, unknown) refl
+
+-- ---- how many there are
+
+length-other_marks-none : (a : ℕ) (ms : List Mark) → has_mark ms a ≡ false → length ms ≤ length (other_marks a ms)
+length-other_marks-none a [] none = omega arith
+length-other_marks-none a (m ∷ ms) none = grind (arith, nat_tests, common_steps, length-other_marks-none a ms)
+
+length-first : (a : ℕ) (m : Mark) (ms : List Mark) (mine : Bool) → (m.attach == a) ≡ mine → has_mark ms m.attach ≡ false → length ms ≤ length (other_marks a ms) + 1
+    → length (m ∷ ms) ≤ length (other_marks a (m ∷ ms)) + 1
+length-first a m ms true at none few = grind (arith, nat_tests, common_steps, length-other_marks-none a ms)
+length-first a m ms false at none few = grind (arith, nat_tests, common_steps)
+
+length-other_marks : (a : ℕ) (ms : List Mark) → IsOneEach ms → length ms ≤ length (other_marks a ms) + 1
+length-other_marks a [] one = omega arith
+length-other_marks a (m ∷ ms) one = length-first a m ms (m.attach == a) refl one.0 (length-other_marks a ms one.1)
+
+known-kept : (es : List EngineParts) (b : ℕ) (ms : List Mark) → has_mark (kept es ms) b ≡ true → has_engine es b ≡ true
+known-kept es b [] has = cc
+known-kept es b (m ∷ ms) has = grind (arith, nat_tests, common_steps, known-kept es b ms)
+
+has-first : (m : Mark) (ms : List Mark) → has_mark (m ∷ ms) m.attach ≡ true
+has-first m ms = grind (arith, nat_tests, common_steps)
+
+no_engine : (b : ℕ) → has_engine [] b ≡ true → ⊥
+no_engine b has = cc
+
+has-others : (a b : ℕ) (ms : List Mark) → has_mark (other_marks a ms) b ≡ true → has_mark ms b ≡ true
+has-others a b [] has = cc
+has-others a b (m ∷ ms) has = grind (arith, nat_tests, common_steps, has-others a b ms)
+
+behind-first : (e : EngineParts) (es : List EngineParts) (b : ℕ) (ms : List Mark) (mine : Bool) → (e.entry.attach == b) ≡ mine → has_mark (other_marks e.entry.attach ms) b ≡ true
+    → has_engine (e ∷ es) b ≡ true → has_engine es b ≡ true
+behind-first e es b ms true at has known = grind (arith, nat_tests, common_steps, none-other e.entry.attach ms)
+behind-first e es b ms false at has known = grind (arith, nat_tests, common_steps)
+
+known-marked : (es : List EngineParts) (a b : ℕ) (ms : List Mark) (n : Note) → has_engine es a ≡ true → has_mark (marked a n (kept es ms)) b ≡ true → has_engine es b ≡ true
+known-marked es a b ms n known has = grind (
+  arith,
+  nat_tests,
+  common_steps,
+  list_any-append (λ (m : Mark). m.attach == b) (other_marks a (kept es ms)) (record { attach = a; note = n } ∷ []),
+  has-others a b (kept es ms),
+  known-kept es b ms,
+)
+
+-- marks of distinct attachments of engines are no more than the engines
+length-marks : (es : List EngineParts) (ms : List Mark) → IsOneEach ms → ((b : ℕ) → has_mark ms b ≡ true → has_engine es b ≡ true) → length ms ≤ length es
+length-marks [] [] one known = omega arith
+length-marks [] (m ∷ ms) one known = absurd (no_engine m.attach (known m.attach (has-first m ms)))
+length-marks (e ∷ es) ms one known =
+    let few = length-marks es (other_marks e.entry.attach ms) (IsOneEach-filter (λ m. not (m.attach == e.entry.attach)) ms one)
+    (λ b has. behind-first e es b ms (e.entry.attach == b) refl has (known b (has-others e.entry.attach b ms has))) in
+    omega (arith, few, length-other_marks e.entry.attach ms one)
+
+pub length-kept : (es : List EngineParts) (a : ℕ) (ms : List Mark) → IsOneEach ms → has_engine es a ≡ true → length (other_marks a (kept es ms)) < length es
+length-kept es a ms one known =
+    let few = length-marks es (marked a Counted (kept es ms)) (IsOneEach-marked a Counted (kept es ms) (IsOneEach-filter (λ m. has_engine es m.attach) ms one)) (λ b has. known-marked es a b ms Counted known has) in
+    omega (arith, few, length-append (other_marks a (kept es ms)) (record { attach = a; note = Counted } ∷ []))

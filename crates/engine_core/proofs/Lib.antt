@@ -1,0 +1,8 @@
+mod Rows
+mod AnswerLaws
+mod ChainLaws
+mod MarkLaws
+mod MarkLemmas
+mod Keeping
+mod Stepping
+mod Turning

@@ -1,0 +1,318 @@
+-- What follows from what an engine does.
+use Rattle.std.proofs.Common.{◌≡◌, ◌≢◌, ℕ, ◌<◌, ◌≤◌, ◌-◌, ◌/◌, min, ◌==◌, Bool, true, false, if◌then◌else◌, length, Some, refl, sym, arith}
+use Rattle.std.specs.Cmp.{nat_eq_equiv}
+use Rattle.std.proofs.lemmas.Grind.{common_steps}
+use Rattle.std.proofs.lemmas.Bool.Decides.{nat_tests}
+use Rattle.mrpc_table.specs.Weight.{weight}
+use Rattle.mrpc_table.specs.declared.table.Table.{Table}
+use Rattle.policy_access.specs.Call.{IsCallOf}
+use Rattle.policy_access.specs.Verdict.{verdict}
+use Rattle.engine_core.specs.Policies.{IsAccess}
+use Rattle.engine_core.specs.Chains.{Entry}
+use Rattle.engine_core.specs.Answers.{Past, nothing, level_left, past_after}
+use Rattle.engine_core.specs.Answers as answers
+use Rattle.engine_core.specs.Marks.{StandingCall, IsAllowing, IsSilent, IsTrueFor, is_allowed, is_allowed_by, other_marks, past_by, past_of}
+use Rattle.engine_core.specs.Turns.{ComesOut, form_after, is_redacted_by, noted_in}
+use Rattle.engine_core.specs.Turns as turns
+use Rattle.engine_core.specs.Steps.{IsUnallowed, Steps, with_mark, was_allowed, allows, denies, was_charged, charges, holds, refuses, is_within, is_over, draws_within, draws_over, was_counted, counts, is_clear, redacts}
+use Rattle.engine_core.specs.declared.policy.Policy.{Policy}
+use Rattle.engine_core.specs.declared.mark.Note.{Note}
+use Rattle.engine_core.specs.declared.mark.Note.TheVariants as marks
+use Rattle.engine_core.specs.declared.outcome.Outcome.{Outcome}
+use Rattle.engine_core.specs.declared.outcome.Outcome.TheVariants.{Passed, Redacted}
+use Rattle.engine_core.specs.declared.outcome.Noted.TheVariants.{Nothing, Charged, Drawn, Counted}
+use Rattle.engine_core.specs.declared.outcome.Why.TheVariants.{Denied, Short, Over}
+use Rattle.engine_core.proofs.MarkLemmas.{note_of-marked, note_of-marked-other, other_marks-marked}
+
+-- what is left of the bucket
+pub level-step : (policy : Policy) (attach version level moment : ℕ) (old new : StandingCall) (left : ℕ) (outcome : Outcome)
+    → Steps policy attach version level moment old new left outcome
+    → left ≡ level_left (noted_in outcome) level
+level-step policy attach version level moment old new left outcome (was_allowed p is marked out same l) = rw out l
+level-step policy attach version level moment old new left outcome (allows p is unmarked allow out same l) = rw out l
+level-step policy attach version level moment old new left outcome (denies p is unmarked deny out same l) = rw out l
+level-step policy attach version level moment old new left outcome (was_charged r is past out same l) = rw out l
+level-step policy attach version level moment old new left outcome (charges r is past enough out same l) = rw out l
+level-step policy attach version level moment old new left outcome (holds r is past less mode out same l) = rw out l
+level-step policy attach version level moment old new left outcome (refuses r is past less mode out same l) = rw out l
+level-step policy attach version level moment old new left outcome (is_within t per cap ticket is past less out same l) = rw out l
+level-step policy attach version level moment old new left outcome (is_over t per cap ticket is past more out same l) = rw out l
+level-step policy attach version level moment old new left outcome (draws_within t per cap ticket is past less out same l) = rw out l
+level-step policy attach version level moment old new left outcome (draws_over t per cap ticket is past more out same l) = rw out l
+level-step policy attach version level moment old new left outcome (was_counted is past out same l) = rw out l
+level-step policy attach version level moment old new left outcome (counts is past out same l) = rw out l
+level-step policy attach version level moment old new left outcome (is_clear clears is same_tree out same l) = rw out l
+level-step policy attach version level moment old new left outcome (redacts clears is other_tree out form less fits taken l) = rw out l
+
+-- the form of the call
+pub form-step : (policy : Policy) (attach version level moment : ℕ) (old new : StandingCall) (left : ℕ) (outcome : Outcome)
+    → Steps policy attach version level moment old new left outcome
+    → new.call ≡ form_after outcome policy old.call
+form-step policy attach version level moment old new left outcome (was_allowed p is marked out same l) = rw (out, same) refl
+form-step policy attach version level moment old new left outcome (allows p is unmarked allow out same l) = rw (out, same) refl
+form-step policy attach version level moment old new left outcome (denies p is unmarked deny out same l) = rw (out, same) refl
+form-step policy attach version level moment old new left outcome (was_charged r is past out same l) = rw (out, same) refl
+form-step policy attach version level moment old new left outcome (charges r is past enough out same l) = rw (out, same) refl
+form-step policy attach version level moment old new left outcome (holds r is past less mode out same l) = rw (out, same) refl
+form-step policy attach version level moment old new left outcome (refuses r is past less mode out same l) = rw (out, same) refl
+form-step policy attach version level moment old new left outcome (is_within t per cap ticket is past less out same l) = rw (out, same) refl
+form-step policy attach version level moment old new left outcome (is_over t per cap ticket is past more out same l) = rw (out, same) refl
+form-step policy attach version level moment old new left outcome (draws_within t per cap ticket is past less out same l) = rw (out, same) refl
+form-step policy attach version level moment old new left outcome (draws_over t per cap ticket is past more out same l) = rw (out, same) refl
+form-step policy attach version level moment old new left outcome (was_counted is past out same l) = rw (out, same) refl
+form-step policy attach version level moment old new left outcome (counts is past out same l) = rw (out, same) refl
+form-step policy attach version level moment old new left outcome (is_clear clears is same_tree out same l) = rw (out, same) refl
+form-step policy attach version level moment old new left outcome (redacts clears is other_tree out form less fits taken l) = rw (out, is) form
+
+-- the turn is one of the entry, where a mark of its policy says that it allows the call
+pub comes-step : (policy : Policy) (attach version level moment : ℕ) (old new : StandingCall) (left : ℕ) (outcome : Outcome)
+    → Steps policy attach version level moment old new left outcome
+    → (is_allowed old.marks attach version ≡ true → IsAllowing policy old.call)
+    → ComesOut policy level moment old.call (past_of old.marks attach) outcome
+comes-step policy attach version level moment old new left outcome (was_allowed p is marked out same l) true_for = turns.passes (answers.allows p is (rw is at (true_for marked)) refl) out
+comes-step policy attach version level moment old new left outcome (allows p is unmarked allow out same l) true_for = turns.passes (answers.allows p is allow refl) out
+comes-step policy attach version level moment old new left outcome (denies p is unmarked deny out same l) true_for = turns.is_refused (Denied (verdict p old.call).rule) (answers.denies p is deny refl) out
+comes-step policy attach version level moment old new left outcome (was_charged r is past out same l) true_for = turns.passes (answers.was_charged r is past refl) out
+comes-step policy attach version level moment old new left outcome (charges r is past enough out same l) true_for = turns.is_noted (Charged (level - r.per)) (answers.charges r is past enough refl) (answers.was_charged r is (λ none. cc) refl) out
+comes-step policy attach version level moment old new left outcome (holds r is past less mode out same l) true_for = turns.is_held level r.per (answers.holds r is past less mode refl) out
+comes-step policy attach version level moment old new left outcome (refuses r is past less mode out same l) true_for = turns.is_refused (Short level r.per) (answers.refuses r is past less mode refl) out
+comes-step policy attach version level moment old new left outcome (is_within t per cap ticket is past less out same l) true_for = turns.passes (answers.is_within t per cap ticket is past less refl) out
+comes-step policy attach version level moment old new left outcome (is_over t per cap ticket is past more out same l) true_for = turns.is_refused (Over ticket cap) (answers.is_over t per cap ticket is past more refl) out
+comes-step policy attach version level moment old new left outcome (draws_within t per cap ticket is past less out same l) true_for = turns.is_noted (Drawn (min (moment / per) 1023) ticket) (answers.draws t per cap ticket is past refl) (answers.is_within t per cap ticket is refl less refl) out
+comes-step policy attach version level moment old new left outcome (draws_over t per cap ticket is past more out same l) true_for = turns.is_noted_and_refused (Drawn (min (moment / per) 1023) ticket) (Over ticket cap) (answers.draws t per cap ticket is past refl) (answers.is_over t per cap ticket is refl more refl) out
+comes-step policy attach version level moment old new left outcome (was_counted is past out same l) true_for = turns.passes (answers.was_counted is past refl) out
+comes-step policy attach version level moment old new left outcome (counts is past out same l) true_for = turns.is_noted Counted (answers.counts is past refl) (answers.was_counted is (λ none. cc) refl) out
+comes-step policy attach version level moment old new left outcome (is_clear clears is same_tree out same l) true_for = turns.passes (answers.is_clear clears is same_tree refl) out
+comes-step policy attach version level moment old new left outcome (redacts clears is other_tree out form less fits taken l) true_for = turns.is_redacted (answers.redacts clears is other_tree refl) out
+
+-- a call that the policy has allowed passes
+pub allowed-step : (policy : Policy) (attach version level moment : ℕ) (old new : StandingCall) (left : ℕ) (outcome : Outcome)
+    → Steps policy attach version level moment old new left outcome
+    → is_allowed old.marks attach version ≡ true → IsAccess policy → outcome ≡ Passed Nothing
+allowed-step policy attach version level moment old new left outcome (was_allowed p is marked out same l) has access = out
+allowed-step policy attach version level moment old new left outcome (allows p is unmarked allow out same l) has access = absurd cc
+allowed-step policy attach version level moment old new left outcome (denies p is unmarked deny out same l) has access = absurd cc
+allowed-step policy attach version level moment old new left outcome (was_charged r is past out same l) has access = absurd (rw is at access)
+allowed-step policy attach version level moment old new left outcome (charges r is past enough out same l) has access = absurd (rw is at access)
+allowed-step policy attach version level moment old new left outcome (holds r is past less mode out same l) has access = absurd (rw is at access)
+allowed-step policy attach version level moment old new left outcome (refuses r is past less mode out same l) has access = absurd (rw is at access)
+allowed-step policy attach version level moment old new left outcome (is_within t per cap ticket is past less out same l) has access = absurd (rw is at access)
+allowed-step policy attach version level moment old new left outcome (is_over t per cap ticket is past more out same l) has access = absurd (rw is at access)
+allowed-step policy attach version level moment old new left outcome (draws_within t per cap ticket is past less out same l) has access = absurd (rw is at access)
+allowed-step policy attach version level moment old new left outcome (draws_over t per cap ticket is past more out same l) has access = absurd (rw is at access)
+allowed-step policy attach version level moment old new left outcome (was_counted is past out same l) has access = absurd (rw is at access)
+allowed-step policy attach version level moment old new left outcome (counts is past out same l) has access = absurd (rw is at access)
+allowed-step policy attach version level moment old new left outcome (is_clear clears is same_tree out same l) has access = absurd (rw is at access)
+allowed-step policy attach version level moment old new left outcome (redacts clears is other_tree out form less fits taken l) has access = absurd (rw is at access)
+
+-- a redaction makes the tree smaller
+pub smaller-step : (policy : Policy) (attach version level moment : ℕ) (old new : StandingCall) (left : ℕ) (outcome : Outcome)
+    → Steps policy attach version level moment old new left outcome
+    → outcome ≡ Redacted → weight new.call.tree < weight old.call.tree
+smaller-step policy attach version level moment old new left outcome (was_allowed p is marked out same l) redacted = absurd cc
+smaller-step policy attach version level moment old new left outcome (allows p is unmarked allow out same l) redacted = absurd cc
+smaller-step policy attach version level moment old new left outcome (denies p is unmarked deny out same l) redacted = absurd cc
+smaller-step policy attach version level moment old new left outcome (was_charged r is past out same l) redacted = absurd cc
+smaller-step policy attach version level moment old new left outcome (charges r is past enough out same l) redacted = absurd cc
+smaller-step policy attach version level moment old new left outcome (holds r is past less mode out same l) redacted = absurd cc
+smaller-step policy attach version level moment old new left outcome (refuses r is past less mode out same l) redacted = absurd cc
+smaller-step policy attach version level moment old new left outcome (is_within t per cap ticket is past less out same l) redacted = absurd cc
+smaller-step policy attach version level moment old new left outcome (is_over t per cap ticket is past more out same l) redacted = absurd cc
+smaller-step policy attach version level moment old new left outcome (draws_within t per cap ticket is past less out same l) redacted = absurd cc
+smaller-step policy attach version level moment old new left outcome (draws_over t per cap ticket is past more out same l) redacted = absurd cc
+smaller-step policy attach version level moment old new left outcome (was_counted is past out same l) redacted = absurd cc
+smaller-step policy attach version level moment old new left outcome (counts is past out same l) redacted = absurd cc
+smaller-step policy attach version level moment old new left outcome (is_clear clears is same_tree out same l) redacted = absurd cc
+smaller-step policy attach version level moment old new left outcome (redacts clears is other_tree out form less fits taken l) redacted = less
+
+-- the call stays one of a table
+pub fits-step : (policy : Policy) (attach version level moment : ℕ) (old new : StandingCall) (left : ℕ) (outcome : Outcome)
+    → Steps policy attach version level moment old new left outcome
+    → (T : Table) → IsCallOf T old.call → IsCallOf T new.call
+fits-step policy attach version level moment old new left outcome (was_allowed p is marked out same l) T h = rw same h
+fits-step policy attach version level moment old new left outcome (allows p is unmarked allow out same l) T h = rw same h
+fits-step policy attach version level moment old new left outcome (denies p is unmarked deny out same l) T h = rw same h
+fits-step policy attach version level moment old new left outcome (was_charged r is past out same l) T h = rw same h
+fits-step policy attach version level moment old new left outcome (charges r is past enough out same l) T h = rw same h
+fits-step policy attach version level moment old new left outcome (holds r is past less mode out same l) T h = rw same h
+fits-step policy attach version level moment old new left outcome (refuses r is past less mode out same l) T h = rw same h
+fits-step policy attach version level moment old new left outcome (is_within t per cap ticket is past less out same l) T h = rw same h
+fits-step policy attach version level moment old new left outcome (is_over t per cap ticket is past more out same l) T h = rw same h
+fits-step policy attach version level moment old new left outcome (draws_within t per cap ticket is past less out same l) T h = rw same h
+fits-step policy attach version level moment old new left outcome (draws_over t per cap ticket is past more out same l) T h = rw same h
+fits-step policy attach version level moment old new left outcome (was_counted is past out same l) T h = rw same h
+fits-step policy attach version level moment old new left outcome (counts is past out same l) T h = rw same h
+fits-step policy attach version level moment old new left outcome (is_clear clears is same_tree out same l) T h = rw same h
+fits-step policy attach version level moment old new left outcome (redacts clears is other_tree out form less fits taken l) T h = fits T h
+
+-- the note of the turn joins what was noted
+pub noted-step : (policy : Policy) (attach version level moment : ℕ) (old new : StandingCall) (left : ℕ) (outcome : Outcome)
+    → Steps policy attach version level moment old new left outcome
+    → IsSilent policy (past_of old.marks attach) → past_of new.marks attach ≡ past_after (noted_in outcome) (past_of old.marks attach)
+noted-step policy attach version level moment old new left outcome (was_allowed p is marked out same l) silent = rw (out, same) refl
+noted-step policy attach version level moment old new left outcome (allows p is unmarked allow out same l) silent = rw (out, same, note_of-marked attach (marks.Allowed version) old.marks) (sym (rw is at silent))
+noted-step policy attach version level moment old new left outcome (denies p is unmarked deny out same l) silent = rw (out, same) refl
+noted-step policy attach version level moment old new left outcome (was_charged r is past out same l) silent = rw (out, same) refl
+noted-step policy attach version level moment old new left outcome (charges r is past enough out same l) silent = rw (out, same, note_of-marked attach marks.Charged old.marks) refl
+noted-step policy attach version level moment old new left outcome (holds r is past less mode out same l) silent = rw (out, same) refl
+noted-step policy attach version level moment old new left outcome (refuses r is past less mode out same l) silent = rw (out, same) refl
+noted-step policy attach version level moment old new left outcome (is_within t per cap ticket is past less out same l) silent = rw (out, same) refl
+noted-step policy attach version level moment old new left outcome (is_over t per cap ticket is past more out same l) silent = rw (out, same) refl
+noted-step policy attach version level moment old new left outcome (draws_within t per cap ticket is past less out same l) silent = rw (out, same, note_of-marked attach (marks.Drawn ticket) old.marks) refl
+noted-step policy attach version level moment old new left outcome (draws_over t per cap ticket is past more out same l) silent = rw (out, same, note_of-marked attach (marks.Drawn ticket) old.marks) refl
+noted-step policy attach version level moment old new left outcome (was_counted is past out same l) silent = rw (out, same) refl
+noted-step policy attach version level moment old new left outcome (counts is past out same l) silent = rw (out, same, note_of-marked attach marks.Counted old.marks) refl
+noted-step policy attach version level moment old new left outcome (is_clear clears is same_tree out same l) silent = rw (out, same) refl
+noted-step policy attach version level moment old new left outcome (redacts clears is other_tree out form less fits taken l) silent = rw out (taken.pasts attach)
+
+-- what was noted for others stays
+pub others-step : (policy : Policy) (attach version level moment : ℕ) (old new : StandingCall) (left : ℕ) (outcome : Outcome)
+    → Steps policy attach version level moment old new left outcome
+    → (a : ℕ) → a ≢ attach → past_of new.marks a ≡ past_of old.marks a
+others-step policy attach version level moment old new left outcome (was_allowed p is marked out same l) a other = rw same refl
+others-step policy attach version level moment old new left outcome (allows p is unmarked allow out same l) a other = rw (same, note_of-marked-other attach a (marks.Allowed version) old.marks other) refl
+others-step policy attach version level moment old new left outcome (denies p is unmarked deny out same l) a other = rw same refl
+others-step policy attach version level moment old new left outcome (was_charged r is past out same l) a other = rw same refl
+others-step policy attach version level moment old new left outcome (charges r is past enough out same l) a other = rw (same, note_of-marked-other attach a marks.Charged old.marks other) refl
+others-step policy attach version level moment old new left outcome (holds r is past less mode out same l) a other = rw same refl
+others-step policy attach version level moment old new left outcome (refuses r is past less mode out same l) a other = rw same refl
+others-step policy attach version level moment old new left outcome (is_within t per cap ticket is past less out same l) a other = rw same refl
+others-step policy attach version level moment old new left outcome (is_over t per cap ticket is past more out same l) a other = rw same refl
+others-step policy attach version level moment old new left outcome (draws_within t per cap ticket is past less out same l) a other = rw (same, note_of-marked-other attach a (marks.Drawn ticket) old.marks other) refl
+others-step policy attach version level moment old new left outcome (draws_over t per cap ticket is past more out same l) a other = rw (same, note_of-marked-other attach a (marks.Drawn ticket) old.marks other) refl
+others-step policy attach version level moment old new left outcome (was_counted is past out same l) a other = rw same refl
+others-step policy attach version level moment old new left outcome (counts is past out same l) a other = rw (same, note_of-marked-other attach a marks.Counted old.marks other) refl
+others-step policy attach version level moment old new left outcome (is_clear clears is same_tree out same l) a other = rw same refl
+others-step policy attach version level moment old new left outcome (redacts clears is other_tree out form less fits taken l) a other = taken.pasts a
+
+-- an access engine leaves a mark
+pub allowing-step : (policy : Policy) (attach version level moment : ℕ) (old new : StandingCall) (left : ℕ) (outcome : Outcome)
+    → Steps policy attach version level moment old new left outcome
+    → IsAccess policy → outcome ≡ Passed Nothing → is_allowed new.marks attach version ≡ true
+allowing-step policy attach version level moment old new left outcome (was_allowed p is marked out same l) access passed = rw same marked
+allowing-step policy attach version level moment old new left outcome (allows p is unmarked allow out same l) access passed = rw (same, note_of-marked attach (marks.Allowed version) old.marks) (nat_eq_equiv.refl version)
+allowing-step policy attach version level moment old new left outcome (denies p is unmarked deny out same l) access passed = absurd cc
+allowing-step policy attach version level moment old new left outcome (was_charged r is past out same l) access passed = absurd (rw is at access)
+allowing-step policy attach version level moment old new left outcome (charges r is past enough out same l) access passed = absurd (rw is at access)
+allowing-step policy attach version level moment old new left outcome (holds r is past less mode out same l) access passed = absurd (rw is at access)
+allowing-step policy attach version level moment old new left outcome (refuses r is past less mode out same l) access passed = absurd (rw is at access)
+allowing-step policy attach version level moment old new left outcome (is_within t per cap ticket is past less out same l) access passed = absurd (rw is at access)
+allowing-step policy attach version level moment old new left outcome (is_over t per cap ticket is past more out same l) access passed = absurd (rw is at access)
+allowing-step policy attach version level moment old new left outcome (draws_within t per cap ticket is past less out same l) access passed = absurd (rw is at access)
+allowing-step policy attach version level moment old new left outcome (draws_over t per cap ticket is past more out same l) access passed = absurd (rw is at access)
+allowing-step policy attach version level moment old new left outcome (was_counted is past out same l) access passed = absurd (rw is at access)
+allowing-step policy attach version level moment old new left outcome (counts is past out same l) access passed = absurd (rw is at access)
+allowing-step policy attach version level moment old new left outcome (is_clear clears is same_tree out same l) access passed = absurd (rw is at access)
+allowing-step policy attach version level moment old new left outcome (redacts clears is other_tree out form less fits taken l) access passed = absurd (rw is at access)
+
+-- the marks of other access engines stay but for a redaction
+pub others_allowing-step : (policy : Policy) (attach version level moment : ℕ) (old new : StandingCall) (left : ℕ) (outcome : Outcome)
+    → Steps policy attach version level moment old new left outcome
+    → (a v : ℕ) → a ≢ attach → is_allowed new.marks a v ≡ (if is_redacted_by outcome then false else is_allowed old.marks a v)
+others_allowing-step policy attach version level moment old new left outcome (was_allowed p is marked out same l) a v other = rw (out, same) refl
+others_allowing-step policy attach version level moment old new left outcome (allows p is unmarked allow out same l) a v other = rw (out, same, note_of-marked-other attach a (marks.Allowed version) old.marks other) refl
+others_allowing-step policy attach version level moment old new left outcome (denies p is unmarked deny out same l) a v other = rw (out, same) refl
+others_allowing-step policy attach version level moment old new left outcome (was_charged r is past out same l) a v other = rw (out, same) refl
+others_allowing-step policy attach version level moment old new left outcome (charges r is past enough out same l) a v other = rw (out, same, note_of-marked-other attach a marks.Charged old.marks other) refl
+others_allowing-step policy attach version level moment old new left outcome (holds r is past less mode out same l) a v other = rw (out, same) refl
+others_allowing-step policy attach version level moment old new left outcome (refuses r is past less mode out same l) a v other = rw (out, same) refl
+others_allowing-step policy attach version level moment old new left outcome (is_within t per cap ticket is past less out same l) a v other = rw (out, same) refl
+others_allowing-step policy attach version level moment old new left outcome (is_over t per cap ticket is past more out same l) a v other = rw (out, same) refl
+others_allowing-step policy attach version level moment old new left outcome (draws_within t per cap ticket is past less out same l) a v other = rw (out, same, note_of-marked-other attach a (marks.Drawn ticket) old.marks other) refl
+others_allowing-step policy attach version level moment old new left outcome (draws_over t per cap ticket is past more out same l) a v other = rw (out, same, note_of-marked-other attach a (marks.Drawn ticket) old.marks other) refl
+others_allowing-step policy attach version level moment old new left outcome (was_counted is past out same l) a v other = rw (out, same) refl
+others_allowing-step policy attach version level moment old new left outcome (counts is past out same l) a v other = rw (out, same, note_of-marked-other attach a marks.Counted old.marks other) refl
+others_allowing-step policy attach version level moment old new left outcome (is_clear clears is same_tree out same l) a v other = rw (out, same) refl
+others_allowing-step policy attach version level moment old new left outcome (redacts clears is other_tree out form less fits taken l) a v other = rw out (taken.none a v)
+
+-- there are no more marks of others
+pub room-step : (policy : Policy) (attach version level moment : ℕ) (old new : StandingCall) (left : ℕ) (outcome : Outcome)
+    → Steps policy attach version level moment old new left outcome
+    → length (other_marks attach new.marks) ≤ length (other_marks attach old.marks)
+room-step policy attach version level moment old new left outcome (was_allowed p is marked out same l) = rw same (omega arith)
+room-step policy attach version level moment old new left outcome (allows p is unmarked allow out same l) = rw same (other_marks-marked attach (marks.Allowed version) old.marks)
+room-step policy attach version level moment old new left outcome (denies p is unmarked denied out same l) = rw same (omega arith)
+room-step policy attach version level moment old new left outcome (was_charged r is past out same l) = rw same (omega arith)
+room-step policy attach version level moment old new left outcome (charges r is past enough out same l) = rw same (other_marks-marked attach marks.Charged old.marks)
+room-step policy attach version level moment old new left outcome (holds r is past less mode out same l) = rw same (omega arith)
+room-step policy attach version level moment old new left outcome (refuses r is past less mode out same l) = rw same (omega arith)
+room-step policy attach version level moment old new left outcome (is_within t per cap ticket is past less out same l) = rw same (omega arith)
+room-step policy attach version level moment old new left outcome (is_over t per cap ticket is past more out same l) = rw same (omega arith)
+room-step policy attach version level moment old new left outcome (draws_within t per cap ticket is past less out same l) = rw same (other_marks-marked attach (marks.Drawn ticket) old.marks)
+room-step policy attach version level moment old new left outcome (draws_over t per cap ticket is past more out same l) = rw same (other_marks-marked attach (marks.Drawn ticket) old.marks)
+room-step policy attach version level moment old new left outcome (was_counted is past out same l) = rw same (omega arith)
+room-step policy attach version level moment old new left outcome (counts is past out same l) = rw same (other_marks-marked attach marks.Counted old.marks)
+room-step policy attach version level moment old new left outcome (is_clear clears is same_tree out same l) = rw same (omega arith)
+room-step policy attach version level moment old new left outcome (redacts clears is other_tree out form less fits taken l) = taken.no_more attach
+
+-- ---- the marks stay true
+
+no_allowed : {b : Bool} {X : Type 0} → b ≡ false → b ≡ true → X
+no_allowed none some = absurd cc
+
+-- a note is true for its entry
+own-noted : (e : Entry) (n : Note) (s : StandingCall) → ((v : ℕ) → is_allowed_by v (Some n) ≡ false) → IsSilent e.policy (past_by (Some n)) → IsTrueFor e (with_mark e.attach n s)
+own-noted e n s none silent = record {
+  silent = rw (note_of-marked e.attach n s.marks) silent;
+  present = λ v is. no_allowed (none v) (rw (note_of-marked e.attach n s.marks) at is);
+  allowing = λ is. no_allowed (none e.version) (rw (note_of-marked e.attach n s.marks) at is);
+}
+
+at_most : (a b : ℕ) → (a == b) ≡ true → b ≤ a
+at_most a b same = grind (arith, nat_tests, common_steps)
+
+-- so is the mark of an access policy that allows the call
+own-allowed : (e : Entry) (s : StandingCall) → IsSilent e.policy nothing → IsAllowing e.policy s.call → IsTrueFor e (with_mark e.attach (marks.Allowed e.version) s)
+own-allowed e s silent allowing = record {
+  silent = rw (note_of-marked e.attach (marks.Allowed e.version) s.marks) silent;
+  present = λ v is. at_most e.version v (rw (note_of-marked e.attach (marks.Allowed e.version) s.marks) at is);
+  allowing = λ is. allowing;
+}
+
+-- a mark says nothing of other entries
+other-true : (e : Entry) (a : ℕ) (n : Note) (s : StandingCall) → e.attach ≢ a → IsTrueFor e s → IsTrueFor e (with_mark a n s)
+other-true e a n s other h = record {
+  silent = rw (note_of-marked-other a e.attach n s.marks other) h.silent;
+  present = λ v is. h.present v (rw (note_of-marked-other a e.attach n s.marks other) at is);
+  allowing = λ is. h.allowing (rw (note_of-marked-other a e.attach n s.marks other) at is);
+}
+
+marked-true-by : (entry e : Entry) (n : Note) (s : StandingCall) (b : Bool) → (e.attach == entry.attach) ≡ b → (e.attach ≡ entry.attach → e ≡ entry)
+    → IsTrueFor entry (with_mark entry.attach n s) → IsTrueFor e s → IsTrueFor e (with_mark entry.attach n s)
+marked-true-by entry e n s true is one own h = rw (one (grind (arith, nat_tests, common_steps))) own
+marked-true-by entry e n s false is one own h = other-true e entry.attach n s (λ same. grind (arith, nat_tests, common_steps)) h
+
+marked-true : (entry e : Entry) (n : Note) (old new : StandingCall) → new ≡ with_mark entry.attach n old → (e.attach ≡ entry.attach → e ≡ entry)
+    → IsTrueFor entry (with_mark entry.attach n old) → IsTrueFor e old → IsTrueFor e new
+marked-true entry e n old new is one own h = rw is (marked-true-by entry e n old (e.attach == entry.attach) refl one own h)
+
+same-true : (e : Entry) (old new : StandingCall) → new ≡ old → IsTrueFor e old → IsTrueFor e new
+same-true e old new same h = rw same h
+
+-- a redaction leaves no mark that could be untrue
+redacted-true : (e : Entry) (old new : StandingCall) → IsUnallowed old.marks new.marks → IsTrueFor e old → IsTrueFor e new
+redacted-true e old new taken h = record {
+  silent = rw (taken.pasts e.attach) h.silent;
+  present = λ v is. no_allowed (taken.none e.attach v) is;
+  allowing = λ is. no_allowed (taken.none e.attach e.version) is;
+}
+
+-- the marks of a call stay true for every entry
+pub stays_true-step : (entry : Entry) (level moment : ℕ) (old new : StandingCall) (left : ℕ) (outcome : Outcome)
+    → Steps entry.policy entry.attach entry.version level moment old new left outcome
+    → (e : Entry) → (e.attach ≡ entry.attach → e ≡ entry) → IsTrueFor e old → IsTrueFor e new
+stays_true-step entry level moment old new left outcome (was_allowed p is marked out same l) e one h = same-true e old new same h
+stays_true-step entry level moment old new left outcome (allows p is unmarked allow out same l) e one h = marked-true entry e (marks.Allowed entry.version) old new same one (own-allowed entry old (rw is refl) (rw is allow)) h
+stays_true-step entry level moment old new left outcome (denies p is unmarked deny out same l) e one h = same-true e old new same h
+stays_true-step entry level moment old new left outcome (was_charged r is past out same l) e one h = same-true e old new same h
+stays_true-step entry level moment old new left outcome (charges r is past enough out same l) e one h = marked-true entry e marks.Charged old new same one (own-noted entry marks.Charged old (λ v. refl) (rw is tt)) h
+stays_true-step entry level moment old new left outcome (holds r is past less mode out same l) e one h = same-true e old new same h
+stays_true-step entry level moment old new left outcome (refuses r is past less mode out same l) e one h = same-true e old new same h
+stays_true-step entry level moment old new left outcome (is_within t per cap ticket is past less out same l) e one h = same-true e old new same h
+stays_true-step entry level moment old new left outcome (is_over t per cap ticket is past more out same l) e one h = same-true e old new same h
+stays_true-step entry level moment old new left outcome (draws_within t per cap ticket is past less out same l) e one h = marked-true entry e (marks.Drawn ticket) old new same one (own-noted entry (marks.Drawn ticket) old (λ v. refl) (rw is tt)) h
+stays_true-step entry level moment old new left outcome (draws_over t per cap ticket is past more out same l) e one h = marked-true entry e (marks.Drawn ticket) old new same one (own-noted entry (marks.Drawn ticket) old (λ v. refl) (rw is tt)) h
+stays_true-step entry level moment old new left outcome (was_counted is past out same l) e one h = same-true e old new same h
+stays_true-step entry level moment old new left outcome (counts is past out same l) e one h = marked-true entry e marks.Counted old new same one (own-noted entry marks.Counted old (λ v. refl) (rw is tt)) h
+stays_true-step entry level moment old new left outcome (is_clear clears is same_tree out same l) e one h = same-true e old new same h
+stays_true-step entry level moment old new left outcome (redacts clears is other_tree out form less fits taken l) e one h = redacted-true e old new taken h

@@ -1,0 +1,111 @@
+-- The chain of a connection's policies, and the change that an operator's step makes (this project's own).
+use Rattle.std.specs.Prelude.{◌≡◌, ℕ, ◌+◌, ◌<◌, ◌≤◌, false, List, ◌∷◌, ◌++◌, length, map, All, Contains}
+use Rattle.mrpc_table.specs.Valid.{AreDistinct}
+use Rattle.engine_core.specs.Policies.{is_same_kind}
+use Rattle.engine_core.specs.declared.policy.Policy.{Policy}
+use Rattle.engine_core.specs.declared.op.Op.{Op}
+use Rattle.engine_core.specs.declared.op.Op.TheVariants.{Attach, Detach, Upgrade}
+
+-- a policy on a chain: its name there, the number of its attachment, how often it was upgraded and once
+-- more, and the policy itself
+pub record Entry : Type 0 where
+  pub name : List ℕ
+  pub attach : ℕ
+  pub version : ℕ
+  pub policy : Policy
+
+-- a chain: its entries in the order in which they judge, and how many attachments there were
+pub record Chain : Type 0 where
+  pub entries : List Entry
+  pub attached : ℕ
+
+-- an entry as it is attached, and one after an upgrade
+abbrev pub new_entry : List ℕ → ℕ → Policy → Entry
+new_entry name attach policy = record { name = name; attach = attach; version = 1; policy = policy }
+
+abbrev pub upgraded : Entry → Policy → Entry
+upgraded e policy = record { name = e.name; attach = e.attach; version = e.version + 1; policy = policy }
+
+abbrev pub names_of : List Entry → List (List ℕ)
+names_of entries = map (λ e. e.name) entries
+
+abbrev pub attachments_of : List Entry → List ℕ
+attachments_of entries = map (λ e. e.attach) entries
+
+-- what follows from the steps on a new chain: at most 8 entries, whose names and attachments are distinct
+pub record IsChain (c : Chain) : Type 0 where
+  pub few : length c.entries ≤ 8
+  pub names : AreDistinct (names_of c.entries)
+  pub attachments : AreDistinct (attachments_of c.entries)
+  pub numbered : All (λ attach. attach ≤ c.attached) (attachments_of c.entries)
+
+-- ---- what stands against a step
+
+pub data Refusal : Type 0 where
+  no_such : List ℕ → Refusal
+  taken : List ℕ → Refusal
+  no_place : ℕ → Refusal
+  full : ℕ → Refusal
+  other_kind : List ℕ → Refusal
+
+-- of two that stand against one step, the first in this order counts
+abbrev pub order_of : Refusal → ℕ
+order_of (no_such name) = 1
+order_of (taken name) = 2
+order_of (no_place at) = 3
+order_of (full entries) = 4
+order_of (other_kind name) = 5
+
+pub data IsAgainst (entries : List Entry) (op : Op) (refusal : Refusal) : Type 0 where
+  -- no entry has the name
+  detaches_none : (name : List ℕ) → op ≡ Detach name → (Contains (names_of entries) name → ⊥) → refusal ≡ no_such name
+      → IsAgainst entries op refusal
+  upgrades_none : (name label : List ℕ) (policy : Policy) → op ≡ Upgrade name label policy
+      → (Contains (names_of entries) name → ⊥) → refusal ≡ no_such name
+      → IsAgainst entries op refusal
+  -- an entry has the name already
+  is_taken : (at : ℕ) (name label : List ℕ) (policy : Policy) → op ≡ Attach at name label policy
+      → Contains (names_of entries) name → refusal ≡ taken name
+      → IsAgainst entries op refusal
+  -- the place is past the end
+  is_past : (at : ℕ) (name label : List ℕ) (policy : Policy) → op ≡ Attach at name label policy → length entries < at
+      → refusal ≡ no_place at
+      → IsAgainst entries op refusal
+  -- the chain has 8 entries
+  is_full : (at : ℕ) (name label : List ℕ) (policy : Policy) → op ≡ Attach at name label policy → 8 ≤ length entries
+      → refusal ≡ full (length entries)
+      → IsAgainst entries op refusal
+  -- the entry of the name has a policy of another kind
+  is_other : (name label : List ℕ) (policy : Policy) (e : Entry) → op ≡ Upgrade name label policy → Contains entries e
+      → e.name ≡ name
+      → is_same_kind e.policy policy ≡ false → refusal ≡ other_kind name → IsAgainst entries op refusal
+
+-- a chain refuses a step, for the first reason that stands against it
+pub record Refuses (c : Chain) (op : Op) (refusal : Refusal) : Type 0 where
+  pub against : IsAgainst c.entries op refusal
+  pub first : (other : Refusal) → order_of other < order_of refusal → IsAgainst c.entries op other → ⊥
+
+-- ---- what a step makes of a chain
+
+pub data Makes (before : Chain) (op : Op) (after : Chain) : Type 0 where
+  -- a new entry stands at the place, with the next attachment number
+  attaches : (at : ℕ) (name label : List ℕ) (policy : Policy) (front back : List Entry)
+      → op ≡ Attach at name label policy
+      → before.entries ≡ front ++ back → length front ≡ at
+      → after ≡ record { entries = front ++ new_entry name (before.attached + 1) policy ∷ back; attached = before.attached + 1 }
+      → Makes before op after
+  -- the entry of the name is gone
+  detaches : (name : List ℕ) (e : Entry) (front back : List Entry) → op ≡ Detach name
+      → before.entries ≡ front ++ e ∷ back → e.name ≡ name
+      → after ≡ record { entries = front ++ back; attached = before.attached } → Makes before op after
+  -- the entry of the name has the new policy, and its next version
+  upgrades : (name label : List ℕ) (policy : Policy) (e : Entry) (front back : List Entry)
+      → op ≡ Upgrade name label policy
+      → before.entries ≡ front ++ e ∷ back → e.name ≡ name
+      → after ≡ record { entries = front ++ upgraded e policy ∷ back; attached = before.attached }
+      → Makes before op after
+
+-- a step changes a chain where nothing stands against it
+pub record Changes (before : Chain) (op : Op) (after : Chain) : Type 0 where
+  pub free : (refusal : Refusal) → IsAgainst before.entries op refusal → ⊥
+  pub makes : Makes before op after

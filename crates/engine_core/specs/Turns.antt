@@ -1,0 +1,74 @@
+-- How a turn of an entry comes out for a standing call.
+use Rattle.std.specs.Prelude.{◌≡◌, ◌≢◌, ℕ, Bool, true, false, ◌⊎◌, List, [], ◌∷◌, ◌++◌, Option, IfSome, IsSomeAnd}
+use Rattle.policy_access.specs.declared.call.Call.{Call}
+use Rattle.policy_redact.specs.Redacting.{cleared_call}
+use Rattle.engine_core.specs.Answers.{Past, Answer, pass, deny, hold, refuse, over, note, redact, Answers, past_after, level_left}
+use Rattle.engine_core.specs.declared.policy.Policy.{Policy}
+use Rattle.engine_core.specs.declared.policy.Policy.TheVariants.{Quota, Redact}
+use Rattle.engine_core.specs.declared.outcome.Noted.{Noted}
+use Rattle.engine_core.specs.declared.outcome.Noted.TheVariants.{Nothing, Drawn}
+use Rattle.engine_core.specs.declared.outcome.Why.{Why}
+use Rattle.engine_core.specs.declared.outcome.Why.TheVariants.{Denied, Short, Over}
+use Rattle.engine_core.specs.declared.outcome.Outcome.{Outcome}
+use Rattle.engine_core.specs.declared.outcome.Outcome.TheVariants.{Passed, Held, Refused, Redacted}
+
+-- the answer that is a refusal
+abbrev pub refusal : Why → Answer
+refusal (Denied rule) = deny rule
+refusal (Short level cost) = refuse level cost
+refusal (Over ticket cap) = over ticket cap
+
+-- a turn: first what is to be noted is noted, and then the call passes, is held or is refused
+pub data ComesOut (policy : Policy) (level moment : ℕ) (form : Call) (past : Past) (outcome : Outcome) : Type 0 where
+  passes : Answers policy level moment form past pass → outcome ≡ Passed Nothing
+      → ComesOut policy level moment form past outcome
+  is_noted : (n : Noted) → Answers policy level moment form past (note n)
+      → Answers policy (level_left n level) moment form (past_after n past) pass
+      → outcome ≡ Passed n → ComesOut policy level moment form past outcome
+  is_held : (l cost : ℕ) → Answers policy level moment form past (hold l cost) → outcome ≡ Held l cost
+      → ComesOut policy level moment form past outcome
+  is_refused : (why : Why) → Answers policy level moment form past (refusal why) → outcome ≡ Refused Nothing why
+      → ComesOut policy level moment form past outcome
+  is_noted_and_refused : (n : Noted) (why : Why) → Answers policy level moment form past (note n)
+      → Answers policy (level_left n level) moment form (past_after n past) (refusal why)
+      → outcome ≡ Refused n why → ComesOut policy level moment form past outcome
+  is_redacted : Answers policy level moment form past redact → outcome ≡ Redacted
+      → ComesOut policy level moment form past outcome
+
+-- what a turn noted
+abbrev pub noted_in : Outcome → Noted
+noted_in (Passed n) = n
+noted_in (Held level cost) = Nothing
+noted_in (Refused n why) = n
+noted_in Redacted = Nothing
+
+abbrev pub is_redacted_by : Outcome → Bool
+is_redacted_by Redacted = true
+is_redacted_by _ = false
+
+-- the form of a call after a turn
+abbrev pub form_after : Outcome → Policy → Call → Call
+form_after Redacted (Redact clears) form = cleared_call clears form
+form_after _ _ form = form
+
+-- a ticket was drawn
+abbrev pub is_draw : Noted → Bool
+is_draw (Drawn window ticket) = true
+is_draw _ = false
+
+-- where the tickets of a window are told afterwards, they are those of before and then this one
+abbrev pub IsNextTicket : Option (List ℕ) → Option (List ℕ) → ℕ → Type 0
+IsNextTicket before after ticket =
+    IfSome after (λ tickets. IsSomeAnd before (λ earlier. tickets ≡ earlier ++ ticket ∷ []))
+
+-- a draw was one of the policy's tenant, in the window of the note; `before` and `after` are the tickets of each
+-- tenant and window
+abbrev pub TellsDraw : (ℕ → ℕ → Option (List ℕ)) → (ℕ → ℕ → Option (List ℕ)) → Policy → Noted → Type 0
+TellsDraw before after (Quota tenant per cap) (Drawn window ticket) =
+    IsNextTicket (before tenant window) (after tenant window) ticket
+TellsDraw before after _ _ = Unit {0}
+
+-- no ticket of this tenant and window was drawn
+abbrev pub IsElsewhere : Policy → Noted → ℕ → ℕ → Type 0
+IsElsewhere (Quota tenant per cap) (Drawn window ticket) t w = (t ≢ tenant) ⊎ (w ≢ window)
+IsElsewhere _ _ t w = Unit {0}

@@ -1,0 +1,90 @@
+//! Marks: what a standing call keeps of the engines that it met.
+
+ghost use Rattle.std.specs.Prelude.{◌≡◌, ◌≤◌, ◌==◌, not, filter, length};
+ghost use Rattle.std.specs.List.{list_any};
+ghost use Rattle.engine_core.specs.Marks.{is_allowing, other_marks};
+ghost use Rattle.engine_core.specs.Steps.{marked};
+
+use crate::MAX_ENGINES;
+use crate::engine::Engine;
+use arrayvec::ArrayVec;
+
+/// The marks of a call.
+pub type Marks = ArrayVec<Mark, MAX_ENGINES>;
+
+/// A mark, for the engine of an attachment.
+#[derive(Clone, Copy, Debug)]
+pub struct Mark {
+    /// The number of the attachment.
+    pub attach: u32,
+    pub note: Note,
+}
+
+/// What a mark says.
+#[derive(Clone, Copy, Debug)]
+pub enum Note {
+    /// The access policy of this version allowed the call.
+    Allowed { version: u32 },
+    /// The call was charged.
+    Charged,
+    /// This ticket was drawn for the call.
+    Drawn { ticket: u64 },
+    /// The call was counted.
+    Counted,
+}
+
+impl Mark {
+    // Whether it says that an access policy allowed the call.
+    fn is_allowing(&self) -> bool
+        ensures { result ≡ is_allowing self.now.note }
+    {
+        matches!(self.note, Note::Allowed { .. })
+    }
+}
+
+// What stands in the unused places for marks.
+impl Default for Mark {
+    fn default() -> Mark {
+        Mark {
+            attach: 0,
+            note: Note::Counted,
+        }
+    }
+}
+
+// Removes the mark of an attachment.
+fn forget(marks: &mut Marks, attach: u32)
+    ensures { marks.new.items ≡ other_marks attach marks.old.items }
+{
+    marks.retain(|mark| mark.attach != attach);
+}
+
+// Sets the mark of an attachment, in place of the one that it had.
+pub(crate) fn set(marks: &mut Marks, attach: u32, note: Note)
+    requires { length (other_marks attach marks.old.items) ≤ 7 }
+    ensures { marks.new.items ≡ marked attach note marks.old.items }
+{
+    forget(marks, attach);
+    marks.push(Mark { attach, note });
+}
+
+// Removes the marks of access engines.
+pub(crate) fn forget_allowing(marks: &mut Marks)
+    ensures { marks.new.items ≡ filter (λ m. not (is_allowing m.note)) marks.old.items }
+{
+    marks.retain(|mark| !mark.is_allowing());
+}
+
+// Removes all marks but those of some engines.
+pub(crate) fn keep_of(marks: &mut Marks, engines: &[Engine])
+    ensures { marks.new.items ≡ filter (λ m. list_any (λ e. e.entry.attach == m.attach) engines.now) marks.old.items }
+{
+    marks.retain(|mark| has_attachment(engines, mark.attach));
+}
+
+// Whether one of the engines has the attachment.
+fn has_attachment(engines: &[Engine], attach: u32) -> bool
+    ensures { result ≡ list_any (λ e. e.entry.attach == attach) engines.now }
+{
+    engines.iter().any(|engine| engine.attach() == attach)
+}

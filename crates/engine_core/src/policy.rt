@@ -1,0 +1,69 @@
+//! The policies that an engine works for.
+
+ghost use Rattle.std.specs.Prelude.{◌≡◌, IfOk};
+ghost use Rattle.engine_core.specs.Policies.{is_same_kind};
+
+use mrpc_table::Memory;
+use policy_access::Access;
+use policy_rate::Rate;
+use policy_redact::Redact;
+use std::alloc::Global;
+
+/// What an operator attaches to a chain. `IsPolicy` of `specs/Policies.antt` has the ranges of its numbers.
+#[derive(Debug, Drop)]
+pub enum Policy {
+    /// Calls are allowed or denied by rules.
+    Access(Access),
+    /// So many calls pass in a time, and others are held or refused.
+    Rate(Rate),
+    /// Each call draws a ticket in the window of the moment, and those whose ticket isn't below the cap
+    /// are refused.
+    Quota {
+        /// Whose windows these are.
+        tenant: u32,
+        /// The milliseconds of a window, 1 to 86400000. Window 1023 is the last, and lasts.
+        per: u64,
+        /// How many tickets of a window pass.
+        cap: u64,
+    },
+    /// Calls are counted, and pass.
+    Count,
+    /// Fields are cleared from calls.
+    Redact(Redact),
+}
+
+impl Policy {
+    /// Whether a policy may take the place of another: it is of the same kind, and a quota of the same
+    /// tenant.
+    pub fn is_same_kind(&self, other: &Policy) -> bool
+        ensures { result ≡ is_same_kind self.now other.now }
+    {
+        match (self, other) {
+            (Policy::Access(_), Policy::Access(_)) => true,
+            (Policy::Rate(_), Policy::Rate(_)) => true,
+            (Policy::Quota { tenant: ours, .. }, Policy::Quota { tenant: theirs, .. }) => {
+                ours == theirs
+            }
+            (Policy::Count, Policy::Count) => true,
+            (Policy::Redact(_), Policy::Redact(_)) => true,
+            _ => false,
+        }
+    }
+
+    /// An equal policy.
+    pub fn copied(&self, alloc: Global) -> Result<Policy, Memory>
+        ensures { IfOk result (λ p. p ≡ self.now) }
+    {
+        match self {
+            Policy::Access(access) => Ok(Policy::Access(access.copied(alloc)?)),
+            Policy::Rate(rate) => Ok(Policy::Rate(*rate)),
+            Policy::Quota { tenant, per, cap } => Ok(Policy::Quota {
+                tenant: *tenant,
+                per: *per,
+                cap: *cap,
+            }),
+            Policy::Count => Ok(Policy::Count),
+            Policy::Redact(redact) => Ok(Policy::Redact(redact.copied(alloc)?)),
+        }
+    }
+}

@@ -1,0 +1,117 @@
+//! Calls that stand: they were accepted, and have neither been sent nor refused.
+
+ghost use Rattle.std.specs.Prelude.{◌≡◌, ◌≢◌, ◌≤◌, ◌<◌, ◌↔◌, ℕ, [], All, IsTrue, length};
+ghost use Rattle.std.specs.Bool.{OnTrue, OnFalse};
+ghost use Rattle.mrpc_table.specs.Weight.{weight};
+ghost use Rattle.mrpc_table.specs.declared.table.Table.{Table as TheTable};
+ghost use Rattle.policy_access.specs.Call.{IsCallOf};
+ghost use Rattle.policy_redact.specs.Redacting.{FitsSomeTable, cleared_call};
+ghost use Rattle.engine_core.specs.Marks.{IsOneEach, StandingCall, note_of, other_marks};
+ghost use Rattle.engine_core.specs.Steps.{IsUnallowed, with_mark};
+
+use crate::engine::Engine;
+use crate::mark::{Marks, Note, forget_allowing, keep_of, set};
+use policy_access::Call;
+use policy_redact::Redact;
+use std::marker::Model;
+
+/// A call with its marks: at most one for each engine, and at most eight.
+#[derive(Debug, Drop)]
+pub struct Standing {
+    call: Call,
+    marks: Marks,
+}
+
+impl Model for Standing {
+    ghost use Rattle.engine_core.specs.Marks.{StandingCall, IsOneEach};
+
+    ghost Value = { StandingCall };
+
+    ghost use Rattle.std.specs.Coded.{codes};
+    ghost use Rattle.policy_access.specs.contracts.call.Call as c;
+
+    ghost coded = { Prim.hlevel (codes, c.the_row.coded) };
+
+    ghost view = { λ s. record { call = s.call; marks = s.marks.items } };
+
+    ghost invariant = { λ s. IsOneEach s.marks.items };
+}
+
+impl Standing {
+    /// A call without marks. It takes no memory.
+    pub fn new(call: Call) -> Standing
+        ensures call { result.call ≡ call }
+        ensures marks { result.marks ≡ [] }
+    {
+        Standing {
+            call,
+            marks: Marks::new(),
+        }
+    }
+
+    /// The call.
+    pub fn call(&self) -> &Call
+        ensures { result.now ≡ self.now.call }
+    {
+        &self.call
+    }
+
+    // What the mark of an attachment says, if there is one.
+    pub(crate) fn note_of(&self, attach: u32) -> Option<Note>
+        ensures { result ≡ note_of self.now.marks attach }
+    {
+        self.marks
+            .as_slice()
+            .iter()
+            .find(|mark| mark.attach == attach)
+            .map(|mark| mark.note)
+    }
+
+    // Sets the mark of an attachment.
+    pub(crate) fn mark(&mut self, attach: u32, note: Note)
+        requires { length (other_marks attach self.old.marks) ≤ 7 }
+        ensures { self.new ≡ with_mark attach note self.old }
+    {
+        set(&mut self.marks, attach, note);
+    }
+
+    // Clears the fields of a redacting policy. Where that changes the tree, the marks of access engines
+    // are taken away, since their policies allowed another one. Answers whether it did.
+    pub(crate) fn clear(&mut self, redact: &Redact) -> bool
+        requires { FitsSomeTable self.old.call }
+        ensures left { self.new.call ≡ cleared_call redact.now self.old.call }
+        ensures changed { IsTrue result ↔ (self.new.call.tree ≢ self.old.call.tree) }
+        ensures unallowed { OnTrue result (IsUnallowed self.old.marks self.new.marks) }
+        ensures smaller { OnTrue result (weight self.new.call.tree < weight self.old.call.tree) }
+        ensures unchanged { OnFalse result (self.new ≡ self.old) }
+        ensures fits { (T : TheTable) → IsCallOf T self.old.call → IsCallOf T self.new.call }
+    {
+        let changed = redact.clear(&mut self.call);
+        if changed {
+            forget_allowing(&mut self.marks);
+        }
+        changed
+    }
+
+    /// Takes away the marks of all engines but these. It takes no memory.
+    pub fn keep_marks_of(&mut self, engines: &[Engine])
+        ensures call { self.new.call ≡ self.old.call }
+        ensures kept { All (λ e. note_of self.new.marks e.entry.attach
+            ≡ note_of self.old.marks e.entry.attach) engines.now }
+        ensures gone { (attach : ℕ) → All (λ e. e.entry.attach ≢ attach) engines.now
+            → note_of self.new.marks attach ≡ None }
+
+        // There are no more marks than these engines.
+        ensures room { All (λ e. length (other_marks e.entry.attach self.new.marks) < length engines.now) engines.now }
+    {
+        keep_of(&mut self.marks, engines);
+    }
+
+    /// A law; it does nothing. No two marks are of one engine, and there are at most eight.
+    pub fn few_marks(&self)
+        ensures one_each { IsOneEach self.now.marks }
+        ensures few { length self.now.marks ≤ 8 }
+    {
+        let _ = self.marks.len();
+    }
+}

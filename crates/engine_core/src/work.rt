@@ -1,0 +1,168 @@
+//! What an engine of each kind does with a call.
+
+ghost use Rattle.std.specs.Prelude.{◌≡◌, ◌≢◌, ◌<◌, ◌≤◌, ℕ, MatchOption, false, length};
+ghost use Rattle.std.specs.Bool.{OnTrue, OnFalse};
+ghost use Rattle.policy_access.specs.Call.{IsCallOf};
+ghost use Rattle.policy_rate.specs.Level.{IsRate};
+ghost use Rattle.policy_redact.specs.Redacting.{FitsSomeTable};
+ghost use Rattle.engine_core.specs.Answers.{drawn, nothing};
+ghost use Rattle.engine_core.specs.Marks.{is_allowed, other_marks, past_of};
+ghost use Rattle.engine_core.specs.Steps.{Steps};
+ghost use Rattle.engine_core.specs.Turns.{noted_in, is_draw, TellsDraw, IsElsewhere};
+
+use crate::mark::Note;
+use crate::outcome::{Noted, Outcome, Why};
+use crate::policy::Policy;
+use crate::standing::Standing;
+use mrpc_base::{Tickets, WINDOWS};
+use mrpc_table::Table;
+use policy_access::Access;
+use policy_rate::{Bucket, Rate, Step};
+use policy_redact::Redact;
+
+// An access engine judges a call that its policy, in this version, hasn't allowed yet.
+pub(crate) fn judge(
+    access: &Access,
+    attach: u32,
+    version: u32,
+    call: &mut Standing,
+    table: &Table,
+) -> Outcome
+    requires call { IsCallOf table.now call.old.call }
+    requires room { length (other_marks attach call.old.marks) ≤ 7 }
+    ensures { (level moment : ℕ)
+        → Steps (Policy.Access access.now) attach version level moment call.old call.new level result }
+{
+    if is_allowed(call, attach, version) {
+        return Outcome::Passed(Noted::Nothing);
+    }
+    let verdict = access.judge(call.call(), table);
+    if !verdict.allow {
+        return Outcome::Refused(Noted::Nothing, Why::Denied { rule: verdict.rule });
+    }
+    call.mark(attach, Note::Allowed { version });
+    Outcome::Passed(Noted::Nothing)
+}
+
+// A rate engine charges a call once.
+pub(crate) fn charge(rate: &Rate, bucket: &mut Bucket, attach: u32, call: &mut Standing) -> Outcome
+    requires rate { IsRate rate.now }
+    requires room { length (other_marks attach call.old.marks) ≤ 7 }
+    ensures step { (version moment : ℕ)
+        → Steps (Policy.Rate rate.now) attach version bucket.old.level moment call.old call.new bucket.new.level result }
+    ensures last { bucket.new.last ≡ bucket.old.last }
+{
+    if is_noted(call, attach) {
+        return Outcome::Passed(Noted::Nothing);
+    }
+    match bucket.step(rate) {
+        Step::Pass { level } => {
+            call.mark(attach, Note::Charged);
+            Outcome::Passed(Noted::Charged { level })
+        }
+        Step::Short { level, cost } if rate.hold => Outcome::Held { level, cost },
+        Step::Short { level, cost } => Outcome::Refused(Noted::Nothing, Why::Short { level, cost }),
+    }
+}
+
+// A quota draws a ticket for a call once, and compares it with its cap each time.
+pub(crate) fn draw<Q: Tickets>(
+    tenant: u32,
+    per: u64,
+    cap: u64,
+    attach: u32,
+    call: &mut Standing,
+    now: u64,
+    tickets: &mut Q,
+) -> Outcome
+    requires per { 1 ≤ per }
+    requires room { length (other_marks attach call.old.marks) ≤ 7 }
+    requires known { Q.knows tickets.old tenant }
+    ensures step { (version level : ℕ)
+        → Steps (Policy.Quota tenant per cap) attach version level now call.old call.new level result }
+    ensures drawn { TellsDraw (Q.drawn tickets.old) (Q.drawn tickets.new)
+        (Policy.Quota tenant per cap) (noted_in result) }
+    ensures elsewhere { (t w : ℕ) → Q.knows tickets.old t → w < WINDOWS
+        → IsElsewhere (Policy.Quota tenant per cap) (noted_in result) t w
+        → Q.drawn tickets.new t w ≡ Q.drawn tickets.old t w }
+    ensures knows { (t : ℕ) → Q.knows tickets.old t → Q.knows tickets.new t }
+    ensures untouched { is_draw (noted_in result) ≡ false → tickets.new ≡ tickets.old }
+{
+    if let Some(ticket) = ticket_of(call, attach) {
+        return compared(Noted::Nothing, ticket, cap);
+    }
+    let window = (now / per).min(WINDOWS - 1);
+    let ticket = tickets.draw(tenant, window);
+    call.mark(attach, Note::Drawn { ticket });
+    compared(Noted::Drawn { window, ticket }, ticket, cap)
+}
+
+// Only a ticket below the cap passes.
+fn compared(noted: Noted, ticket: u64, cap: u64) -> Outcome
+    ensures within { ticket < cap → result ≡ Outcome.Passed noted }
+    ensures over { cap ≤ ticket → result ≡ Outcome.Refused noted (Why.Over ticket cap) }
+{
+    if ticket < cap {
+        Outcome::Passed(noted)
+    } else {
+        Outcome::Refused(noted, Why::Over { ticket, cap })
+    }
+}
+
+// A count counts a call once.
+pub(crate) fn count(attach: u32, call: &mut Standing) -> Outcome
+    requires { length (other_marks attach call.old.marks) ≤ 7 }
+    ensures { (version level moment : ℕ)
+        → Steps Policy.Count attach version level moment call.old call.new level result }
+{
+    if is_noted(call, attach) {
+        return Outcome::Passed(Noted::Nothing);
+    }
+    call.mark(attach, Note::Counted);
+    Outcome::Passed(Noted::Counted)
+}
+
+// A redacting engine clears the call's tree each time.
+pub(crate) fn clear(redact: &Redact, call: &mut Standing) -> Outcome
+    requires { FitsSomeTable call.old.call }
+    ensures { (attach version level moment : ℕ)
+        → Steps (Policy.Redact redact.now) attach version level moment call.old call.new level result }
+{
+    if call.clear(redact) {
+        Outcome::Redacted
+    } else {
+        Outcome::Passed(Noted::Nothing)
+    }
+}
+
+// Whether something was noted of a call for an attachment.
+pub(crate) fn is_noted(call: &Standing, attach: u32) -> bool
+    ensures noted { OnTrue result (past_of call.now.marks attach ≢ nothing) }
+    ensures none { OnFalse result (past_of call.now.marks attach ≡ nothing) }
+{
+    matches!(
+        call.note_of(attach),
+        Some(Note::Charged | Note::Drawn { .. } | Note::Counted)
+    )
+}
+
+// Whether the access policy of this attachment and version has allowed a call.
+fn is_allowed(call: &Standing, attach: u32, version: u32) -> bool
+    ensures { result ≡ is_allowed call.now.marks attach version }
+{
+    match call.note_of(attach) {
+        Some(Note::Allowed { version: allowed }) => allowed == version,
+        _ => false,
+    }
+}
+
+// The ticket that was drawn of a call for an attachment, if one was.
+fn ticket_of(call: &Standing, attach: u32) -> Option<u64>
+    ensures { MatchOption result ((t : ℕ)
+        → past_of call.now.marks attach ≢ drawn t) (λ t. past_of call.now.marks attach ≡ drawn t) }
+{
+    match call.note_of(attach) {
+        Some(Note::Drawn { ticket }) => Some(ticket),
+        _ => None,
+    }
+}
