@@ -93,6 +93,13 @@ impl<'r, R: Wait> PairLink<'r, R> {
         }
     }
 
+    /// How many sends and receives failed; it stands still at 2^64 - 1.
+    pub fn faults(&self) -> u64
+        ensures { result ≡ self.now.faults }
+    {
+        self.faults
+    }
+
     // Counts a send or a receive that failed.
     fn fault(&mut self)
         ensures faults { self.new ≡ record self.old { faults = raised self.old.faults } }

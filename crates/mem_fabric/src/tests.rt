@@ -1,7 +1,10 @@
 use super::*;
 use mrpc_base::{Came, Fabric, Handed, Link, OpenFault};
 use std::alloc::Global;
+use std::sync::Wait;
 use std::test::Fail;
+use std::thread;
+use std::thread::Threads;
 
 fn no_faults(alloc: Global) -> ListedFaults {
     ListedFaults {
@@ -9,6 +12,68 @@ fn no_faults(alloc: Global) -> ListedFaults {
         sends: Vec::new(alloc),
         receives: Vec::new(alloc),
     }
+}
+
+#[test]
+fn two_threads_use_a_pair(rt: HostRuntime) -> Result<(), Fail> {
+    let mut fabric = MemFabric::new(&rt, rt.alloc(), no_faults(rt.alloc()));
+    let (first, second) = fabric.open_pair(1, 2)?;
+    let (came, came_too) = exchange_both(&rt, first, second);
+    assert_eq!(rt; (came, came_too), (15, 15));
+    Ok(())
+}
+
+fn exchange_both<R: Threads + Wait + Sync>(
+    rt: &R,
+    first: PairLink<R>,
+    second: PairLink<R>,
+) -> (usize, usize) {
+    thread::join(
+        rt,
+        move || exchange(rt, first),
+        move || exchange(rt, second),
+    )
+}
+
+// Hands over five frames of three bytes and finishes, and answers how many bytes came.
+fn exchange<R: Wait>(rt: &R, mut link: PairLink<R>) -> usize {
+    for number in 0..5u8 {
+        let _ = link.send(&[number, 0, 1]);
+    }
+    link.finish();
+    let mut came = 0usize;
+    let mut buf = [0; 2];
+    for _ in rt.forever() {
+        match link.receive(&mut buf) {
+            Came::Bytes(count) => came = came.wrapping_add(count),
+            Came::Idle => thread::yield_now(),
+            _ => break,
+        }
+    }
+    came
+}
+
+#[test]
+fn links_come_back(rt: HostRuntime) -> Result<(), Fail> {
+    let mut fabric = MemFabric::new(&rt, rt.alloc(), no_faults(rt.alloc()));
+    let (mut first, mut second) = fabric.open_pair(1, 2)?;
+    let _ = first.send(&[7, 8]);
+    meet(&mut first, &mut second);
+    fabric.keep(1, first);
+    fabric.keep(2, second);
+    assert_eq!(rt; fabric.links().len(), 2);
+    assert_eq!(rt; take_first(&mut fabric), 1);
+    assert_eq!(rt; take_first(&mut fabric), 2);
+    assert_eq!(rt; take_first(&mut fabric), 0);
+    Ok(())
+}
+
+// Takes the first link that is back, and answers its connection, or 0 where none is back.
+fn take_first<R: Wait>(fabric: &mut MemFabric<R>) -> u32 {
+    if fabric.links().is_empty() {
+        return 0;
+    }
+    fabric.take_back(0).0
 }
 
 #[test]
@@ -20,7 +85,9 @@ fn finish_has_its_place(rt: HostRuntime) -> Result<(), Fail> {
     }
     first.finish();
     first.finish();
+    assert_eq!(rt; first.faults(), 0);
     assert_eq!(rt; first.send(&[8]), Handed::Failed);
+    assert_eq!(rt; first.faults(), 1);
     let mut buf = [0; 9];
     for _ in 0..65535 {
         assert_eq!(rt; second.receive(&mut buf), Came::Bytes(1));

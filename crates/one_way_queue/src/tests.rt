@@ -72,3 +72,29 @@ fn pieces_are_read_as_bytes(rt: HostRuntime) -> Result<(), Fail> {
     assert!(rt; matches!(reader.read(&rt, &mut buf), Found::Nothing));
     Ok(())
 }
+
+#[test]
+fn pieces_go_to_another_thread(rt: HostRuntime) -> Result<(), Fail> {
+    let (mut producer, consumer) = open::<Piece<u8>>(rt.alloc(), 4)?;
+    let reader = PieceReader::new(rt.alloc(), consumer);
+    let (_, found) = thread::join(
+        &rt,
+        move || producer.put_waiting(&rt, Piece::Mark(5)),
+        move || first_mark(&rt, reader),
+    );
+    assert_eq!(rt; found, Some(5));
+    Ok(())
+}
+
+// The first mark, unless bytes come before it.
+fn first_mark<R: Wait>(rt: &R, mut reader: PieceReader<u8>) -> Option<u8> {
+    let mut buf = [0; 2];
+    for _ in rt.forever() {
+        match reader.read(rt, &mut buf) {
+            Found::Bytes(_) => return None,
+            Found::Mark(mark) => return Some(mark),
+            Found::Nothing => thread::yield_now(),
+        }
+    }
+    unreachable!()
+}

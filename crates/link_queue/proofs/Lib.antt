@@ -1,0 +1,4 @@
+mod Meeting
+mod Pieces
+mod Rows
+mod Writing

@@ -1,0 +1,21 @@
+use Rattle.std.proofs.Common.{◌≡◌, true, rules, ap, ◌∙◌}
+use Rattle.one_way_queue.specs.Ends.{put_of}
+use Rattle.link_queue.specs.declared.marks.Order.TheVariants.{Close}
+use Rattle.link_queue.specs.declared.marks.Health.TheVariants.{Failed}
+use Rattle.link_queue.specs.Marks.{frames_of, is_closed}
+use Rattle.link_queue.proofs.Pieces.{closed_snoc_close, frames_snoc_mark}
+use Rattle.link_queue.proofs.queue_link.QueueLink.close.Goals as goal
+
+pub invariant_of-result : goal.invariant_of-result
+invariant_of-result g c =
+    let inv = c.self.invariant in
+    let fails : (c.eq.result ≡ true → c.self.inside.health ≡ Failed) = search rules in
+    record {
+      closed_last = ap is_closed c.put_waiting.ensures.done ∙ closed_snoc_close (put_of c.self.inside.out) inv.unclosed;
+      ends = inv.ends;
+      gave = inv.gave;
+      fails = λ e. inv.fails (fails e);
+    }
+
+pub returns-clause-handed : goal.returns-clause-handed
+returns-clause-handed g c = ap frames_of c.put_waiting.ensures.done ∙ frames_snoc_mark (put_of c.self.inside.out) Close ∙ ap (λ v. v.handed) c.self.view_is

@@ -1,0 +1,11 @@
+use Rattle.one_way_queue.specs.Ends.{put_of}
+use Rattle.link_queue.proofs.Writing.{news_was_told}
+use Rattle.link_queue.proofs.writer.QueueWriter.put_news.Goals as goal
+
+pub invariant_of-self : goal.invariant_of-self
+invariant_of-self g c =
+    let old = c.args.self.now in
+    record {
+      passes = old.passes;
+      brings = news_was_told c.args.news (put_of old.out) _ old.held old.inner.came.bytes old.inner.ended old.inner.health c.requires.so_it_is c.in-Ok.ensures.done old.brings c.requires.holds_nothing;
+    }

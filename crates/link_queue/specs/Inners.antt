@@ -1,0 +1,9 @@
+-- What a writer passed on.
+use Rattle.std.specs.Prelude.{ℕ, List}
+use Rattle.mrpc_base.specs.declared.link.Link.{Ghosts}
+use Rattle.link_queue.specs.declared.inner.Inner.{Inner}
+use Rattle.link_queue.specs.Known.{since}
+
+-- the frames that were handed to the inner link since the writer has it
+abbrev pub passed_on : {L : Type 0} {g : Ghosts L} → Inner L g → List (List ℕ)
+passed_on {g = g} inner = since (g.handed inner.start.value) (g.handed inner.link)

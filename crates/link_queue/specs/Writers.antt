@@ -1,0 +1,49 @@
+-- What clauses see of a writer, and of what it leaves.
+use Rattle.std.specs.Prelude.{◌≡◌, ℕ, List}
+use Rattle.atomic_table.specs.Seated.{TableId}
+use Rattle.mrpc_base.specs.declared.link.Link.{Ghosts}
+use Rattle.one_way_queue.specs.Ends.{consumer_queue, producer_queue}
+use Rattle.link_queue.specs.declared.writer.QueueWriter.{QueueWriter}
+use Rattle.link_queue.specs.declared.writer_end.WriterEnd.{WriterEnd}
+use Rattle.link_queue.specs.declared.marks.Health.TheVariants.{Failed, Memory}
+use Rattle.link_queue.specs.Inners.{passed_on}
+
+-- the inner link as the writer got it
+abbrev pub writer_start : {R L : Type 0} {g : Ghosts L} → QueueWriter R L g → L
+writer_start w = w.inner.start.value
+
+-- the queue to the writer, and the queue back
+abbrev pub writer_forward : {R L : Type 0} {g : Ghosts L} → QueueWriter R L g → TableId
+writer_forward w = consumer_queue w.orders
+
+abbrev pub writer_backward : {R L : Type 0} {g : Ghosts L} → QueueWriter R L g → TableId
+writer_backward w = producer_queue w.out
+
+module _ {L : Type 0} {g : Ghosts L} where
+  -- the inner link as the writer got it, and as it left it
+  abbrev pub start_of : WriterEnd L g → L
+  start_of w = w.inner.start.value
+
+  abbrev pub link_of : WriterEnd L g → L
+  link_of w = w.inner.link
+
+  -- the frames that the inner link was handed since, and the bytes that it gave since
+  abbrev pub handed_since : WriterEnd L g → List (List ℕ)
+  handed_since w = passed_on w.inner
+
+  abbrev pub given_since : WriterEnd L g → List ℕ
+  given_since w = w.inner.came.bytes
+
+  abbrev pub end_forward : WriterEnd L g → TableId
+  end_forward w = consumer_queue w.orders
+
+  abbrev pub end_backward : WriterEnd L g → TableId
+  end_backward w = producer_queue w.out
+
+  -- the inner link failed
+  abbrev pub has_failed : WriterEnd L g → Type 0
+  has_failed w = w.inner.health ≡ Failed
+
+  -- memory was wanting
+  abbrev pub lacked_memory : WriterEnd L g → Type 0
+  lacked_memory w = w.inner.health ≡ Memory

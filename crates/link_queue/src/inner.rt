@@ -1,0 +1,98 @@
+// An inner link in the hands of its writer.
+ghost use Rattle.std.specs.Prelude.{◌≡◌, ◌≢◌, ◌≤◌, ◌++◌, true};
+ghost use Rattle.mrpc_base.specs.Faults.{raised};
+ghost use Rattle.link_queue.specs.declared.marks.Health.TheVariants.{Failed};
+ghost use Rattle.link_queue.specs.Known.{TellsMore, since};
+
+use crate::marks::Health;
+use crate::was::Was;
+use mrpc_base::{Came, Handed, Link};
+use one_way_queue::GivenBytes;
+
+// The link, as it was and as it is, the bytes that came since, and what it answered.
+#[derive(Drop)]
+pub(crate) struct Inner<L: Link> {
+    pub link: L,
+    pub start: Was<L>,
+    pub came: GivenBytes,
+    pub health: Health,
+    pub ended: bool,
+    ghost handed: { L.handed link ≡ L.handed start.value ++ since (L.handed start.value) (L.handed link) },
+    ghost given: { TellsMore (L.given start.value) (L.given link) came.bytes },
+    ghost failed: { health ≡ Failed → raised (L.faults start.value) ≤ L.faults link },
+    ghost works: { health ≢ Failed → L.faults link ≡ L.faults start.value },
+    ghost has_ended: { ended ≡ true → L.ended link ≡ true },
+}
+
+impl<L: Link> Inner<L> {
+    ghost use Rattle.std.specs.Prelude.{◌<◌, [], ◌∷◌, false, length, take};
+    ghost use Rattle.link_queue.specs.Inners.{passed_on};
+
+    pub(crate) fn new(link: L) -> Inner<L>
+        ensures link { result.link ≡ link }
+        ensures start { result.start.value ≡ link }
+        ensures passed { passed_on result ≡ [] }
+        ensures came { result.came.bytes ≡ [] }
+        ensures health { result.health ≡ Health.Working }
+        ensures ended { result.ended ≡ false }
+    {
+        let start = Was::of(&link);
+        Inner {
+            link,
+            start,
+            came: GivenBytes::new(),
+            health: Health::Working,
+            ended: false,
+        }
+    }
+
+    // Passes a frame on.
+    pub(crate) fn send(&mut self, frame: &[u8])
+        requires { self.old.health ≡ Health.Working }
+        ensures passed { self.new.health ≡ Health.Working → passed_on self.new ≡ passed_on self.old ++ frame.now ∷ [] }
+        ensures kept { self.new.health ≢ Health.Working → passed_on self.new ≡ passed_on self.old }
+        ensures start { self.new.start.value ≡ self.old.start.value }
+        ensures came { self.new.came.bytes ≡ self.old.came.bytes }
+        ensures ended { self.new.ended ≡ self.old.ended }
+    {
+        match self.link.send(frame) {
+            Handed::Done => {}
+            Handed::Failed => self.health = Health::Failed,
+            Handed::Memory => self.health = Health::Memory,
+        }
+    }
+
+    // Ends the sending side.
+    pub(crate) fn finish(&mut self)
+        ensures passed { passed_on self.new ≡ passed_on self.old }
+        ensures start { self.new.start.value ≡ self.old.start.value }
+        ensures came { self.new.came.bytes ≡ self.old.came.bytes }
+        ensures ended { self.new.ended ≡ self.old.ended }
+        ensures health { self.new.health ≡ self.old.health }
+    {
+        self.link.finish();
+    }
+
+    // Receives once, and answers how many bytes came.
+    pub(crate) fn receive(&mut self, buf: &mut [u8]) -> usize
+        requires room { 0 < length buf.old }
+        requires working { self.old.health ≡ Health.Working }
+        ensures count { result ≤ length buf.new }
+        ensures came { self.new.came.bytes ≡ self.old.came.bytes ++ take result buf.new }
+        ensures ended { 0 < result → self.new.ended ≡ self.old.ended }
+        ensures passed { passed_on self.new ≡ passed_on self.old }
+        ensures start { self.new.start.value ≡ self.old.start.value }
+    {
+        match self.link.receive(buf) {
+            Came::Bytes(count) => {
+                self.came = GivenBytes::with(&self.came, &buf[..count]);
+                return count;
+            }
+            Came::Idle => {}
+            Came::End => self.ended = true,
+            Came::Failed => self.health = Health::Failed,
+            Came::Memory => self.health = Health::Memory,
+        }
+        0
+    }
+}

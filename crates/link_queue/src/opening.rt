@@ -1,0 +1,39 @@
+// How a queue is opened.
+ghost use Rattle.std.specs.Prelude.{◌≡◌, ◌≤◌, [], false, IfOk};
+ghost use Rattle.link_queue.specs.Writers.{writer_start, writer_forward, writer_backward};
+
+use crate::marks::Health;
+use crate::{QueueLink, QueueWriter};
+use mrpc_base::Link;
+use mrpc_table::Memory;
+use std::alloc::Global;
+use std::sync::Wait;
+
+/// A link over a queue of at most `cap` frames, and the writer that passes them on to `link`. Without memory the link
+/// is dropped.
+pub fn open<'r, R: Wait, L: Link + Drop>(
+    rt: &'r R,
+    alloc: Global,
+    cap: u64,
+    link: L,
+) -> Result<(QueueLink<'r, R>, QueueWriter<'r, R, L>), Memory>
+    requires some { 1 ≤ cap }
+    requires most { cap ≤ 1024 }
+    ensures handed { IfOk result (λ ends. ends.0.handed ≡ []) }
+    ensures finished { IfOk result (λ ends. ends.0.finished ≡ false) }
+    ensures given { IfOk result (λ ends. ends.0.given ≡ []) }
+    ensures ended { IfOk result (λ ends. ends.0.ended ≡ false) }
+    ensures told { IfOk result (λ ends. ends.0.told ≡ []) }
+    ensures most { IfOk result (λ ends. ends.0.most ≡ cap) }
+    ensures health { IfOk result (λ ends. ends.0.health ≡ Health.Working) }
+    ensures faults { IfOk result (λ ends. ends.0.faults ≡ 0) }
+    ensures start { IfOk result (λ ends. writer_start ends.1 ≡ link) }
+    ensures forward { IfOk result (λ ends. ends.0.forward ≡ writer_forward ends.1) }
+    ensures backward { IfOk result (λ ends. ends.0.backward ≡ writer_backward ends.1) }
+{
+    let most = cap as usize;
+    let (out, orders) = one_way_queue::open(alloc, most + 2)?;
+    let (back, incoming) = one_way_queue::open(alloc, most)?;
+    let queue_link = QueueLink::new(rt, alloc, most, out, incoming);
+    Ok((queue_link, QueueWriter::new(rt, alloc, link, orders, back)))
+}

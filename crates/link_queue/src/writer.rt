@@ -1,0 +1,247 @@
+ghost use Rattle.std.specs.Prelude.{◌≡◌, ◌<◌, IfOk, length, true, false};
+ghost use Rattle.one_way_queue.specs.Ends.{put_of, taken_of};
+ghost use Rattle.link_queue.specs.Inners.{passed_on};
+ghost use Rattle.link_queue.specs.Marks.{PassesOn, BringsBack};
+
+use crate::WriterEnd;
+use crate::inner::Inner;
+use crate::marks::{Health, News, Order};
+use mrpc_base::Link;
+use mrpc_table::Bytes;
+use one_way_queue::{Consumer, Piece, Producer};
+use std::alloc::{AllocError, Global};
+use std::sync::Wait;
+use std::{mem, thread};
+
+// How many bytes a receive takes at most.
+const MOST_BYTES: usize = 4096;
+
+/// What passes the frames of a queue on to the inner link, in a thread of its own.
+#[derive(Drop)]
+pub struct QueueWriter<'r, R, L: Link> {
+    rt: &'r R,
+    alloc: Global,
+    pub(crate) inner: Inner<L>,
+    pub(crate) orders: Consumer<Piece<Order>>,
+    pub(crate) out: Producer<Piece<News>>,
+    // What waits for room in the queue back.
+    held: Option<Piece<News>>,
+    // Room for the next bytes, once there is some.
+    buffer: Vec<u8>,
+    // Whether the link has been told that the inner link failed or memory was wanting.
+    told: bool,
+    closed: bool,
+    ghost passes: { PassesOn (taken_of orders) (passed_on inner) closed inner.health },
+    ghost brings: { BringsBack (put_of out) held inner.came.bytes inner.ended inner.health },
+}
+
+impl<'r, R: Wait, L: Link> QueueWriter<'r, R, L> {
+    ghost use Rattle.std.specs.Prelude.{[], None};
+    ghost use Rattle.link_queue.specs.Marks.{IsNewsOf};
+    ghost use Rattle.one_way_queue.specs.Ends.{consumer_queue, producer_queue};
+    ghost use Rattle.link_queue.specs.Writers.{writer_start, writer_forward, writer_backward, start_of, end_forward, end_backward};
+
+    pub(crate) fn new(
+        rt: &'r R,
+        alloc: Global,
+        link: L,
+        orders: Consumer<Piece<Order>>,
+        out: Producer<Piece<News>>,
+    ) -> QueueWriter<'r, R, L>
+        requires taken { taken_of orders ≡ [] }
+        requires put { put_of out ≡ [] }
+        ensures start { writer_start result ≡ link }
+        ensures forward { writer_forward result ≡ consumer_queue orders }
+        ensures backward { writer_backward result ≡ producer_queue out }
+    {
+        QueueWriter {
+            rt,
+            alloc,
+            inner: Inner::new(link),
+            orders,
+            out,
+            held: None,
+            buffer: Vec::new(alloc),
+            told: false,
+            closed: false,
+        }
+    }
+
+    /// Passes on the frames of the queue, in order, until its link was closed, and brings back what comes. After the
+    /// inner link failed or memory was wanting, it takes the frames that still come without passing them on.
+    pub fn run(self) -> WriterEnd<L>
+        ensures start { start_of result ≡ writer_start self.entry }
+        ensures forward { end_forward result ≡ writer_forward self.entry }
+        ensures backward { end_backward result ≡ writer_backward self.entry }
+    {
+        let rt = self.rt;
+        let mut writer = self;
+        for _ in rt.forever() {
+            if writer.closed {
+                return writer.end();
+            }
+            if !writer.turn() {
+                thread::yield_now();
+            }
+        }
+        unreachable!()
+    }
+
+    // Passes on what comes from the link, and what comes for it, and answers whether anything came from the link.
+    fn turn(&mut self) -> bool
+        requires { self.old.closed ≡ false }
+        ensures start { writer_start self.new ≡ writer_start self.old }
+        ensures forward { writer_forward self.new ≡ writer_forward self.old }
+        ensures backward { writer_backward self.new ≡ writer_backward self.old }
+    {
+        let busy = self.follow();
+        if !self.closed {
+            self.bring();
+            self.tell();
+            self.receive();
+        }
+        busy
+    }
+
+    // Follows the next order, and answers whether there was one.
+    fn follow(&mut self) -> bool
+        requires { self.old.closed ≡ false }
+        ensures start { writer_start self.new ≡ writer_start self.old }
+        ensures forward { writer_forward self.new ≡ writer_forward self.old }
+        ensures backward { writer_backward self.new ≡ writer_backward self.old }
+    {
+        match self.orders.take(self.rt) {
+            None => return false,
+            Some(Piece::Bytes(frame)) => {
+                if self.inner.health == Health::Working {
+                    self.inner.send(frame.as_slice());
+                }
+            }
+            Some(Piece::Mark(Order::Finish)) => self.inner.finish(),
+            Some(Piece::Mark(Order::Close)) => {
+                self.inner.finish();
+                self.closed = true;
+            }
+        }
+        true
+    }
+
+    // Puts what it holds into the queue back, if that has room.
+    fn bring(&mut self)
+        ensures closed { self.new.closed ≡ self.old.closed }
+        ensures start { writer_start self.new ≡ writer_start self.old }
+        ensures forward { writer_forward self.new ≡ writer_forward self.old }
+        ensures backward { writer_backward self.new ≡ writer_backward self.old }
+    {
+        if let Some(piece) = self.held.take() {
+            match self.out.put(self.rt, piece) {
+                Ok(()) => {}
+                Err(piece) => self.held = Some(piece),
+            }
+        }
+    }
+
+    // Tells the link, once, that the inner link failed or memory was wanting.
+    fn tell(&mut self)
+        ensures closed { self.new.closed ≡ self.old.closed }
+        ensures start { writer_start self.new ≡ writer_start self.old }
+        ensures forward { writer_forward self.new ≡ writer_forward self.old }
+        ensures backward { writer_backward self.new ≡ writer_backward self.old }
+    {
+        if self.told || self.held.is_some() {
+            return;
+        }
+        match self.inner.health {
+            Health::Working => {}
+            Health::Failed => self.put_news(News::Failed),
+            Health::Memory => self.put_news(News::Memory),
+        }
+    }
+
+    // Puts the news into the queue back, if that has room.
+    fn put_news(&mut self, news: News)
+        requires holds_nothing { self.old.held ≡ None }
+        requires so_it_is { IsNewsOf self.old.inner.health news }
+        ensures closed { self.new.closed ≡ self.old.closed }
+        ensures start { writer_start self.new ≡ writer_start self.old }
+        ensures forward { writer_forward self.new ≡ writer_forward self.old }
+        ensures backward { writer_backward self.new ≡ writer_backward self.old }
+    {
+        match self.out.put(self.rt, Piece::Mark(news)) {
+            Ok(()) => self.told = true,
+            Err(_) => {}
+        }
+    }
+
+    // Receives once, unless it holds something or nothing comes any more.
+    fn receive(&mut self)
+        ensures closed { self.new.closed ≡ self.old.closed }
+        ensures start { writer_start self.new ≡ writer_start self.old }
+        ensures forward { writer_forward self.new ≡ writer_forward self.old }
+        ensures backward { writer_backward self.new ≡ writer_backward self.old }
+    {
+        if self.inner.health != Health::Working || self.inner.ended || self.held.is_some() {
+            return;
+        }
+        let kept = mem::replace(&mut self.buffer, Vec::new(self.alloc));
+        match with_room(self.alloc, kept) {
+            Ok(buffer) => self.take_bytes(buffer),
+            Err(_) => self.inner.health = Health::Memory,
+        }
+    }
+
+    // Receives into the buffer, and holds what came.
+    fn take_bytes(&mut self, mut buffer: Vec<u8>)
+        requires room { 0 < length buffer.items }
+        requires working { self.old.inner.health ≡ Health.Working }
+        requires before_end { self.old.inner.ended ≡ false }
+        requires holds_nothing { self.old.held ≡ None }
+        ensures closed { self.new.closed ≡ self.old.closed }
+        ensures start { writer_start self.new ≡ writer_start self.old }
+        ensures forward { writer_forward self.new ≡ writer_forward self.old }
+        ensures backward { writer_backward self.new ≡ writer_backward self.old }
+    {
+        let count = self.inner.receive(buffer.as_mut_slice());
+        if count > 0 {
+            buffer.truncate(count);
+            self.held = Some(Piece::Bytes(Bytes::from_vec(buffer)));
+        } else {
+            self.buffer = buffer;
+            if self.inner.ended {
+                self.held = Some(Piece::Mark(News::End));
+            }
+        }
+    }
+
+    // What is left once the link was closed.
+    fn end(self) -> WriterEnd<L>
+        requires { self.closed ≡ true }
+        ensures start { start_of result ≡ writer_start self.entry }
+        ensures forward { end_forward result ≡ writer_forward self.entry }
+        ensures backward { end_backward result ≡ writer_backward self.entry }
+    {
+        let QueueWriter {
+            rt: _,
+            alloc: _,
+            inner,
+            orders,
+            out,
+            held: _,
+            buffer: _,
+            told: _,
+            closed: _,
+        } = self;
+        WriterEnd::new(inner, orders, out)
+    }
+}
+
+// The buffer that was kept, or a new one.
+fn with_room(alloc: Global, kept: Vec<u8>) -> Result<Vec<u8>, AllocError>
+    ensures { IfOk result (λ buffer. 0 < length buffer.items) }
+{
+    if kept.is_empty() {
+        vec![in alloc; 0; MOST_BYTES]
+    } else {
+        Ok(kept)
+    }
+}

@@ -1,0 +1,109 @@
+ghost use Rattle.std.specs.Prelude.{◌≡◌, true};
+ghost use Rattle.one_way_queue.specs.Ends.{put_of, taken_of};
+ghost use Rattle.link_queue.specs.Inners.{passed_on};
+ghost use Rattle.link_queue.specs.Marks.{PassesOn, HasBroughtBack};
+
+use crate::inner::Inner;
+use crate::marks::{Health, News, Order};
+use crate::queue_link::Passed;
+use mrpc_base::Link;
+use one_way_queue::{Consumer, Piece, Producer};
+
+/// What a writer leaves: the inner link, and whether memory was wanting.
+#[derive(Drop)]
+pub struct WriterEnd<L: Link> {
+    pub(crate) inner: Inner<L>,
+    pub(crate) orders: Consumer<Piece<Order>>,
+    pub(crate) out: Producer<Piece<News>>,
+    ghost passes: { PassesOn (taken_of orders) (passed_on inner) true inner.health },
+    ghost brings: { HasBroughtBack (put_of out) inner.came.bytes inner.ended inner.health },
+}
+
+impl<L: Link> WriterEnd<L> {
+    ghost use Rattle.std.specs.Prelude.{◌++◌, ◌↔◌, IsTrue, false};
+    ghost use mathlib.Core.List.{IsPrefix};
+    ghost use Rattle.mrpc_base.specs.Faults.{Rose};
+    ghost use Rattle.one_way_queue.specs.Ends.{consumer_queue, producer_queue};
+    ghost use Rattle.link_queue.specs.Known.{TellsMore};
+    ghost use Rattle.link_queue.specs.Writers.{start_of, link_of, handed_since, given_since, end_forward, end_backward, has_failed, lacked_memory};
+
+    pub(crate) fn new(
+        inner: Inner<L>,
+        orders: Consumer<Piece<Order>>,
+        out: Producer<Piece<News>>,
+    ) -> WriterEnd<L>
+        requires passes { PassesOn (taken_of orders) (passed_on inner) true inner.health }
+        requires brings { HasBroughtBack (put_of out) inner.came.bytes inner.ended inner.health }
+        ensures start { start_of result ≡ inner.start.value }
+        ensures forward { end_forward result ≡ consumer_queue orders }
+        ensures backward { end_backward result ≡ producer_queue out }
+    {
+        WriterEnd { inner, orders, out }
+    }
+
+    /// The inner link.
+    pub fn link(&self) -> &L
+        ensures { result.now ≡ link_of self.now }
+    {
+        &self.inner.link
+    }
+
+    /// The inner link, taken out.
+    pub fn into_link(self) -> L
+        ensures { result ≡ link_of self }
+    {
+        self.inner.link
+    }
+
+    /// Whether the inner link failed: then its count of faults rose, or stands at its last value, and else it stayed.
+    pub fn failed(&self) -> bool
+        ensures failed { IsTrue result ↔ has_failed self.now }
+        ensures rose { IsTrue result → Rose (L.faults (start_of self.now)) (L.faults (link_of self.now)) }
+        ensures stays { result ≡ false → L.faults (link_of self.now) ≡ L.faults (start_of self.now) }
+    {
+        self.inner.health == Health::Failed
+    }
+
+    /// Whether memory was wanting.
+    pub fn memory(&self) -> bool
+        ensures { IsTrue result ↔ lacked_memory self.now }
+    {
+        self.inner.health == Health::Memory
+    }
+
+    /// Tells what the inner link has to do with the closed link of the same queue.
+    pub fn meet(&mut self, passed: Passed)
+        requires forward { passed.forward ≡ end_forward self.old }
+        requires backward { passed.backward ≡ end_backward self.old }
+
+        // What was handed since is a beginning of what was put into the queue, and all of it unless the inner link
+        // failed or memory was wanting.
+        ensures handed { L.handed (link_of self.new) ≡ L.handed (start_of self.new) ++ handed_since self.new }
+        ensures in_order { IsPrefix (handed_since self.new) passed.handed }
+        ensures all_handed { (has_failed self.new → ⊥) → (lacked_memory self.new → ⊥) → handed_since self.new ≡ passed.handed }
+
+        // What came is a beginning of what the inner link gave since, and all of it after the end, which the inner
+        // link answered first.
+        ensures given { TellsMore (L.given (start_of self.new)) (L.given (link_of self.new)) (given_since self.new) }
+        ensures came { IsPrefix passed.given (given_since self.new) }
+        ensures all_came { passed.ended ≡ true → passed.given ≡ given_since self.new }
+        ensures ended { passed.ended ≡ true → L.ended (link_of self.new) ≡ true }
+
+        // The closed link answered that it failed only where the inner link did, whose count rose just there.
+        ensures failed { passed.failed ≡ true → has_failed self.new }
+        ensures rose { has_failed self.new → Rose (L.faults (start_of self.new)) (L.faults (link_of self.new)) }
+        ensures stays { (has_failed self.new → ⊥) → L.faults (link_of self.new) ≡ L.faults (start_of self.new) }
+
+        ensures link { link_of self.new ≡ link_of self.old }
+        ensures start { start_of self.new ≡ start_of self.old }
+    {
+        let Passed {
+            mut out,
+            mut incoming,
+            ended: _,
+            failed: _,
+        } = passed;
+        one_way_queue::meet(&mut out, &mut self.orders);
+        incoming.meet(&mut self.out);
+    }
+}
