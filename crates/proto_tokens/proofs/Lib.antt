@@ -1,0 +1,12 @@
+mod Closing
+mod Escapes
+mod GapLemmas
+mod LineLemmas
+mod NextLemmas
+mod NumberLemmas
+mod Runs
+mod Spelled
+mod TextLemmas
+mod Values
+mod Walks
+mod WordLemmas

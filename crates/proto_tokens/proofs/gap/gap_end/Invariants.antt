@@ -1,0 +1,10 @@
+-- Blanks and comments stand from the first place up to this one.
+use Rattle.std.proofs.Common.{◌≡◌, ◌≤◌, ◌-◌, length, drop}
+use Rattle.proto_tokens.specs.Scanning.{walk, between}
+use Rattle.proto_tokens.proofs.gap.gap_end.Given as goal
+
+abbrev pub invariant-loop-i : goal.invariant-loop-i
+invariant-loop-i l = record { low : l.at ≤ l.i; high : l.i ≤ length l.text; same : walk between (drop l.at l.text) ≡ walk between (drop l.i l.text) }
+
+abbrev pub decreases-loop-i : goal.decreases-loop-i
+decreases-loop-i l = length l.text - l.i

@@ -1,0 +1,56 @@
+-- The tokens of a text (Protocol Buffers, proto3 language specification, "Lexical elements").
+use Rattle.std.specs.Prelude.{◌≡◌, ◌≢◌, ℕ, ◌+◌, ◌-◌, ◌≤◌, ◌==◌, Bool, true, false, List, [], ◌∷◌, ◌++◌, length, take, drop, count_by}
+use Rattle.mrpc_table.specs.Names.{is_name_byte, is_name_form}
+use Rattle.mrpc_table.specs.Lines.{in_64_bits}
+use Rattle.proto_tokens.specs.Gaps.{begins, Gap}
+use Rattle.proto_tokens.specs.Literals.{IsInteger, IsNumber, is_glue, is_quote, IsBody, is_mark, goes_on}
+use Rattle.proto_tokens.specs.declared.token.Kind.{Kind}
+use Rattle.proto_tokens.specs.declared.token.Kind.TheVariants.{Identifier, Integer, Number, Text, Mark, End, Bad}
+use Rattle.proto_tokens.specs.declared.token.Token.{Token}
+
+-- a literal, with the rest behind it, is a token of this kind, the longest one
+pub data Stands (kind : Kind) (literal rest : List ℕ) : Type 0 where
+  identifier : kind ≡ Identifier → is_name_form literal ≡ true → begins is_name_byte rest ≡ false → Stands kind literal rest
+  integer : (value : ℕ) → kind ≡ Integer (in_64_bits value) → IsInteger literal value → begins is_glue rest ≡ false → Stands kind literal rest
+  number : kind ≡ Number → IsNumber literal → begins is_glue rest ≡ false → Stands kind literal rest
+  string : (quote : ℕ) (body : List ℕ) → kind ≡ Text → is_quote quote ≡ true → literal ≡ quote ∷ body ++ quote ∷ [] → IsBody quote body → Stands kind literal rest
+  mark : (c : ℕ) → kind ≡ Mark c → literal ≡ c ∷ [] → is_mark c ≡ true → goes_on c rest ≡ false → Stands kind literal rest
+
+-- at the front of these bytes stands no token, no blank and no comment
+pub record IsStuck (bytes : List ℕ) : Type 0 where
+  pub more : bytes ≢ []
+  pub no_gap : (rest : List ℕ) → Gap bytes rest → rest ≡ bytes
+  pub no_token : (kind : Kind) (literal rest : List ℕ) → bytes ≡ literal ++ rest → Stands kind literal rest → ⊥
+
+-- the bytes of a token
+abbrev pub literal_of : List ℕ → Token → List ℕ
+literal_of text t = take (t.end - t.start) (drop t.start text)
+
+-- the line of a place: 1, and one more for each line feed before it
+abbrev pub line_at : List ℕ → ℕ → ℕ
+line_at text place = 1 + count_by (λ c. c == 10) (take place text)
+
+-- what stands where t starts
+pub data IsHere (text : List ℕ) (t : Token) : Type 0 where
+  word : t.start ≤ t.end → Stands t.kind (literal_of text t) (drop t.end text) → IsHere text t
+  the_end : t.kind ≡ End → t.start ≡ length text → t.end ≡ length text → IsHere text t
+  no_word : t.kind ≡ Bad → t.end ≡ t.start + 1 → IsStuck (drop t.start text) → IsHere text t
+
+-- t is the first token from a place of a text on
+pub record IsNext (text : List ℕ) (place : ℕ) (t : Token) : Type 0 where
+  pub behind : place ≤ t.start
+  pub within : t.end ≤ length text
+  pub gap : Gap (drop place text) (drop t.start text)
+  pub line : t.line ≡ line_at text t.start
+  pub here : IsHere text t
+
+-- no token follows the end, or a place at which none stands
+abbrev pub is_last : Kind → Bool
+is_last End = true
+is_last Bad = true
+is_last _ = false
+
+-- the tokens of a text from a place on
+pub data AreTokens (text : List ℕ) : ℕ → List Token → Type 0 where
+  last : {place : ℕ} {ts : List Token} (t : Token) → ts ≡ t ∷ [] → IsNext text place t → is_last t.kind ≡ true → AreTokens text place ts
+  another : {place : ℕ} {ts : List Token} (t : Token) (others : List Token) → ts ≡ t ∷ others → IsNext text place t → is_last t.kind ≡ false → AreTokens text t.end others → AreTokens text place ts

@@ -1,0 +1,17 @@
+//! Laws of tokens. These functions do nothing; their clauses hold.
+
+ghost use Rattle.std.specs.Prelude.{◌≡◌, ◌≤◌, ℕ, List, length};
+ghost use Rattle.proto_tokens.specs.Tokens.{IsNext, AreTokens};
+ghost use Rattle.proto_tokens.specs.declared.token.Token.{Token};
+
+/// From each place of a text on there is one first token.
+pub fn one_token()
+    ensures some { (text : List ℕ) (place : ℕ) → place ≤ length text → (t : Token) × IsNext text place t }
+    ensures one { (text : List ℕ) (place : ℕ) (t u : Token) → IsNext text place t → IsNext text place u → t ≡ u }
+{}
+
+/// A text has one list of tokens, the last of which is its end or the first place at which no token stands.
+pub fn one_list()
+    ensures some { (text : List ℕ) → (ts : List Token) × AreTokens text 0 ts }
+    ensures one { (text : List ℕ) (place : ℕ) (ts us : List Token) → AreTokens text place ts → AreTokens text place us → ts ≡ us }
+{}

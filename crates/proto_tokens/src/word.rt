@@ -1,0 +1,401 @@
+//! What stands at the front of bytes: a token of the text that isn't its end.
+
+ghost use Rattle.std.specs.Prelude.{◌≡◌, ◌≤◌, ◌<◌, ◌==◌, ◌+◌, ◌^◌, ◌∷◌, ℕ, List, length, drop, take, min, Some, None, MatchOption, IfSome};
+ghost use Rattle.std.specs.List.{prefix_len};
+ghost use Rattle.proto_tokens.specs.Gaps.{begins};
+ghost use Rattle.std.specs.Char.{digit_value, is_digit};
+ghost use Rattle.std.specs.Str.Parse.{digits_value};
+ghost use Rattle.mrpc_table.specs.Names.{is_name_start, is_name_byte};
+ghost use Rattle.mrpc_table.specs.Lines.{in_64_bits};
+ghost use Rattle.proto_tokens.specs.Literals.{is_decimal_digit, is_simple_escape, has_digits, is_wide, is_mark, is_glue, is_quote, goes_on};
+ghost use Rattle.proto_tokens.specs.Scanning.{is_escape, closes, hexadecimal_behind, octal_behind, fraction_len, exponent_len, decimal_at, is_hexadecimal, unsplit_number_at, begins_number, mark_at, number_at, word_at};
+
+use crate::token::Kind;
+use mrpc_table::Decimal;
+
+/// A token at the front of bytes: its sort and how many bytes it has.
+#[derive(Clone, Copy, Debug)]
+pub struct Word {
+    pub kind: Kind,
+    pub len: usize,
+}
+
+fn is_name_start(byte: u8) -> bool
+    ensures { result ≡ is_name_start byte }
+{
+    (byte >= 65 && byte <= 90) || (byte >= 97 && byte <= 122) || byte == 95
+}
+
+fn is_name_byte(byte: u8) -> bool
+    ensures { result ≡ is_name_byte byte }
+{
+    is_name_start(byte) || (byte >= 48 && byte <= 57)
+}
+
+fn name_len(bytes: &[u8]) -> usize
+    ensures value { result ≡ prefix_len is_name_byte bytes.now }
+    ensures bound { result ≤ length bytes.now }
+{
+    let mut i = 0;
+    while i < bytes.len() && is_name_byte(bytes[i]) {
+        i += 1;
+    }
+    i
+}
+
+fn digit_value(byte: u8) -> u8
+    ensures { result ≡ digit_value byte }
+{
+    if byte < 48 {
+        36
+    } else if byte < 58 {
+        byte - 48
+    } else if byte < 65 {
+        36
+    } else if byte < 91 {
+        byte - 55
+    } else if byte < 97 {
+        36
+    } else if byte < 123 {
+        byte - 87
+    } else {
+        36
+    }
+}
+
+/// Whether a byte is a digit of a base.
+pub fn is_digit(byte: u8, base: u8) -> bool
+    ensures { result ≡ is_digit byte base }
+{
+    digit_value(byte) < base
+}
+
+/// How many digits of a base stand at the front.
+pub fn digits_len(bytes: &[u8], base: u8) -> usize
+    ensures value { result ≡ prefix_len (λ c. is_digit c base) bytes.now }
+    ensures bound { result ≤ length bytes.now }
+{
+    let mut i = 0;
+    while i < bytes.len() && is_digit(bytes[i], base) {
+        i += 1;
+    }
+    i
+}
+
+/// Larger than each number of 64 bits, and small enough that a digit can follow.
+const LARGE: u128 = 0x1_0000_0000_0000_0000;
+
+/// The number that digits spell, or 2 to the power of 64 where it is larger.
+#[tactic(auto, using(crate::proofs::Values::capped_more))]
+pub fn capped(digits: &[u8], base: u8) -> u128
+    requires { base ≤ 16 }
+    ensures { 0 < base → result ≡ min (digits_value base digits.now) (2 ^ 64) }
+{
+    let mut number = 0;
+    for digit in digits {
+        let next: u128 = number * u128::from(base) + u128::from(digit_value(*digit));
+        number = next.min(LARGE);
+    }
+    number
+}
+
+fn value_of(digits: &[u8], base: u8) -> Decimal
+    requires small { base ≤ 16 }
+    requires positive { 0 < base }
+    ensures { result ≡ in_64_bits (digits_value base digits.now) }
+{
+    match u64::try_from(capped(digits, base)) {
+        Ok(number) => Decimal::Small(number),
+        Err(_) => Decimal::Large,
+    }
+}
+
+// The integer whose digits stand behind `0x`.
+fn hexadecimal_behind(digits: &[u8]) -> Option<Word>
+    requires { length digits.now < 2 ^ 63 }
+    ensures value { result ≡ hexadecimal_behind digits.now }
+    ensures bound { IfSome result (λ w. w.len ≤ length digits.now + 2) }
+{
+    let len = digits_len(digits, 16);
+    if len == 0 {
+        return None;
+    }
+    Some(Word {
+        kind: Kind::Integer(value_of(&digits[..len], 16)),
+        len: len + 2,
+    })
+}
+
+// The integer whose digits stand behind `0`.
+fn octal_behind(digits: &[u8]) -> Option<Word>
+    requires { length digits.now < 2 ^ 63 }
+    ensures value { result ≡ octal_behind digits.now }
+    ensures bound { IfSome result (λ w. w.len ≤ length digits.now + 1) }
+{
+    let len = digits_len(digits, 8);
+    if len == 0 {
+        return None;
+    }
+    Some(Word {
+        kind: Kind::Integer(value_of(&digits[..len], 8)),
+        len: len + 1,
+    })
+}
+
+fn fraction_len(bytes: &[u8]) -> usize
+    requires { length bytes.now < 2 ^ 63 }
+    ensures value { result ≡ fraction_len bytes.now }
+    ensures bound { result ≤ length bytes.now }
+{
+    match bytes {
+        [b'.', digits @ ..] => digits_len(digits, 10) + 1,
+        _ => 0,
+    }
+}
+
+fn exponent_len(bytes: &[u8]) -> usize
+    requires { length bytes.now < 2 ^ 63 }
+    ensures value { result ≡ exponent_len bytes.now }
+    ensures bound { result ≤ length bytes.now }
+{
+    match bytes {
+        [b'e' | b'E', b'+' | b'-', digits @ ..] => match digits_len(digits, 10) {
+            0 => 0,
+            len => len + 2,
+        },
+        [b'e' | b'E', digits @ ..] => match digits_len(digits, 10) {
+            0 => 0,
+            len => len + 1,
+        },
+        _ => 0,
+    }
+}
+
+// Whether hexadecimal digits have to stand behind these two bytes.
+fn is_hexadecimal(first: u8, second: u8) -> bool
+    ensures { result ≡ is_hexadecimal first second }
+{
+    first == b'0' && (second == b'x' || second == b'X')
+}
+
+// The number at the front, without a look behind it.
+fn decimal_at(bytes: &[u8]) -> Word
+    requires { length bytes.now < 2 ^ 63 }
+    ensures value { result ≡ decimal_at bytes.now }
+    ensures bound { result.len ≤ length bytes.now }
+{
+    let whole = digits_len(bytes, 10);
+    let part = fraction_len(&bytes[whole..]);
+    let power = exponent_len(&bytes[whole..][part..]);
+    if part == 0 && power == 0 {
+        Word {
+            kind: Kind::Integer(value_of(&bytes[..whole], 10)),
+            len: whole,
+        }
+    } else {
+        Word {
+            kind: Kind::Number,
+            len: whole + part + power,
+        }
+    }
+}
+
+fn unsplit_number_at(bytes: &[u8]) -> Option<Word>
+    requires { length bytes.now < 2 ^ 63 }
+    ensures value { result ≡ unsplit_number_at bytes.now }
+    ensures bound { IfSome result (λ w. w.len ≤ length bytes.now) }
+{
+    match bytes {
+        [first, second, behind @ ..] => {
+            if is_hexadecimal(*first, *second) {
+                hexadecimal_behind(behind)
+            } else if *first == b'0' && is_digit(*second, 10) {
+                octal_behind(&bytes[1..])
+            } else {
+                Some(decimal_at(bytes))
+            }
+        }
+        _ => Some(decimal_at(bytes)),
+    }
+}
+
+fn is_glue(byte: u8) -> bool
+    ensures { result ≡ is_glue byte }
+{
+    is_name_byte(byte) || byte == b'.'
+}
+
+#[tactic(auto, unfolding(crate::specs::Scanning::number_at))]
+// The number at the front, unless a letter, a digit, `_` or a point stands right behind it.
+fn number_at(bytes: &[u8]) -> Option<Word>
+    requires { length bytes.now < 2 ^ 63 }
+    ensures value { result ≡ number_at bytes.now }
+    ensures bound { IfSome result (λ w. w.len ≤ length bytes.now) }
+{
+    let word = unsplit_number_at(bytes)?;
+    match bytes.get(word.len) {
+        Some(byte) if is_glue(*byte) => None,
+        _ => Some(word),
+    }
+}
+
+fn is_simple_escape(byte: u8) -> bool
+    ensures { result ≡ is_simple_escape byte }
+{
+    matches!(
+        byte,
+        b'a' | b'b' | b'f' | b'n' | b'r' | b't' | b'v' | b'\\' | b'?' | b'\'' | b'"'
+    )
+}
+
+fn has_digits(bytes: &[u8], count: usize) -> bool
+    ensures { result ≡ has_digits count bytes.now }
+{
+    count <= digits_len(bytes, 16)
+}
+
+fn is_wide(bytes: &[u8]) -> bool
+    ensures { result ≡ is_wide bytes.now }
+{
+    match bytes {
+        [b'0', b'0', b'0' | b'1', digits @ ..] => has_digits(digits, 5),
+        _ => false,
+    }
+}
+
+// Whether a backslash, this byte and those behind it begin with an escape.
+fn is_escape(byte: u8, behind: &[u8]) -> bool
+    ensures { result ≡ is_escape byte behind.now }
+{
+    is_simple_escape(byte)
+        || is_digit(byte, 8)
+        || (byte == b'x' && has_digits(behind, 1))
+        || (byte == b'u' && has_digits(behind, 4))
+        || (byte == b'U' && is_wide(behind))
+}
+
+// How many bytes stand up to the closing quote, with it.
+#[tactic(auto, using(crate::proofs::Closing::closing))]
+fn closes(quote: u8, bytes: &[u8]) -> Option<usize>
+    requires { length bytes.now < 2 ^ 63 }
+    ensures value { result ≡ closes quote bytes.now }
+    ensures bound { IfSome result (λ n. n ≤ length bytes.now) }
+{
+    let mut i = 0;
+    while i < bytes.len() {
+        let byte = bytes[i];
+        if byte == quote {
+            return Some(i + 1);
+        }
+        if byte == b'\\' {
+            if i + 1 >= bytes.len() || !is_escape(bytes[i + 1], &bytes[i + 2..]) {
+                return None;
+            }
+            i += 2;
+        } else if byte == b'\n' || byte == 0 {
+            return None;
+        } else {
+            i += 1;
+        }
+    }
+    None
+}
+
+fn is_mark(byte: u8) -> bool
+    ensures { result ≡ is_mark byte }
+{
+    matches!(
+        byte,
+        b'=' | b';'
+            | b'{'
+            | b'}'
+            | b'('
+            | b')'
+            | b'<'
+            | b'>'
+            | b'['
+            | b']'
+            | b','
+            | b'.'
+            | b'-'
+            | b'+'
+            | b':'
+            | b'/'
+    )
+}
+
+fn begins_digit(bytes: &[u8]) -> bool
+    ensures { result ≡ begins is_decimal_digit bytes.now }
+{
+    match bytes {
+        [] => false,
+        [first, ..] => is_digit(*first, 10),
+    }
+}
+
+fn goes_on(byte: u8, behind: &[u8]) -> bool
+    ensures { result ≡ goes_on byte behind.now }
+{
+    match behind {
+        [] => false,
+        [next, ..] => {
+            (byte == b'.' && is_digit(*next, 10))
+                || (byte == b'/' && (*next == b'/' || *next == b'*'))
+        }
+    }
+}
+
+// Whether a byte, with those behind it, begins a number: a digit, or a point before one.
+fn begins_number(first: u8, behind: &[u8]) -> bool
+    ensures { result ≡ begins_number first behind.now }
+{
+    is_digit(first, 10) || (first == b'.' && begins_digit(behind))
+}
+
+fn mark_at(first: u8, behind: &[u8]) -> Option<Word>
+    ensures { result ≡ mark_at first behind.now }
+{
+    if is_mark(first) && !goes_on(first, behind) {
+        Some(Word {
+            kind: Kind::Mark(first),
+            len: 1,
+        })
+    } else {
+        None
+    }
+}
+
+fn is_quote(byte: u8) -> bool
+    ensures { result ≡ is_quote byte }
+{
+    byte == b'"' || byte == b'\''
+}
+
+/// The token at the front of bytes, if one stands there. It takes time in proportion to the token.
+#[tactic(auto, unfolding(crate::specs::Scanning::word_at))]
+pub fn word_at(bytes: &[u8]) -> Option<Word>
+    requires { length bytes.now < 2 ^ 63 }
+    ensures value { result ≡ word_at bytes.now }
+    ensures bound { IfSome result (λ w. w.len ≤ length bytes.now) }
+{
+    let [first, behind @ ..] = bytes else {
+        return None;
+    };
+    let first = *first;
+    if is_name_start(first) {
+        Some(Word {
+            kind: Kind::Identifier,
+            len: name_len(bytes),
+        })
+    } else if begins_number(first, behind) {
+        number_at(bytes)
+    } else if is_quote(first) {
+        let len = closes(first, behind)?;
+        Some(Word {
+            kind: Kind::Text,
+            len: len + 1,
+        })
+    } else {
+        mark_at(first, behind)
+    }
+}
