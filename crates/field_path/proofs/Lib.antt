@@ -1,3 +1,4 @@
 mod Finding
+mod Rows
 mod Ways
 mod WordLemmas

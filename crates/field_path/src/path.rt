@@ -23,6 +23,7 @@ pub struct Path {
 pub struct PathWord {
     /// All numbers but the last, in order.
     pub way: Sequence<Decimal>,
+    /// The last number.
     pub last: Decimal,
 }
 

@@ -69,19 +69,25 @@ pub data IsAgainst (T : Table) (names : List (List ℕ)) (ended : Bool) (line : 
   -- the line is out of form
   out_of_form : line_of line ≡ None → q ≡ reason.Word → IsAgainst T names ended line q
   -- it is a 65th rule
-  too_many : (r : RuleLine) → line_of line ≡ Some (Rule r) → 64 ≤ length names → q ≡ reason.Word → IsAgainst T names ended line q
+  too_many : (r : RuleLine) → line_of line ≡ Some (Rule r) → 64 ≤ length names → q ≡ reason.Word
+      → IsAgainst T names ended line q
   -- what the rule is about is at fault
-  of_part : (r : RuleLine) (p : PartReason) → line_of line ≡ Some (Rule r) → about_in T r.about ≡ Err p → q ≡ reason_of p → IsAgainst T names ended line q
+  of_part : (r : RuleLine) (p : PartReason) → line_of line ≡ Some (Rule r) → about_in T r.about ≡ Err p
+      → q ≡ reason_of p → IsAgainst T names ended line q
   -- the rule's name is none
-  no_name : (r : RuleLine) → line_of line ≡ Some (Rule r) → is_rule_name r.name ≡ false → q ≡ reason.Name → IsAgainst T names ended line q
+  no_name : (r : RuleLine) → line_of line ≡ Some (Rule r) → is_rule_name r.name ≡ false → q ≡ reason.Name
+      → IsAgainst T names ended line q
   -- the rule's name stands before
-  known_name : (r : RuleLine) → line_of line ≡ Some (Rule r) → is_among r.name names ≡ true → q ≡ reason.Known → IsAgainst T names ended line q
+  known_name : (r : RuleLine) → line_of line ≡ Some (Rule r) → is_among r.name names ≡ true → q ≡ reason.Known
+      → IsAgainst T names ended line q
   -- the line stands behind the default
-  behind_default : (l : Line) → line_of line ≡ Some l → ended ≡ true → q ≡ reason.Default → IsAgainst T names ended line q
+  behind_default : (l : Line) → line_of line ≡ Some l → ended ≡ true → q ≡ reason.Default
+      → IsAgainst T names ended line q
 
 -- a reason stands against the line at a place, or right behind the last line
 pub data IsAgainstAt (T : Table) (lines : List (List ℕ)) (i : ℕ) (q : RuleReason) : Type 0 where
-  at_line : (line : List ℕ) → slice_get lines i ≡ Some line → IsAgainst T (names_of (take i lines)) (has_default (take i lines)) line q → IsAgainstAt T lines i q
+  at_line : (line : List ℕ) → slice_get lines i ≡ Some line
+      → IsAgainst T (names_of (take i lines)) (has_default (take i lines)) line q → IsAgainstAt T lines i q
   -- there is no default
   no_default : i ≡ length lines → has_default lines ≡ false → q ≡ reason.Default → IsAgainstAt T lines i q
 

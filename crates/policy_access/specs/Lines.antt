@@ -5,6 +5,7 @@ use Rattle.std.specs.Str.{bytes_eq}
 use Rattle.mrpc_table.specs.Lines.{words_of}
 use Rattle.mrpc_table.specs.declared.words.Decimal.{Decimal}
 use Rattle.field_path.specs.Words.{decimal_of, path_of}
+use Rattle.field_path.specs.declared.path.PathWord.{PathWord}
 use Rattle.policy_access.specs.declared.rule.Comparison.{Comparison}
 use Rattle.policy_access.specs.declared.rule.Comparison.TheVariants.{Equal, NotEqual, Less, Greater, Starts}
 use Rattle.policy_access.specs.declared.line.Line.{Line}
@@ -19,7 +20,10 @@ use Rattle.policy_access.specs.declared.line.ConditionLine.TheVariants.{Present,
 
 -- `allow` or `deny`
 abbrev pub allow_of : List ℕ → Option Bool
-allow_of word = if bytes_eq word (codes "allow") then Some true else if bytes_eq word (codes "deny") then Some false else None
+allow_of word =
+    if bytes_eq word (codes "allow") then Some true
+    else if bytes_eq word (codes "deny") then Some false
+    else None
 
 -- how a value is compared
 abbrev pub comparison_of : List ℕ → Option Comparison
@@ -37,22 +41,29 @@ is_quoted [] = false
 is_quoted (c ∷ cs) = c == 34
 
 abbrev pub value_of : List (List ℕ) → Option (List ℕ)
-value_of words = let value = join_with_byte 32 words in if is_quoted value || length words == 1 then Some value else None
+value_of words =
+    let value = join_with_byte 32 words in
+    if is_quoted value || length words == 1 then Some value else None
 
 -- `present`, or another OP with a value behind it
 abbrev pub condition_of : List ℕ → List (List ℕ) → Option ConditionLine
 condition_of operation [] = if bytes_eq operation (codes "present") then Some Present else None
-condition_of operation (word ∷ words) = option_and_then (λ c. option_map (Compares c) (value_of (word ∷ words))) (comparison_of operation)
+condition_of operation (word ∷ words) =
+    option_and_then (λ c. option_map (Compares c) (value_of (word ∷ words))) (comparison_of operation)
 
 abbrev pub condition_of_words : List (List ℕ) → Option ConditionLine
 condition_of_words [] = None
 condition_of_words (operation ∷ words) = condition_of operation words
 
+-- a path, and what is asked of the field at its end
+abbrev pub with_condition : List (List ℕ) → PathWord → Option TestLine
+with_condition words p = option_map (λ c. record { path = p; condition = c }) (condition_of_words words)
+
 -- `where PATH OP [VALUE]`
 abbrev pub test_of : List (List ℕ) → Option TestLine
 test_of (first ∷ path ∷ words) =
     if bytes_eq first (codes "where")
-    then option_and_then (λ p. option_map (λ c. record { path = p; condition = c }) (condition_of_words words)) (path_of path)
+    then option_and_then (with_condition words) (path_of path)
     else None
 test_of _ = None
 
@@ -67,7 +78,9 @@ calls_with index reply words = option_map (λ t. record { index = index; reply =
 -- behind the index: `reply` or not, and then nothing or a test
 abbrev pub calls_of : Decimal → List (List ℕ) → Option CallsLine
 calls_of index [] = calls_with index false []
-calls_of index (word ∷ words) = if bytes_eq word (codes "reply") then calls_with index true words else calls_with index false (word ∷ words)
+calls_of index (word ∷ words) =
+    if bytes_eq word (codes "reply") then calls_with index true words
+    else calls_with index false (word ∷ words)
 
 -- nothing, or `method INDEX` and what stands behind it
 abbrev pub about_of : List (List ℕ) → Option AboutLine
@@ -80,7 +93,10 @@ about_of _ = None
 
 -- behind the first word of a line
 abbrev pub rule_of : List (List ℕ) → Option RuleLine
-rule_of (name ∷ verb ∷ words) = option_and_then (λ a. option_map (λ about. record { name = name; allow = a; about = about }) (about_of words)) (allow_of verb)
+rule_of (name ∷ verb ∷ words) =
+    option_and_then
+    (λ a. option_map (λ about. record { name = name; allow = a; about = about }) (about_of words))
+    (allow_of verb)
 rule_of _ = None
 
 abbrev pub default_of : List (List ℕ) → Option Bool

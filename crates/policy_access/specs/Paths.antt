@@ -34,4 +34,7 @@ item_of_field k label (Some c) = option_and_then compared_item (item_in c)
 
 -- the value at the end of a path: none where a message on the way is unset
 abbrev pub item_behind : Node → Path → Option Item
-item_behind t path = option_and_then (λ m. item_of_field path.kind path.label (content_under m path.number)) (message_behind t path.way)
+item_behind t path =
+    option_and_then
+    (λ m. item_of_field path.kind path.label (content_under m path.number))
+    (message_behind t path.way)

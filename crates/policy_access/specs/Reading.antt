@@ -25,4 +25,6 @@ pub record AreRead (T : Table) (lines : List (List ℕ)) (i : ℕ) (rules : List
 
 -- the line at a place, behind these rules, is the default's
 abbrev pub DefaultAt : Table → List (List ℕ) → ℕ → List Rule → Bool → Type 0
-DefaultAt T lines i rules allow = (line : List ℕ) × (slice_get lines i ≡ Some line) × (said_in T (names_in rules) (line_of line) ≡ Ok (Default allow))
+DefaultAt T lines i rules allow =
+    (line : List ℕ) × (slice_get lines i ≡ Some line)
+    × (said_in T (names_in rules) (line_of line) ≡ Ok (Default allow))

@@ -66,7 +66,9 @@ result_map f r = result_map_both f (λ q. q) r
 abbrev pub condition_in : Path → ConditionLine → Result Condition PartReason
 condition_in p Present = Ok conditions.Present
 condition_in p (Compares c value) =
-    if has_value p.label && suits c p.kind then result_map (conditions.Compares c) (operand_of p.kind value) else Err reason.Path
+    if has_value p.label && suits c p.kind
+    then result_map (conditions.Compares c) (operand_of p.kind value)
+    else Err reason.Path
 
 -- a test of a message: Path where the message lacks the field
 abbrev pub test_of_path : ConditionLine → Option Path → Result Test PartReason
@@ -91,11 +93,15 @@ index_of Large = None
 abbrev pub message_of : Table → ℕ → Bool → ℕ
 message_of T method reply = message_at T method (if reply then 1 else 0)
 
+-- the requests, or the replies, of a method, with a test or without one
+abbrev pub with_test : ℕ → Bool → Option Test → Calls
+with_test method reply test = record { method = method; reply = reply; test = test }
+
 -- the calls of a method: Path where the table lacks it
 abbrev pub calls_of_method : Table → ℕ → Bool → Option TestLine → Result Calls PartReason
 calls_of_method T method reply t =
     if nat_lt method (length T.methods)
-    then result_map (λ test. record { method = method; reply = reply; test = test }) (tests_in T (message_of T method reply) t)
+    then result_map (with_test method reply) (tests_in T (message_of T method reply) t)
     else Err reason.Path
 
 abbrev pub calls_of_index : Table → Bool → Option TestLine → Option ℕ → Result Calls PartReason

@@ -34,7 +34,8 @@ abbrev pub said_in : Table → List (List ℕ) → Option Line → Result Said R
 said_in T names None = Err reason.Word
 said_in T names (Some (lines.Default allow)) = Ok (Default allow)
 said_in T names (Some (lines.Rule r)) =
-    result_map_both Rule (λ q. q) (judged_rule (nat_le 64 (length names)) (about_in T r.about) (is_rule_name r.name) (is_among r.name names) r)
+    result_map_both Rule (λ q. q)
+    (judged_rule (nat_le 64 (length names)) (about_in T r.about) (is_rule_name r.name) (is_among r.name names) r)
 
 -- what stands against the line behind the default
 abbrev pub reason_behind : Result Said RuleReason → RuleReason

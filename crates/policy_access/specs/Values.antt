@@ -56,7 +56,9 @@ spelled form (Some n) = form (in_64_bits n)
 
 abbrev pub number_value : Kind → List ℕ → Result Operand PartReason
 number_value k [] = Err reason.Word
-number_value k (c ∷ cs) = if c == 45 then spelled (negative_word k) (number_of cs) else spelled (positive_word k) (number_of (c ∷ cs))
+number_value k (c ∷ cs) =
+    if c == 45 then spelled (negative_word k) (number_of cs)
+    else spelled (positive_word k) (number_of (c ∷ cs))
 
 -- ---- runs
 
@@ -93,7 +95,9 @@ run_or_word (Some bytes) = Ok (Run bytes)
 -- two digits for each byte, behind an `x`
 abbrev pub bytes_value : List ℕ → Result Operand PartReason
 bytes_value [] = Err reason.Word
-bytes_value (c ∷ cs) = if (c == 120) && list_all is_lower_digit cs then run_or_word (result_ok (decode_of cs)) else Err reason.Word
+bytes_value (c ∷ cs) =
+    if (c == 120) && list_all is_lower_digit cs then run_or_word (result_ok (decode_of cs))
+    else Err reason.Word
 
 -- what a value says of a field of the kind: Word where it is out of form, Number where it is out of range
 abbrev pub operand_of : Kind → List ℕ → Result Operand PartReason

@@ -21,7 +21,8 @@ is_of_sort reply call = if reply then is_reply call else not (is_reply call)
 
 -- the call is of the method and the sort, and its tree meets the test, if there is one
 abbrev pub is_among : Calls → Call → Bool
-is_among calls call = ((call.method == calls.method) && is_of_sort calls.reply call) && option_map_or (meets call.tree) calls.test true
+is_among calls call =
+    ((call.method == calls.method) && is_of_sort calls.reply call) && option_map_or (meets call.tree) calls.test true
 
 -- the rule is about the call
 abbrev pub is_about : About → Call → Bool

@@ -45,7 +45,8 @@ fn run_compares(comparison: Comparison, kind: Kind, wanted: &Operand, bytes: &[u
 
 // Whether the value of a field that is unset compares so.
 fn unset_compares(comparison: Comparison, path: &Path, wanted: &Operand) -> bool
-    ensures { result ≡ option_map_or (compares comparison path.now.kind wanted.now) (unset_item path.now.kind path.now.label) false }
+    ensures { result ≡ option_map_or (compares comparison path.now.kind wanted.now)
+        (unset_item path.now.kind path.now.label) false }
 {
     match (path.label, path.kind) {
         (Label::Plain, Kind::Message(_)) => false,
@@ -64,7 +65,8 @@ fn field_compares(
     wanted: &Operand,
     content: Option<&FieldValue>,
 ) -> bool
-    ensures { result ≡ option_map_or (compares comparison path.now.kind wanted.now) (item_of_field path.now.kind path.now.label (option_map content_of (option_copied content.entry))) false }
+    ensures { result ≡ option_map_or (compares comparison path.now.kind wanted.now)
+        (item_of_field path.now.kind path.now.label (option_map content_of (option_copied content.entry))) false }
 {
     match content {
         None => unset_compares(comparison, path, wanted),

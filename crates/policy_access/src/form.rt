@@ -14,7 +14,9 @@ use std::alloc::Global;
 // The first of at least two words, and the line of the others.
 fn next_word(line: &[u8]) -> Option<(&[u8], &[u8])>
     ensures more { IfSome result (λ p. (word : List ℕ) × (words : List (List ℕ)) × (words_of p.1.now ≡ word ∷ words)) }
-    ensures words { MatchOption result (words_of line.now ≡ line.now ∷ []) (λ p. words_of line.now ≡ p.0.now ∷ words_of p.1.now) }
+    ensures words { MatchOption result
+        (words_of line.now ≡ line.now ∷ [])
+        (λ p. words_of line.now ≡ p.0.now ∷ words_of p.1.now) }
 {
     cut(line, b' ')
 }
@@ -79,7 +81,8 @@ fn value_of(alloc: Global, line: &[u8]) -> Result<Option<Bytes>, Memory>
 
 // An operation, and behind it its value.
 fn compares(alloc: Global, operation: &[u8], line: &[u8]) -> Result<Option<ConditionLine>, Memory>
-    ensures { (word : List ℕ) (words : List (List ℕ)) → words_of line.now ≡ word ∷ words → IfOk result (λ c. c ≡ condition_of operation.now (word ∷ words)) }
+    ensures { (word : List ℕ) (words : List (List ℕ)) → words_of line.now ≡ word ∷ words
+        → IfOk result (λ c. c ≡ condition_of operation.now (word ∷ words)) }
 {
     let Some(comparison) = comparison_of(operation) else {
         return Ok(None);

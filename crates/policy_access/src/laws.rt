@@ -9,16 +9,21 @@ ghost use Rattle.policy_access.specs.declared.fault.RuleReason.{RuleReason};
 
 /// Lines are the text of one policy at most.
 pub fn one_policy()
-    ensures { (T : Table) (lines : List (List ℕ)) (p q : AccessPolicy) → IsTextOf T lines p → IsTextOf T lines q → p ≡ q }
+    ensures { (T : Table) (lines : List (List ℕ)) (p q : AccessPolicy)
+        → IsTextOf T lines p → IsTextOf T lines q → p ≡ q }
 {}
 
 /// Lines have one first fault at most.
 pub fn one_fault()
-    ensures { (T : Table) (lines : List (List ℕ)) (m n : ℕ) (r q : RuleReason) → IsFirstFault T lines m r → IsFirstFault T lines n q → (m ≡ n) × (r ≡ q) }
+    ensures { (T : Table) (lines : List (List ℕ)) (m n : ℕ) (r q : RuleReason)
+        → IsFirstFault T lines m r → IsFirstFault T lines n q → (m ≡ n) × (r ≡ q) }
 {}
 
 /// Lines are the text of a policy or have a first fault, and never both.
 pub fn text_or_fault()
-    ensures either { (T : Table) (lines : List (List ℕ)) → ((policy : AccessPolicy) × IsTextOf T lines policy) ⊎ ((line : ℕ) × (q : RuleReason) × IsFirstFault T lines line q) }
-    ensures not_both { (T : Table) (lines : List (List ℕ)) (policy : AccessPolicy) (line : ℕ) (q : RuleReason) → IsTextOf T lines policy → IsFirstFault T lines line q → ⊥ }
+    ensures either { (T : Table) (lines : List (List ℕ))
+        → ((policy : AccessPolicy) × IsTextOf T lines policy)
+        ⊎ ((line : ℕ) × (q : RuleReason) × IsFirstFault T lines line q) }
+    ensures not_both { (T : Table) (lines : List (List ℕ)) (policy : AccessPolicy) (line : ℕ) (q : RuleReason)
+        → IsTextOf T lines policy → IsFirstFault T lines line q → ⊥ }
 {}

@@ -3,8 +3,9 @@
 //! [`read_access`] reads a policy from its lines, or tells the first line at fault; [`Access::judge`] says
 //! what a policy says of a call. `specs/Verdict.antt` says which rule decides and when a rule matches,
 //! `specs/Texts.antt` which lines are the text of a policy, and `specs/Faults.antt` what stands against
-//! lines that are none. It stands on `mrpc_table` and `field_path`. The layers above use one contract: the first rule that
-//! matches decides, and else the default; and lines are the text of one policy or have one first fault.
+//! lines that are none. It stands on `mrpc_table` and `field_path`. The layers above use one contract: the
+//! first rule that matches decides, and else the default; and lines are the text of one policy or have one
+//! first fault.
 #![tactic(auto)]
 
 mod access;

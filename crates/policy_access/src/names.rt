@@ -33,7 +33,8 @@ impl SeenNames {
 
     /// Adds a name.
     pub fn add(&mut self, alloc: Global, name: &[u8]) -> Result<(), Memory>
-        ensures { (names : List (List ℕ)) → Holds self.old names → OnOk result (Holds self.new (names ++ name.now ∷ [])) }
+        ensures { (names : List (List ℕ)) → Holds self.old names
+            → OnOk result (Holds self.new (names ++ name.now ∷ [])) }
     {
         self.names.insert(Vec::from_slice(alloc, name)?, ())?;
         Ok(())

@@ -49,7 +49,9 @@ fn judged_rule(
     line: RuleLine,
 ) -> Result<Result<Rule, RuleReason>, Memory>
     requires { IsValid table.now }
-    ensures { (before : List (List ℕ)) → Holds names.now before → IfOk result (λ r. r ≡ judged_rule (nat_le 64 count) (about_in table.now line.about) (is_rule_name line.name) (is_among line.name before) line) }
+    ensures { (before : List (List ℕ)) → Holds names.now before
+        → IfOk result (λ r. r ≡ judged_rule (nat_le 64 count) (about_in table.now line.about)
+        (is_rule_name line.name) (is_among line.name before) line) }
 {
     if count >= RULES {
         return Ok(Err(RuleReason::Word));
@@ -85,7 +87,8 @@ pub fn said_in(
     line: &[u8],
 ) -> Result<Result<Said, RuleReason>, Memory>
     requires { IsValid table.now }
-    ensures { (before : List (List ℕ)) → Holds names.now before → count ≡ length before → IfOk result (λ s. s ≡ said_in table.now before (line_of line.now)) }
+    ensures { (before : List (List ℕ)) → Holds names.now before → count ≡ length before
+        → IfOk result (λ s. s ≡ said_in table.now before (line_of line.now)) }
 {
     match line_of(alloc, line)? {
         None => Ok(Err(RuleReason::Word)),
@@ -120,7 +123,8 @@ fn reason_behind(
     line: &[u8],
 ) -> Result<RuleReason, Memory>
     requires { IsValid table.now }
-    ensures { (before : List (List ℕ)) → Holds names.now before → count ≡ length before → IfOk result (λ q. q ≡ reason_behind (said_in table.now before (line_of line.now))) }
+    ensures { (before : List (List ℕ)) → Holds names.now before → count ≡ length before
+        → IfOk result (λ q. q ≡ reason_behind (said_in table.now before (line_of line.now))) }
 {
     match said_in(alloc, table, names, count, line)? {
         Err(reason) => Ok(reason),
@@ -186,7 +190,8 @@ pub fn read_access(alloc: Global, lines: &Lines, table: &Table) -> Result<Access
     // What is read is what the lines say.
     ensures accepted { IfOk result (λ policy. IsTextOf table.now lines.now policy) }
     // The text of a policy gives this policy, unless memory runs out.
-    ensures only { (policy : AccessPolicy) → IsTextOf table.now lines.now policy → MatchResult result (λ read. read ≡ policy) (λ fault. fault ≡ NoMemory) }
+    ensures only { (policy : AccessPolicy) → IsTextOf table.now lines.now policy
+        → MatchResult result (λ read. read ≡ policy) (λ fault. fault ≡ NoMemory) }
     // A fault is the first one of the lines.
     ensures fault { IfErr result (λ fault. IsFaultOf table.now lines.now fault) }
 {

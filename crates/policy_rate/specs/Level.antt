@@ -50,7 +50,8 @@ moment_after start (upgrade new ∷ past) = moment_after start past
 -- the level: a bucket begins full, time fills it, a call costs `per`, and an upgrade converts it
 abbrev pub level : Rate → ℕ → List BucketHappening → ℕ
 level first start [] = full_level first
-level first start (moment now ∷ past) = level_after (rate_after first past) (level first start past) (now - moment_after start past)
+level first start (moment now ∷ past) =
+    level_after (rate_after first past) (level first start past) (now - moment_after start past)
 level first start (charge ∷ past) = level first start past - (rate_after first past).per
 level first start (upgrade new ∷ past) = converted_level (rate_after first past) new (level first start past)
 

@@ -6,7 +6,8 @@ ghost use Rattle.policy_rate.specs.declared.rate.Rate.{Rate};
 
 /// A bucket never holds more than a full one of the policy then in force.
 pub fn bounded_level()
-    ensures { (first : Rate) (start : ℕ) (past : List BucketHappening) → level first start past ≤ full_level (rate_after first past) }
+    ensures { (first : Rate) (start : ℕ) (past : List BucketHappening)
+        → level first start past ≤ full_level (rate_after first past) }
 {}
 
 /// Between two moments without an upgrade an attachment is charged for no more calls than a full bucket

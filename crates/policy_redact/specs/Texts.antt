@@ -21,7 +21,9 @@ clear_of method reply path = record { method = method; reply = reply; path = pat
 -- the clear that a line says
 abbrev pub clear_in : Table → ClearLine → Option Clear
 clear_in T l =
-    option_and_then (λ method. option_map (clear_of method l.reply) (path_in_call T method l.reply l.path)) (index_of l.index)
+    option_and_then
+    (λ method. option_map (clear_of method l.reply) (path_in_call T method l.reply l.path))
+    (index_of l.index)
 
 abbrev pub said_clear : Table → List ℕ → Option Clear
 said_clear T line = option_and_then (clear_in T) (line_of line)

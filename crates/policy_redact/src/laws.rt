@@ -16,7 +16,8 @@ pub fn any_order()
     ensures of_lines { (a b : List Clear) (call : Call) →
         ((clear : Clear) → Contains a clear ↔ Contains b clear) → cleared a call ≡ cleared b call }
     ensures in_turn { (a b : List Clear) (call : Call) → cleared b (cleared_call a call) ≡ cleared (a ++ b) call }
-    ensures either_first { (a b : List Clear) (call : Call) → cleared b (cleared_call a call) ≡ cleared a (cleared_call b call) }
+    ensures either_first { (a b : List Clear) (call : Call) →
+        cleared b (cleared_call a call) ≡ cleared a (cleared_call b call) }
 {}
 
 /// A second clear changes nothing.
@@ -26,7 +27,8 @@ pub fn clear_again()
 
 /// A normal tree stays normal.
 pub fn stays_normal()
-    ensures { (T : Table) (clears : List Clear) (call : Call) → IsCallOf T call → IsCallOf T (cleared_call clears call) }
+    ensures { (T : Table) (clears : List Clear) (call : Call) →
+        IsCallOf T call → IsCallOf T (cleared_call clears call) }
 {}
 
 /// What is left is the tree, or a smaller one: the number of its parts falls where anything is cleared.
@@ -49,7 +51,8 @@ pub fn one_fault()
 /// Lines are the text of a policy or have a first fault, and never both.
 pub fn text_or_fault()
     ensures either { (T : Table) (lines : List (List ℕ)) →
-        ((policy : List Clear) × IsTextOf T lines policy) ⊎ ((line : ℕ) × (q : RuleReason) × IsFirstFault T lines line q) }
+        ((policy : List Clear) × IsTextOf T lines policy)
+        ⊎ ((line : ℕ) × (q : RuleReason) × IsFirstFault T lines line q) }
     ensures not_both { (T : Table) (lines : List (List ℕ)) (policy : List Clear) (line : ℕ) (q : RuleReason) →
         IsTextOf T lines policy → IsFirstFault T lines line q → ⊥ }
 {}

@@ -18,6 +18,7 @@ pub struct Clear {
     pub method: u16,
     /// Whether it is cleared of replies, and else of requests.
     pub reply: bool,
+    /// Where the field stands in a call's tree.
     pub path: Path,
 }
 

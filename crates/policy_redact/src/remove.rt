@@ -28,8 +28,10 @@ fn remove_field(tree: &mut Tree, number: u32) -> bool
 #[cycle(remove)]
 fn remove_inside(content: &mut FieldValue, way: &[u32], number: u32) -> bool
     requires { HoldsAscending (content_of content.old) }
-    ensures left { content_of content.new ≡ content_without (bytes_eq (way.now ++ number ∷ [])) (content_of content.old) }
-    ensures smaller { OnTrue result (content_weight (content_of content.new) < content_weight (content_of content.old)) }
+    ensures left { content_of content.new
+        ≡ content_without (bytes_eq (way.now ++ number ∷ [])) (content_of content.old) }
+    ensures smaller { OnTrue result
+        (content_weight (content_of content.new) < content_weight (content_of content.old)) }
     ensures unchanged { OnFalse result (content_of content.new ≡ content_of content.old) }
 {
     match content {

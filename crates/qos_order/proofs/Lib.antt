@@ -1,8 +1,8 @@
-pub mod Balance
-pub mod Even
-pub mod Halves
-pub mod Keyed
-pub mod Opening
+mod Balance
+mod Even
+mod Halves
+mod Keyed
+mod Opening
 mod Rows
-pub mod Sound
-pub mod Turns
+mod Sound
+mod Turns

@@ -1,4 +1,4 @@
-pub mod Adding
-pub mod Counted
-pub mod Merging
+mod Adding
+mod Counted
+mod Merging
 mod Rows

@@ -55,10 +55,10 @@ number_of Standing counts = counts.standing
 
 -- four counts, of which this one is one more
 abbrev pub one_more : What → Counts → Counts
-one_more Took counts = record { took = counts.took + 1; sent = counts.sent; refused = counts.refused; standing = counts.standing }
-one_more Sent counts = record { took = counts.took; sent = counts.sent + 1; refused = counts.refused; standing = counts.standing }
-one_more Refused counts = record { took = counts.took; sent = counts.sent; refused = counts.refused + 1; standing = counts.standing }
-one_more Standing counts = record { took = counts.took; sent = counts.sent; refused = counts.refused; standing = counts.standing + 1 }
+one_more Took counts = record counts { took = counts.took + 1 }
+one_more Sent counts = record counts { sent = counts.sent + 1 }
+one_more Refused counts = record counts { refused = counts.refused + 1 }
+one_more Standing counts = record counts { standing = counts.standing + 1 }
 
 -- the sums of four counts
 abbrev pub plus : Counts → Counts → Counts

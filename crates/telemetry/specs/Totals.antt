@@ -54,7 +54,8 @@ totals_text totals = flat_map entry_line totals ++ totals_line (sums_of totals)
 abbrev pub IsCountOf : List Happened → List (ℕ × Counts) → Type 0
 IsCountOf happened totals = (method : ℕ) → counts_in totals method ≡ counts_of happened method
 
--- the text of a list of happenings: a line for each method of which a call was taken, by ascending number, and one for all
+-- the text of a list of happenings: a line for each method of which a call was taken, by ascending number, and one
+-- for all
 pub record IsTextOf (happened : List Happened) (text : List ℕ) : Type 0 where
   pub methods : List ℕ
   pub ascends : IsStrictlyIncreasing methods
@@ -68,16 +69,20 @@ NoneCounts = (method : ℕ) → counts_of [] method ≡ no_counts
 -- a happening adds one to a count of its method
 abbrev pub OneCounts : Type 0
 OneCounts = (happened : List Happened) (one : Happened) (method : ℕ)
-    → counts_of (happened ++ one ∷ []) method ≡ (if one.method == method then one_more one.what (counts_of happened method) else counts_of happened method)
+    → counts_of (happened ++ one ∷ []) method
+    ≡ (if one.method == method then one_more one.what (counts_of happened method) else counts_of happened method)
 
 -- the counts of two lists add up
 abbrev pub JoinedCounts : Type 0
-JoinedCounts = (happened others : List Happened) (method : ℕ) → counts_of (happened ++ others) method ≡ plus (counts_of happened method) (counts_of others method)
+JoinedCounts = (happened others : List Happened) (method : ℕ)
+    → counts_of (happened ++ others) method ≡ plus (counts_of happened method) (counts_of others method)
 
 -- the sums of totals are the counts of all that happened
 abbrev pub SumsCount : Type 0
-SumsCount = (happened : List Happened) (totals : List (ℕ × Counts)) → IsTotals totals → IsCountOf happened totals → sums_of totals ≡ all_counts happened
+SumsCount = (happened : List Happened) (totals : List (ℕ × Counts))
+    → IsTotals totals → IsCountOf happened totals → sums_of totals ≡ all_counts happened
 
 -- their text is the text of what happened
 abbrev pub TextCounts : Type 0
-TextCounts = (happened : List Happened) (totals : List (ℕ × Counts)) → IsTotals totals → IsCountOf happened totals → IsTextOf happened (totals_text totals)
+TextCounts = (happened : List Happened) (totals : List (ℕ × Counts))
+    → IsTotals totals → IsCountOf happened totals → IsTextOf happened (totals_text totals)

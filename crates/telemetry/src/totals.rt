@@ -50,7 +50,8 @@ impl Totals {
     /// Counts what happened to a call of a method. The only error is `Memory`, which leaves the totals.
     pub fn add(&mut self, method: u16, what: What) -> Result<(), Memory>
         requires { number_of what (sums_of self.old) + 1 < 2 ^ 64 }
-        ensures counts { OnOk result ((m : ℕ) → counts_in self.new m ≡ (if m == method then one_more what (counts_in self.old m) else counts_in self.old m)) }
+        ensures counts { OnOk result ((m : ℕ) → counts_in self.new m
+            ≡ (if m == method then one_more what (counts_in self.old m) else counts_in self.old m)) }
         ensures sums { OnOk result (sums_of self.new ≡ one_more what (sums_of self.old)) }
         ensures err { OnErr result (self.new ≡ self.old) }
     {
@@ -62,7 +63,8 @@ impl Totals {
     /// Adds all counts of other totals. The only error is `Memory`, which leaves the totals.
     pub fn merge(&mut self, other: &Totals) -> Result<(), Memory>
         requires { IsSmall (plus (sums_of self.old) (sums_of other.now)) }
-        ensures counts { OnOk result ((m : ℕ) → counts_in self.new m ≡ plus (counts_in self.old m) (counts_in other.now m)) }
+        ensures counts { OnOk result ((m : ℕ) → counts_in self.new m
+            ≡ plus (counts_in self.old m) (counts_in other.now m)) }
         ensures sums { OnOk result (sums_of self.new ≡ plus (sums_of self.old) (sums_of other.now)) }
         ensures err { OnErr result (self.new ≡ self.old) }
     {
@@ -112,8 +114,10 @@ fn merged(
     others: &BTreeMap<u16, Counts>,
 ) -> Result<BTreeMap<u16, Counts>, Memory>
     requires { IsSmall (plus (sums_of counts.now.entries) (sums_of others.now.entries)) }
-    ensures counts { IfOk result (λ merged. (m : ℕ) → counts_in merged.entries m ≡ plus (counts_in counts.now.entries m) (counts_in others.now.entries m)) }
-    ensures sums { IfOk result (λ merged. sums_of merged.entries ≡ plus (sums_of counts.now.entries) (sums_of others.now.entries)) }
+    ensures counts { IfOk result (λ merged. (m : ℕ) → counts_in merged.entries m
+        ≡ plus (counts_in counts.now.entries m) (counts_in others.now.entries m)) }
+    ensures sums { IfOk result (λ merged. sums_of merged.entries
+        ≡ plus (sums_of counts.now.entries) (sums_of others.now.entries)) }
     ensures ascends { IfOk result (λ merged. IsStrictlySortedBy nat_cmp (keys_of merged.entries)) }
 {
     let mut merged = counts.clone()?;

@@ -1,9 +1,10 @@
-use Rattle.std.proofs.Common.{◌≡◌, ◌<◌, List, length, get_or, ap, sym, ◌∙◌, subst, refl}
+use Rattle.std.proofs.Common.{◌≡◌, ◌<◌, ◌+◌, List, length, get_or, take, ap, sym, ◌∙◌, subst, refl}
 use Rattle.mrpc_table.specs.Node.{Node}
 use Rattle.mrpc_table.specs.Calls.{message_at}
 use Rattle.field_path.specs.Trees.{IsAscending}
 use Rattle.policy_access.specs.declared.call.Call.{Call}
 use Rattle.policy_access.specs.Call.{IsCallOf}
+use Rattle.policy_redact.specs.Redacting.{cleared_call}
 use Rattle.policy_redact.specs.declared.redact.Clear.{Clear}
 use Rattle.policy_redact.proofs.Listed.{nothing-listed, cleared-ascends, more-cleared, smaller-still, unchanged-still}
 use Rattle.policy_redact.proofs.Normality.{call-fits}
@@ -14,6 +15,7 @@ loop-clear-init c = record {
   left = ap (λ (t : Node). record c.args.call.now { tree = t }) (sym (nothing-listed c.args.call.now));
   smaller = tt;
   unchanged = refl;
+  fits = λ T fits. fits;
 }
 
 pub remove_from-changed-requires : goal.remove_from-changed-requires
@@ -30,11 +32,11 @@ loop-clear-preserved c =
     let listed = c.as_slice-clear-items.ensures ∙ c.self.view_is in
     let within = subst (λ (cs : List Clear). c.loop-clear.clear-index < length cs) listed c.loop-clear-test.true in
     let at = subst (λ (cs : List Clear). c.clear-item.result ≡ get_or cs c.loop-clear.clear-index c.clear-item.result) listed c.clear-item.is in
+    let left : step.new.call ≡ cleared_call (take (c.loop-clear.clear-index + 1) c.args.self.now) c.args.call.now =
+    more-cleared c.args.self.now c.loop-clear.clear-index c.clear-item.result c.args.call.now c.loop-clear.call step.new.call within at before.left step.ensures.left in
     record {
-      left = more-cleared c.args.self.now c.loop-clear.clear-index c.clear-item.result c.args.call.now c.loop-clear.call step.new.call within at before.left step.ensures.left;
+      left = left;
       smaller = smaller-still c.loop-clear.changed step.result c.args.call.now c.loop-clear.call step.new.call before.smaller before.unchanged step.ensures.smaller step.ensures.unchanged;
       unchanged = unchanged-still c.loop-clear.changed step.result c.args.call.now c.loop-clear.call step.new.call before.unchanged step.ensures.unchanged;
+      fits = λ T fits. subst (λ (call : Call). IsCallOf T call) (sym left) (call-fits T (take (c.loop-clear.clear-index + 1) c.args.self.now) c.args.call.now fits);
     }
-
-pub returns-clause-fits : goal.returns-clause-fits
-returns-clause-fits c = λ T fits. subst (λ (call : Call). IsCallOf T call) (sym c.loop-clear.invariant.left) (call-fits T _ c.args.call.now fits)

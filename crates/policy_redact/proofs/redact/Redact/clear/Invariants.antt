@@ -2,6 +2,8 @@
 use Rattle.std.proofs.Common.{◌≡◌, ◌<◌, take}
 use Rattle.std.specs.Bool.{OnTrue, OnFalse}
 use Rattle.mrpc_table.specs.Weight.{weight}
+use Rattle.mrpc_table.specs.declared.table.Table.{Table}
+use Rattle.policy_access.specs.Call.{IsCallOf}
 use Rattle.policy_redact.specs.Redacting.{cleared_call}
 use Rattle.policy_redact.proofs.redact.Redact.clear.Given as goal
 
@@ -10,4 +12,5 @@ invariant-loop-clear l = record {
   left : l.call ≡ cleared_call (take l.clear-index l.self) l.fn.call;
   smaller : OnTrue l.changed (weight l.call.tree < weight l.fn.call.tree);
   unchanged : OnFalse l.changed (l.call ≡ l.fn.call);
+  fits : (T : Table) → IsCallOf T l.fn.call → IsCallOf T l.call;
 }
