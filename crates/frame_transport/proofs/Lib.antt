@@ -1,9 +1,9 @@
-pub mod Found
-pub mod Fronts
-pub mod HeaderBytes
-pub mod Joints
-pub mod KeptFacts
-pub mod Advancing
-pub mod FaultFacts
-pub mod Splitting
-pub mod Rows
+mod Found
+mod Fronts
+mod HeaderBytes
+mod Joints
+mod KeptFacts
+mod Advancing
+mod FaultFacts
+mod Splitting
+mod Rows

@@ -27,7 +27,7 @@ pub use byte_link::ByteLink;
 pub use fault::FeedFault;
 pub use feed::Feed;
 pub use format::{Frame, HEADER_LEN, HELLO, HELLO_VERSION, MAX_PAYLOAD, REPLY, REQUEST, VERSION};
-pub use laws::one_split;
+pub use laws::{frames_join, one_frame, one_split};
 pub use written::{frame, hello_frame};
 
 #[cfg(test)]

@@ -4,3 +4,4 @@ pub mod Lines
 pub mod Places
 pub mod Readers
 pub mod Reason
+pub mod TableText

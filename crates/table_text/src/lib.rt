@@ -13,11 +13,13 @@ mod line;
 mod places;
 mod read;
 mod reader;
+mod table_cut;
 mod text;
 mod words;
 
 pub use fault::{TableFault, TableReason};
-pub use read::{one_fault, one_text, read_table};
+pub use read::{one_fault, one_text, read_table, table_or_fault};
+pub use table_cut::{one_table_behind, split_table};
 pub use text::table_text;
 
 #[cfg(test)]

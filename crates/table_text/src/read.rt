@@ -1,6 +1,6 @@
 //! Tables from their canonical text.
 
-ghost use Rattle.std.specs.Prelude.{◌≡◌, ◌<◌, ◌≤◌, ◌+◌, ◌++◌, ℕ, List, length, IfOk, IfErr, OnOk, MatchResult, None};
+ghost use Rattle.std.specs.Prelude.{◌≡◌, ◌⊎◌, ◌<◌, ◌≤◌, ◌+◌, ◌++◌, ℕ, List, length, IfOk, IfErr, OnOk, MatchResult, None};
 ghost use Rattle.std.specs.List.{filter_map};
 ghost use Rattle.std.specs.Option.{option_to_list};
 ghost use Rattle.mrpc_table.specs.Lines.{whole_lines};
@@ -88,4 +88,10 @@ pub fn one_fault()
     ensures one { (text : List ℕ) (m n : ℕ) (r q : TableReason) → IsFirstFault text m r → IsFirstFault text n q → (m ≡ n) × (r ≡ q) }
     ensures none { (t : Table) (line : ℕ) (reason : TableReason) → IsValid t → IsFirstFault (table_text t) line reason → ⊥ }
     ensures place { (text : List ℕ) (line : ℕ) (reason : TableReason) → IsFirstFault text line reason → line ≤ length text + 1 }
+{}
+
+/// A text is the canonical text of a valid table, or it has a first fault.
+pub fn table_or_fault()
+    ensures { (text : List ℕ) → ((t : Table) × IsValid t × (text ≡ table_text t))
+        ⊎ ((line : ℕ) × (reason : TableReason) × IsFirstFault text line reason) }
 {}

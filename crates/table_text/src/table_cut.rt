@@ -1,0 +1,50 @@
+//! The text of a table within a text.
+
+ghost use Rattle.std.specs.Prelude.{◌≡◌, ◌⊎◌, ◌++◌, ℕ, List, [], IfSome, MatchOption, codes};
+ghost use Rattle.mrpc_table.specs.Text.{table_text};
+ghost use Rattle.mrpc_table.specs.Valid.{IsValid};
+ghost use Rattle.mrpc_table.specs.declared.table.Table.{Table};
+ghost use Rattle.table_text.specs.TableText.{HasTableBehind, IsEndless};
+
+use mrpc_table::cut;
+
+/// The line behind the text of a table.
+const END: &[u8] = b"end";
+
+/// The text of the table that stands behind the head, up to the first line `end`, and what stands behind that line.
+/// None where the head doesn't stand first, or no line `end` follows.
+pub fn split_table<'a>(text: &'a [u8], head: &[u8]) -> Option<(&'a [u8], &'a [u8])>
+    // The parts stand so in the text.
+    ensures found { IfSome result (λ p. HasTableBehind head.now text.now p.0.now p.1.now) }
+    // Parts that stand so are found, and no others do.
+    ensures only { (table rest : List ℕ) → HasTableBehind head.now text.now table rest
+        → MatchOption result ⊥ (λ p. (p.0.now ≡ table) × (p.1.now ≡ rest)) }
+{
+    split_at_end(text.strip_prefix(head)?)
+}
+
+fn split_at_end(text: &[u8]) -> Option<(&[u8], &[u8])>
+    ensures found { IfSome result (λ p. HasTableBehind [] text.now p.0.now p.1.now) }
+    ensures only { (table rest : List ℕ) → HasTableBehind [] text.now table rest → MatchOption result ⊥ (λ p. (p.0.now ≡ table) × (p.1.now ≡ rest)) }
+{
+    let mut rest = text;
+    while let Some((line, behind)) = cut(rest, b'\n') {
+        if line == END {
+            return Some((&text[..text.len() - rest.len()], behind));
+        }
+        rest = behind;
+    }
+    None
+}
+
+/// Behind a head stands the text of one table at most: what stands up to the first line `end`. Either one stands there,
+/// or no line `end` follows. The canonical text of a valid table has no line `end`.
+pub fn one_table_behind()
+    ensures one { (head text table rest other more : List ℕ) → HasTableBehind head text table rest
+        → HasTableBehind head text other more → (other ≡ table) × (more ≡ rest) }
+    ensures some { (head body : List ℕ) → ((table : List ℕ) × (rest : List ℕ) × HasTableBehind head (head ++ body) table rest)
+        ⊎ IsEndless head (head ++ body) body }
+    ensures canonical { (head rest : List ℕ) (t : Table) → IsValid t
+        → HasTableBehind head (head ++ (table_text t ++ (codes "end\n" ++ rest))) (table_text t) rest }
+    ensures endless { (head : List ℕ) (t : Table) → IsValid t → IsEndless head (head ++ table_text t) (table_text t) }
+{}
