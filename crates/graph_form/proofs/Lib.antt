@@ -3,8 +3,9 @@ mod Ends
 mod FieldOrder
 mod Forms
 mod Inserting
+mod Limits
 mod NormalTree
 mod Joined
-pub mod Plain
-pub mod PlainNormal
+mod Plain
+mod PlainNormal
 mod Rows

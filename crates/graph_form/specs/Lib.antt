@@ -4,3 +4,5 @@ pub mod Malformed
 pub mod Placed
 pub mod Plain
 pub mod Roles
+pub mod Stored
+pub mod Words

@@ -1,6 +1,6 @@
 //! Laws of graphs in words. These functions do nothing; their clauses hold.
 
-ghost use Rattle.std.specs.Prelude.{◌≡◌, ◌<◌, ◌^◌, ℕ, List, [], ◌∷◌, ◌++◌, length};
+ghost use Rattle.std.specs.Prelude.{◌≡◌, ◌≢◌, ◌<◌, ◌≤◌, ◌^◌, ℕ, List, [], ◌∷◌, ◌++◌, length};
 ghost use Rattle.mrpc_table.specs.Normal.{IsNormal};
 ghost use Rattle.mrpc_table.specs.Valid.{IsValid};
 ghost use Rattle.mrpc_table.specs.declared.table.Table.{Table};
@@ -10,7 +10,7 @@ ghost use Rattle.graph_form.specs.Forgotten.{tree_of};
 ghost use Rattle.graph_form.specs.Loading.{LeadsTo};
 ghost use Rattle.graph_form.specs.Malformed.{OffendsFirst, IsMalformed, Outcome, ComesTo, ReadsBy};
 ghost use Rattle.graph_form.specs.declared.reason.Reason.{Reason};
-ghost use Rattle.graph_form.specs.declared.reason.Reason.TheVariants.{Loads};
+ghost use Rattle.graph_form.specs.declared.reason.Reason.TheVariants.{Loads, NoMethod};
 
 use map_entries::kept_entries_are_normal;
 
@@ -33,6 +33,14 @@ pub fn loads_end_malformed()
     ensures limit { (T : Table) (H msg address limit : ℕ) (xs : List (ℕ × ℕ)) (x : ℕ × ℕ) (e : Role × ℕ) (rest : Expected)
         → LiesIn H address (size_words T msg) → LeadsTo T H (node_words T msg 1 address) (xs ++ x ∷ []) (e ∷ rest)
         → length (xs ++ x ∷ []) ≡ limit → IsMalformed T H msg address limit (xs ++ x ∷ []) Loads x.0 x.1 }
+{}
+
+/// No more words than the limit were loaded of a malformed graph, and it isn't malformed for want of a method.
+pub fn malformed_graphs_keep_the_limit()
+    ensures loads { (T : Table) (H msg address limit : ℕ) (xs : List (ℕ × ℕ)) (reason : Reason) (place value : ℕ)
+        → IsMalformed T H msg address limit xs reason place value → length xs ≤ limit }
+    ensures reason { (T : Table) (H msg address limit : ℕ) (xs : List (ℕ × ℕ)) (reason : Reason) (place value : ℕ)
+        → IsMalformed T H msg address limit xs reason place value → reason ≢ NoMethod }
 {}
 
 /// What is read of a graph determines which words are loaded of it, and what they come to: its tree, or why it is refused.

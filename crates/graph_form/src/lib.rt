@@ -6,12 +6,14 @@
 #![tactic(auto)]
 
 mod laws;
+mod placed;
 mod reason;
 mod size;
 
 pub use laws::{
-    loads_determine_placed_tree, loads_end_malformed, reading_determines_outcome,
-    sound_tree_is_normal, sound_words_are_loaded,
+    loads_determine_placed_tree, loads_end_malformed, malformed_graphs_keep_the_limit,
+    reading_determines_outcome, sound_tree_is_normal, sound_words_are_loaded,
 };
+pub use placed::{Loads, Placed};
 pub use reason::Reason;
 pub use size::{size_words, slot_of};

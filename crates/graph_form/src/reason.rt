@@ -22,3 +22,25 @@ pub enum Reason {
     /// The table has no such method.
     NoMethod,
 }
+
+impl Reason {
+    ghost use Rattle.std.specs.Prelude.{◌≡◌};
+    ghost use Rattle.graph_form.specs.Words.{reason_word};
+
+    /// The word that names the reason in a printed line.
+    pub fn word(self) -> &'static str
+        ensures { result.now ≡ reason_word self }
+    {
+        match self {
+            Reason::Address => "Address",
+            Reason::Presence => "Presence",
+            Reason::Case => "Case",
+            Reason::Length => "Length",
+            Reason::Utf8 => "Utf8",
+            Reason::Narrow => "Narrow",
+            Reason::Depth => "Depth",
+            Reason::Loads => "Loads",
+            Reason::NoMethod => "NoMethod",
+        }
+    }
+}

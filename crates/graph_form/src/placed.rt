@@ -1,0 +1,15 @@
+//! The words of a message in a heap.
+
+use mrpc_table::Sequence;
+
+/// Words in the order in which they are loaded, each a place and a value.
+pub type Loads = Sequence<(u64, u64)>;
+
+/// A message that stands in a heap: where its node begins, and all the words that are loaded of it. Its type, the
+/// address and these words determine the placed tree ([`crate::loads_determine_placed_tree`]), so nothing else is kept.
+#[derive(Debug, Drop)]
+pub struct Placed {
+    /// The place of the node's first word.
+    pub address: u64,
+    pub words: Loads,
+}
