@@ -11,6 +11,7 @@
 mod build;
 mod copying;
 mod follow;
+mod forgetting;
 mod judge;
 mod look_up;
 mod order;
@@ -19,3 +20,4 @@ mod take;
 mod walk;
 
 pub use copying::{CopyResult, copy};
+pub use forgetting::forget;

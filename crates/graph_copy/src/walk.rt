@@ -67,6 +67,7 @@ pub enum Next {
 }
 
 impl Next {
+    /// Where the word stands.
     pub fn place(self) -> u64
         ensures { (T : Table) (bytes : List ℕ) → result ≡ (next_word T bytes self).1 }
     {
