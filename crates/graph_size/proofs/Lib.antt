@@ -1,0 +1,5 @@
+mod Bytes
+mod Kept
+mod Rows
+mod Short
+mod Slots
