@@ -1,4 +1,8 @@
-pub mod Draining
+mod Apart
+mod Fates
+mod Filters
+mod Legality
+mod Lines
 mod Rows
-pub mod Standing
-pub mod Texts
+mod Standing
+mod Texts

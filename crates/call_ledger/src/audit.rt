@@ -1,12 +1,16 @@
 //! The audit text: a line for each happening.
 
 ghost use Rattle.std.specs.Prelude.{◌≡◌, ◌<◌, ◌++◌, ◌∷◌, length, OnOk, IfOk};
+ghost use Rattle.std.specs.List.{flat_map};
 ghost use Rattle.std.specs.Fmt.{decimal};
+ghost use Rattle.mrpc_table.specs.Calls.{message_at};
 ghost use Rattle.mrpc_table.specs.Valid.{IsValid};
-ghost use Rattle.call_ledger.specs.Audit.{audit_line, copy_payload, hex_word, took_text, stands_line, sent_line};
-ghost use Rattle.call_ledger.specs.Fits.{FitsTable, CopyFits};
+ghost use Rattle.call_ledger.specs.Audit.{audit_line, copy_payload, copy_words, hex_word, stands_line, sent_line, refused_line};
+ghost use Rattle.call_ledger.specs.Fits.{FitsTable, CopyFits, TookFits};
+ghost use Rattle.call_ledger.specs.Texts.{behind_spaces, took_text};
 
-use crate::happening::{Happening, TookCopy};
+use crate::happening::{Cause, Happening, TookCopy};
+use graph_form::Reason;
 use mrpc_table::{Bytes, Memory, Table};
 use std::alloc::Global;
 use wire_encode::encode;
@@ -50,8 +54,6 @@ pub fn audit_line(alloc: Global, happening: &Happening, table: &Table) -> Result
             count,
             copy,
         } => {
-            let message = table.message_of(*method, *number);
-            let payload = copy_bytes(alloc, copy, table, message)?;
             let numbers = [
                 u64::from(*conn),
                 u64::from(*seq),
@@ -61,13 +63,18 @@ pub fn audit_line(alloc: Global, happening: &Happening, table: &Table) -> Result
                 *after,
                 *count,
             ];
-            took_line(alloc, &numbers, payload.as_slice())
+            let mut out = took_numbers(alloc, &numbers)?;
+            put_copy(alloc, &mut out, copy, table, *method, *number)?;
+            out.append(b"\n")?;
+            Ok(out)
         }
         Happening::Sent { conn, seq, bytes } => sent_line(alloc, *conn, *seq, *bytes),
+        Happening::Refused { conn, seq, cause } => refused_line(alloc, *conn, *seq, *cause),
     }
 }
 
-/// The encoding of what was taken of a call, as a message of the table. The only error is `Memory`.
+/// The encoding of the copy that was taken of a call, as a message of the table; nothing where the
+/// call is malformed. The only error is `Memory`.
 pub fn copy_bytes(
     alloc: Global,
     copy: &TookCopy,
@@ -75,27 +82,57 @@ pub fn copy_bytes(
     message: u32,
 ) -> Result<Bytes, Memory>
     requires valid { IsValid table.now }
-    requires known { message < length table.now.messages }
-    requires normal { CopyFits table.now message copy.now }
+    requires fits { CopyFits table.now message copy.now }
     ensures { IfOk result (λ bytes. bytes ≡ copy_payload table.now message copy.now) }
 {
     match copy {
         TookCopy::Copy { tree } => encode(alloc, tree, table, message),
+        TookCopy::Malformed { .. } => Ok(Bytes::new(alloc)),
     }
 }
 
-// The line of an acceptance: its numbers, and the encoding of the copy.
-fn took_line(alloc: Global, numbers: &[u64], payload: &[u8]) -> Result<Bytes, Memory>
-    ensures { IfOk result (λ line. line ≡ took_text numbers.now payload.now) }
+// The line of an acceptance up to its numbers.
+fn took_numbers(alloc: Global, numbers: &[u64]) -> Result<Bytes, Memory>
+    ensures { IfOk result (λ line. line ≡ took_text numbers.now) }
 {
     let mut out = Bytes::from_slice(alloc, b"took")?;
     for number in numbers {
         put_number(&mut out, *number)?;
     }
-    out.append(b" copy")?;
-    put_hex(alloc, &mut out, payload)?;
-    out.append(b"\n")?;
     Ok(out)
+}
+
+// The words that tell the copy of a call, or why it has none.
+fn put_copy(
+    alloc: Global,
+    out: &mut Bytes,
+    copy: &TookCopy,
+    table: &Table,
+    method: u16,
+    number: u32,
+) -> Result<(), Memory>
+    requires valid { IsValid table.now }
+    requires fits { TookFits table.now method number copy.now }
+    ensures { OnOk result (out.new ≡ out.old ++ behind_spaces (copy_words table.now (message_at table.now method number) copy.now)) }
+{
+    match copy {
+        TookCopy::Copy { tree } => {
+            let message = table.message_of(method, number);
+            let payload = encode(alloc, tree, table, message)?;
+            out.append(b" copy")?;
+            put_hex(alloc, out, payload.as_slice())
+        }
+        TookCopy::Malformed {
+            reason,
+            place,
+            value,
+        } => {
+            out.append(b" malformed ")?;
+            out.append(reason.word().as_bytes())?;
+            put_number(out, *place)?;
+            put_number(out, *value)
+        }
+    }
 }
 
 // The line of a sending.
@@ -110,14 +147,37 @@ fn sent_line(alloc: Global, conn: u32, seq: u32, bytes: u64) -> Result<Bytes, Me
     Ok(out)
 }
 
-/// The line of a call that stands for transport behind an empty chain, with its line feed. The only
-/// error is `Memory`.
-pub fn stands_line(alloc: Global, conn: u32, seq: u32) -> Result<Bytes, Memory>
-    ensures { IfOk result (λ line. line ≡ stands_line conn seq) }
+// The line of a refusal.
+fn refused_line(alloc: Global, conn: u32, seq: u32, cause: Cause) -> Result<Bytes, Memory>
+    ensures { IfOk result (λ line. line ≡ refused_line conn seq cause) }
+{
+    let mut out = Bytes::from_slice(alloc, b"refused")?;
+    put_number(&mut out, u64::from(conn))?;
+    put_number(&mut out, u64::from(seq))?;
+    match cause {
+        Cause::Malformed => out.append(b" malformed\n")?,
+    }
+    Ok(out)
+}
+
+/// The line of a call that stands in the queue of an engine, with its line feed: the engine's
+/// position on the chain and its name, which is `-` for the queue for transport, at the chain's end.
+/// The only error is `Memory`.
+pub fn stands_line(
+    alloc: Global,
+    conn: u32,
+    seq: u32,
+    position: u32,
+    name: &[u8],
+) -> Result<Bytes, Memory>
+    ensures { IfOk result (λ line. line ≡ stands_line conn seq position name.now) }
 {
     let mut out = Bytes::from_slice(alloc, b"stands")?;
     put_number(&mut out, u64::from(conn))?;
     put_number(&mut out, u64::from(seq))?;
-    out.append(b" 0 -\n")?;
+    put_number(&mut out, u64::from(position))?;
+    out.append(b" ")?;
+    out.append(name)?;
+    out.append(b"\n")?;
     Ok(out)
 }

@@ -1,12 +1,28 @@
 //! What can happen on a connection.
 
+use graph_form::Reason;
 use mrpc_table::Tree;
 
 /// What the service took of a call's arguments.
 #[derive(Debug, Drop)]
 pub enum TookCopy {
     /// A private copy.
-    Copy { tree: Tree },
+    Copy {
+        tree: Tree,
+    },
+    /// The graph is malformed: why, and the place and the value of the last word that was loaded.
+    Malformed {
+        reason: Reason,
+        place: u64,
+        value: u64,
+    },
+}
+
+/// Why a call was refused.
+#[derive(Clone, Copy, Debug, PartialEq, Eq)]
+pub enum Cause {
+    /// Its graph is malformed.
+    Malformed,
 }
 
 /// One thing that happened on a connection.
@@ -35,5 +51,11 @@ pub enum Happening {
         conn: u32,
         seq: u32,
         bytes: u64,
+    },
+    /// A call was refused, and is never sent.
+    Refused {
+        conn: u32,
+        seq: u32,
+        cause: Cause,
     },
 }

@@ -47,7 +47,7 @@ fn lines_are_written(rt: HostRuntime) -> Result<(), Fail> {
     };
     let line = audit_line(alloc, &sent, &table)?;
     assert_eq!(rt; line.as_slice(), b"sent 16 4294967295 262160\n".as_slice());
-    let line = stands_line(alloc, 3, 7)?;
+    let line = stands_line(alloc, 3, 7, 0, b"-")?;
     assert_eq!(rt; line.as_slice(), b"stands 3 7 0 -\n".as_slice());
     Ok(())
 }
