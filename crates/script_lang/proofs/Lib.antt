@@ -1,9 +1,14 @@
-pub mod Faults
-pub mod Fields
-pub mod Forms
-pub mod Law
-pub mod Places
-pub mod TableCuts
-pub mod Texts
-pub mod ThinText
-pub mod Words
+mod Digits
+mod FirstNumbers
+mod FormsFound
+mod Hexadecimal
+mod HeadTexts
+mod Judged
+mod LastValues
+mod LineRuns
+mod OneAnswer
+mod OneHead
+mod OneRun
+mod Steps
+mod Verdicts
+mod WholeTexts

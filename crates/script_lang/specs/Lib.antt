@@ -1,8 +1,8 @@
-pub mod Answers
-pub mod Bounds
-pub mod Follows
+pub mod Forms
+pub mod Heads
+pub mod Lines
+pub mod Offences
 pub mod Reading
 pub mod Reason
-pub mod Standing
-pub mod TableText
-pub mod Thin
+pub mod Stops
+pub mod Texts

@@ -1,114 +1,251 @@
--- How a line is read from the left, word by word.
-use Rattle.std.specs.Prelude.{◌≡◌, ◌⊎◌, ℕ, ◌<◌, ◌^◌, ◌==◌, nat_lt, Bool, ◌&&◌, ◌||◌, not, List, [], ◌∷◌, length, Option, Some, None, option_map, codes, slice_index, if◌then◌else◌}
-use Rattle.std.specs.Str.{bytes_eq, all_ascii_digits}
+-- How a line is read, word by word.
+use Rattle.std.specs.Prelude.{◌≡◌, ℕ, ◌+◌, ◌-◌, ◌*◌, ◌%◌, ◌^◌, ◌<◌, ◌≤◌, ◌==◌, nat_lt, nat_le, Bool, true, false, ◌&&◌, List, [], ◌∷◌, ◌++◌, length, codes, drop, Option, Some, None, Result, Ok, Err, if◌then◌else◌}
+use Rattle.std.specs.Borrow.{Bor}
+use Rattle.std.specs.List.{list_all, list_any}
+use Rattle.std.specs.Str.{bytes_eq}
 use Rattle.std.specs.Str.Parse.{digits_value}
-use Rattle.script_lang.specs.declared.form.Form.{Form as Read}
-use Rattle.script_lang.specs.declared.form.Form.TheVariants as read
-use Rattle.script_lang.specs.declared.script.Line.TheVariants.{Store, Submit, Drain}
-use Rattle.script_lang.specs.Thin.{Form, header, table, message, field, method, end, conn, command, close}
+use Rattle.mrpc_table.specs.Lines.{words_of, number_of, in_64_bits}
+use Rattle.mrpc_table.specs.declared.words.Decimal.{Decimal}
+use Rattle.mrpc_table.specs.declared.words.Decimal.TheVariants.{Small, Large}
+use Rattle.script_lang.specs.Forms.{is_hexadecimal}
+use Rattle.script_lang.specs.Offences.{later_words}
+use Rattle.script_lang.specs.declared.body.Body.{Body}
+use Rattle.script_lang.specs.declared.body.Opened.{Opened}
+use Rattle.script_lang.specs.declared.body.Said.{Said}
+use Rattle.script_lang.specs.declared.body.Said.TheVariants as said
+use Rattle.script_lang.specs.declared.script.Line.{Line}
+use Rattle.script_lang.specs.declared.script.Line.TheVariants as line
+use Rattle.script_lang.specs.declared.fault.ScriptReason.{ScriptReason}
+use Rattle.script_lang.specs.declared.fault.ScriptReason.TheVariants.{Word, Number, Known, Unknown, Place, NotYet, After}
 
 infixl 10 ◌>>=◌
-abbrev pub ◌>>=◌ : {A B : Type 0} → Option A → (A → Option B) → Option B
-None >>= f = None
-(Some x) >>= f = f x
+abbrev pub ◌>>=◌ : {A B : Type 0} → Result A ScriptReason → (A → Result B ScriptReason) → Result B ScriptReason
+(Ok x) >>= f = f x
+(Err e) >>= f = Err e
 
--- what a form says, without where its names lie in memory
-abbrev pub view : Read → Form
-view read.Header = header
-view read.Table = table
-view (read.Message name) = message name.now
-view (read.Field number name) = field (record { number = number; name = name.now })
-view (read.Method service name input output) = method service.now name.now input.now output.now
-view read.End = end
-view (read.Conn number words) = conn number words
-view (read.Command c line) = command c line
-view read.Close = close
+-- what was returned, seen by view
+abbrev pub seen_by : {A B : Type 0} → (A → B) → Result A ScriptReason → Result B ScriptReason
+seen_by view (Ok x) = Ok (view x)
+seen_by view (Err e) = Err e
 
--- the bytes before the first such byte, and those behind it
-unfoldable pub parted : ℕ → List ℕ → Option (List ℕ × List ℕ)
-parted byte [] = None
-parted byte (b ∷ bs) = if b == byte then Some ([], bs) else option_map (λ p. (b ∷ p.0, p.1)) (parted byte bs)
+-- ---- words
 
--- a sign stands first, or a leading zero
-abbrev pub IsMarked : List ℕ → Type 0
-IsMarked word = (slice_index word 0 ≡ 43) ⊎ ((slice_index word 0 ≡ 48) × (1 < length word))
+-- the words that are left
+abbrev pub words_in : Option (Bor (List ℕ)) → List (List ℕ)
+words_in None = []
+words_in (Some text) = words_of text.now
 
--- digits without a leading zero, for a number below 2 ^ 64
-abbrev pub is_number : List ℕ → Bool
-is_number word = all_ascii_digits word && nat_lt 0 (length word) && (not (slice_index word 0 == 48) || length word == 1) && nat_lt (digits_value 10 word) (2 ^ 64)
+abbrev pub number_in : Option ℕ → Result Decimal ScriptReason
+number_in None = Err Word
+number_in (Some n) = Ok (in_64_bits n)
 
-unfoldable pub number_of : List ℕ → Option ℕ
-number_of word = if is_number word then Some (digits_value 10 word) else None
+-- the first word as a number, and the words behind it
+unfoldable pub first_number : List (List ℕ) → Result (Decimal × List (List ℕ)) ScriptReason
+first_number [] = Err Word
+first_number (w ∷ ws) = do
+  n ← number_in (number_of w)
+  Ok (n, ws)
 
-unfoldable pub small_number_of : List ℕ → Option ℕ
-small_number_of word = do
-  n ← number_of word
-  if nat_lt n (2 ^ 32) then Some n else None
+-- no digit, or a zero in front of others
+abbrev pub is_padded : List ℕ → Bool
+is_padded [] = true
+is_padded (c ∷ []) = false
+is_padded (c ∷ d ∷ ds) = c == 48
 
-unfoldable pub lone_word : List ℕ → Option Form
-lone_word word =
-    if bytes_eq word (codes "table") then Some table
-    else if bytes_eq word (codes "end") then Some end
-    else if bytes_eq word (codes "close") then Some close
-    else None
+-- the words behind a word that ends here
+abbrev pub words_behind : List ℕ → Result (List (List ℕ)) ScriptReason
+words_behind [] = Ok []
+words_behind (c ∷ cs) = if c == 32 then Ok (words_of cs) else Err Word
 
-unfoldable pub header_of : List ℕ → Option Form
-header_of rest = if bytes_eq rest (codes "1") then Some header else None
+unfoldable pub no_more : List (List ℕ) → Result (Unit {0}) ScriptReason
+no_more [] = Ok tt
+no_more (w ∷ ws) = Err Word
 
-unfoldable pub field_of : List ℕ → Option Form
-field_of rest = do
-  number ← parted 32 rest
-  label ← parted 32 number.1
-  kind ← parted 32 label.1
-  if bytes_eq label.0 (codes "plain") && bytes_eq kind.0 (codes "uint64") then option_map (λ n. field (record { number = n; name = kind.1 })) (small_number_of number.0) else None
+unfoldable pub last_number : List (List ℕ) → Result Decimal ScriptReason
+last_number words = do
+  n ← first_number words
+  end ← no_more n.1
+  Ok n.0
 
-unfoldable pub method_of : List ℕ → Option Form
-method_of rest = do
-  index ← parted 32 rest
-  service ← parted 32 index.1
-  name ← parted 32 service.1
-  input ← parted 32 name.1
-  if bytes_eq index.0 (codes "0") then Some (method service.0 name.0 input.0 input.1) else None
+-- a number below zero, down to -2^63
+abbrev pub negated : Decimal → Decimal
+negated (Small n) = if nat_le n (2 ^ 63) then Small ((2 ^ 64 - n) % 2 ^ 64) else Large
+negated Large = Large
 
-unfoldable pub conn_of : List ℕ → Option Form
-conn_of rest = do
-  number ← parted 32 rest
-  n ← small_number_of number.0
-  words ← small_number_of number.1
-  Some (conn n words)
+abbrev pub are_hexadecimal : List ℕ → Bool
+are_hexadecimal digits = (nat_lt 0 (length digits) && nat_le (length digits) 16) && list_all is_hexadecimal digits
 
-unfoldable pub store_of : List ℕ → Option Form
-store_of rest = do
-  number ← parted 32 rest
-  place ← parted 32 number.1
-  c ← small_number_of number.0
-  p ← small_number_of place.0
-  v ← number_of place.1
-  Some (command c (Store p v))
+abbrev pub hexadecimal_in : List ℕ → Result Decimal ScriptReason
+hexadecimal_in digits = if are_hexadecimal digits then Ok (Small (digits_value 16 digits)) else Err Word
 
-unfoldable pub submit_of : List ℕ → Option Form
-submit_of rest = do
-  number ← parted 32 rest
-  index ← parted 32 number.1
-  if bytes_eq index.0 (codes "0") then small_number_of number.0 >>= (λ c. option_map (λ addr. command c (Submit addr)) (number_of index.1)) else None
+abbrev pub begins_with : ℕ → List ℕ → Bool
+begins_with c [] = false
+begins_with c (d ∷ ds) = d == c
 
-unfoldable pub drain_of : List ℕ → Option Form
-drain_of rest = do
-  c ← small_number_of rest
-  Some (command c Drain)
+-- what a word stores: a number of 64 bits, or a larger one where it is out of range
+abbrev pub value_in : List ℕ → Result Decimal ScriptReason
+value_in [] = Err Word
+value_in (c ∷ cs) =
+    if c == 45 then number_in (number_of cs) >>= (λ n. Ok (negated n))
+    else if c == 48 && begins_with 120 cs then hexadecimal_in (drop 1 cs)
+    else number_in (number_of (c ∷ cs))
 
--- a line of several words, by its first
-unfoldable pub words_after : List ℕ → List ℕ → Option Form
-words_after first rest =
-    if bytes_eq first (codes "store") then store_of rest
-    else if bytes_eq first (codes "submit") then submit_of rest
-    else if bytes_eq first (codes "drain") then drain_of rest
-    else if bytes_eq first (codes "field") then field_of rest
-    else if bytes_eq first (codes "message") then Some (message rest)
-    else if bytes_eq first (codes "method") then method_of rest
-    else if bytes_eq first (codes "conn") then conn_of rest
-    else if bytes_eq first (codes "mrpc-replay") then header_of rest
-    else None
+unfoldable pub last_value : List (List ℕ) → Result Decimal ScriptReason
+last_value [] = Err Word
+last_value (w ∷ ws) = do
+  v ← value_in w
+  end ← no_more ws
+  Ok v
 
-unfoldable pub form_of : List ℕ → Option Form
-form_of line = elim (parted 32 line) [ Some p ↦ words_after p.0 p.1 | None ↦ lone_word line ]
+-- ---- what a line says
+
+abbrev pub within : ℕ → ℕ → Decimal → Result ℕ ScriptReason
+within least most (Small n) = if nat_le least n && nat_le n most then Ok n else Err Number
+within least most Large = Err Number
+
+abbrev pub heap_of : Option Opened → ℕ → Result ℕ ScriptReason
+heap_of None c = Err Unknown
+heap_of (Some o) c = if o.conn == c then Ok o.words else Err Unknown
+
+abbrev pub place_in : ℕ → Decimal → Result ℕ ScriptReason
+place_in words (Small p) = if nat_le 1 p && nat_lt p words then Ok p else Err Place
+place_in words Large = Err Place
+
+abbrev pub load_of : ℕ → Result ℕ ScriptReason
+load_of k = if nat_lt 0 k then Ok k else Err Place
+
+-- no connection is open
+abbrev pub none_open : Option Opened → ℕ → Result (Unit {0}) ScriptReason
+none_open None c = Ok tt
+none_open (Some o) c = if o.conn == c then Err Known else Err NotYet
+
+abbrev pub has_room : ℕ → Result (Unit {0}) ScriptReason
+has_room submits = if nat_lt submits 64 then Ok tt else Err NotYet
+
+abbrev pub not_closed : Bool → Result (Unit {0}) ScriptReason
+not_closed closed = if closed then Err After else Ok tt
+
+unfoldable pub conn_said : Body → List (List ℕ) → Result Line ScriptReason
+conn_said b words = do
+  c ← first_number words
+  w ← first_number c.1
+  end ← no_more w.1
+  conn ← within 1 16 c.0
+  room ← within 4 65536 w.0
+  new ← none_open b.opened conn
+  open_still ← not_closed b.closed
+  Ok (line.Conn conn room)
+
+unfoldable pub store_said : Body → List (List ℕ) → Result Line ScriptReason
+store_said b words = do
+  c ← first_number words
+  p ← first_number c.1
+  v ← last_value p.1
+  conn ← within 1 16 c.0
+  value ← within 0 (2 ^ 64 - 1) v
+  heap ← heap_of b.opened conn
+  place ← place_in heap p.0
+  open_still ← not_closed b.closed
+  Ok (line.Store conn place value)
+
+unfoldable pub race_said : Body → List (List ℕ) → Result Line ScriptReason
+race_said b words = do
+  c ← first_number words
+  k ← first_number c.1
+  p ← first_number k.1
+  v ← last_value p.1
+  conn ← within 1 16 c.0
+  load ← within 0 (2 ^ 64 - 1) k.0
+  value ← within 0 (2 ^ 64 - 1) v
+  heap ← heap_of b.opened conn
+  some ← load_of load
+  place ← place_in heap p.0
+  open_still ← not_closed b.closed
+  Ok (line.Race conn some place value)
+
+-- a number behind the others, where there is one more word
+unfoldable pub optional_number : List (List ℕ) → Result (Option Decimal) ScriptReason
+optional_number [] = Ok None
+optional_number (w ∷ ws) = do
+  n ← last_number (w ∷ ws)
+  Ok (Some n)
+
+abbrev pub request_in : Option Decimal → Result ℕ ScriptReason
+request_in None = Ok 0
+request_in (Some n) = within 1 (2 ^ 32 - 1) n
+
+unfoldable pub submit_said : Body → List (List ℕ) → Result Line ScriptReason
+submit_said b words = do
+  c ← first_number words
+  m ← first_number c.1
+  a ← first_number m.1
+  n ← optional_number a.1
+  conn ← within 1 16 c.0
+  method ← within 0 65535 m.0
+  addr ← within 0 (2 ^ 64 - 1) a.0
+  number ← request_in n
+  heap ← heap_of b.opened conn
+  room ← has_room b.submits
+  open_still ← not_closed b.closed
+  Ok (line.Submit conn method number addr)
+
+unfoldable pub drain_said : Body → List (List ℕ) → Result Line ScriptReason
+drain_said b words = do
+  c ← last_number words
+  conn ← within 1 16 c
+  heap ← heap_of b.opened conn
+  open_still ← not_closed b.closed
+  Ok (line.Drain conn)
+
+abbrev pub is_later_word : List ℕ → Bool
+is_later_word word = list_any (bytes_eq word) later_words
+
+abbrev pub as_said : Result Line ScriptReason → Result Said ScriptReason
+as_said r = r >>= (λ l. Ok (said.Line l))
+
+abbrev pub close_said : Body → List (List ℕ) → Result Said ScriptReason
+close_said b words = no_more words >>= (λ end. not_closed b.closed >>= (λ still. Ok said.Close))
+
+unfoldable pub words_said : Body → List ℕ → List (List ℕ) → Result Said ScriptReason
+words_said b first words =
+    if bytes_eq first (codes "store") then as_said (store_said b words)
+    else if bytes_eq first (codes "race") then as_said (race_said b words)
+    else if bytes_eq first (codes "submit") then as_said (submit_said b words)
+    else if bytes_eq first (codes "drain") then as_said (drain_said b words)
+    else if bytes_eq first (codes "conn") then as_said (conn_said b words)
+    else if bytes_eq first (codes "close") then close_said b words
+    else if is_later_word first then Err NotYet
+    else Err Word
+
+abbrev pub line_said : Body → List (List ℕ) → Result Said ScriptReason
+line_said b [] = Err Word
+line_said b (first ∷ words) = words_said b first words
+
+abbrev pub is_skipped : List ℕ → Bool
+is_skipped [] = true
+is_skipped (c ∷ cs) = c == 35
+
+-- what a line says, without its line feed
+unfoldable pub said_by : Body → List ℕ → Result Said ScriptReason
+said_by b text = if is_skipped text then Ok said.Nothing else line_said b (words_of text)
+
+-- ---- what stands behind a line
+
+abbrev pub fresh_body : Body
+fresh_body = record { lines = []; opened = None; submits = 0; closed = false }
+
+abbrev pub opened_after : Option Opened → Line → Option Opened
+opened_after opened (line.Conn conn words) = Some (record { conn = conn; words = words })
+opened_after opened _ = opened
+
+abbrev pub submits_after : ℕ → Line → ℕ
+submits_after n (line.Submit conn method number addr) = n + 1
+submits_after n _ = n
+
+abbrev pub noted : Body → Line → Body
+noted b l = record { lines = b.lines; opened = opened_after b.opened l; submits = submits_after b.submits l; closed = b.closed }
+
+abbrev pub body_after : Body → Said → Body
+body_after b said.Nothing = b
+body_after b said.Close = record { lines = b.lines; opened = b.opened; submits = b.submits; closed = true }
+body_after b (said.Line l) = record { lines = b.lines ++ l ∷ []; opened = opened_after b.opened l; submits = submits_after b.submits l; closed = b.closed }

@@ -7,25 +7,45 @@ use mrpc_table::Memory;
 use table_text::TableReason;
 use thiserror::Error;
 
-/// What is wrong with a line of a script.
+/// What is wrong with a line of a script. Of several reasons at one line, the first of this list counts.
 #[derive(Clone, Copy, Debug, PartialEq, Eq, Error)]
 pub enum ScriptReason {
+    /// The first line isn't `mrpc-replay 1`.
+    #[error("Header")]
+    Header,
     /// The lines between `table` and `end` are no canonical text of a table.
     #[error("{}", .0.word())]
     Table(TableReason),
-    /// The line isn't one that may stand here in a thin script.
+    /// An unknown word, a wrong number of words, a word that is no number, or a last line without its line feed.
+    #[error("Word")]
+    Word,
+    /// A number out of its range.
+    #[error("Number")]
+    Number,
+    /// The connection that a `conn` line names is open.
+    #[error("Known")]
+    Known,
+    /// The connection that a line uses isn't open.
+    #[error("Unknown")]
+    Unknown,
+    /// A place that isn't in 1 to below the words of the connection's heap, or a race before load 0.
+    #[error("Place")]
+    Place,
+    /// A form that isn't built yet, a second `conn` line, or a 65th `submit` line.
     #[error("NotYet")]
     NotYet,
     /// The text ends here, and its `close` line is missing.
     #[error("Close")]
     Close,
+    /// A line behind `close`.
+    #[error("After")]
+    After,
 }
 
 /// Why no script was read.
 #[derive(Clone, Copy, Debug, PartialEq, Eq, Error)]
 pub enum ScriptFault {
-    /// The line at fault, from 1: the first one of the table's text, else the first one of all, or the
-    /// line behind the last where `close` is missing.
+    /// The first line at fault, from 1, with its first reason.
     #[error("fault {line} {reason}")]
     At { line: u64, reason: ScriptReason },
     /// No memory was found.
@@ -41,9 +61,16 @@ impl ScriptReason {
         ensures { result.now ≡ reason_word self }
     {
         match self {
+            ScriptReason::Header => "Header",
             ScriptReason::Table(reason) => reason.word(),
+            ScriptReason::Word => "Word",
+            ScriptReason::Number => "Number",
+            ScriptReason::Known => "Known",
+            ScriptReason::Unknown => "Unknown",
+            ScriptReason::Place => "Place",
             ScriptReason::NotYet => "NotYet",
             ScriptReason::Close => "Close",
+            ScriptReason::After => "After",
         }
     }
 }

@@ -1,135 +1,151 @@
 //! Reading a script from its text.
 
-ghost use Rattle.std.specs.Prelude.{◌≡◌, ◌≤◌, ℕ, List, All, IfOk, IfErr, MatchResult, count_by};
-ghost use Rattle.script_lang.specs.Thin.{Spells, IsConn, is_submit};
-ghost use Rattle.script_lang.specs.Bounds.{IsThinTable, field_count, IsWithin};
-ghost use Rattle.script_lang.specs.Answers.{IsFault, IsLineFault};
-ghost use Rattle.script_lang.specs.TableText.{LacksTableFault};
-ghost use Rattle.script_lang.specs.declared.fault.ScriptReason.{ScriptReason};
-ghost use Rattle.script_lang.specs.declared.fault.ScriptFault.TheVariants.{At};
+ghost use Rattle.std.specs.Prelude.{◌≡◌, ◌+◌, ◌<◌, ◌≤◌, ℕ, List, length, IfOk, IfErr, MatchResult};
+ghost use Rattle.mrpc_table.specs.Text.{table_text};
+ghost use Rattle.mrpc_table.specs.Valid.{IsValid};
+ghost use Rattle.table_text.specs.TableText.{IsEndless};
+ghost use Rattle.script_lang.specs.Lines.{IsScript};
+ghost use Rattle.script_lang.specs.Texts.{IsHead, Spells, IsFaultOf, line_count, line_behind};
+ghost use Rattle.script_lang.specs.Stops.{AreRead, IsStopOf, IsTableFault};
+ghost use Rattle.script_lang.specs.declared.script.Script.{Script};
+ghost use Rattle.script_lang.specs.declared.fault.ScriptFault.TheVariants.{Memory as OutOfMemory};
 
+use crate::body::Body;
 use crate::fault::{ScriptFault, ScriptReason};
-use crate::script::Script;
-use crate::stage::Stage;
-use crate::table_cut::split_table;
-use crate::word::split_line;
+use crate::head::{Head, read_head};
+use crate::laws::one_answer;
+use crate::script::{Lines, Script};
+use mrpc_table::{Memory, Table, cut};
 use std::alloc::Global;
-use table_text::{TableFault, read_table};
+use table_text::{TableFault, one_fault, read_table, split_table};
 
-/// The first two lines.
-const HEAD: &[u8] = b"mrpc-replay 1\ntable\n";
+/// Why the lines of a text weren't read to their end.
+#[derive(Clone, Copy, Debug)]
+enum Stop {
+    /// A line is at fault, from which on so many bytes are left.
+    At { left: usize, reason: ScriptReason },
+    /// No memory was found.
+    Memory,
+}
 
-/// The script that a text spells, each byte of it. The text is lines, each with its line feed:
-///
-/// | line | how often |
-/// |---|---|
-/// | `mrpc-replay 1`, `table` | once each, first |
-/// | `message NAME` | once |
-/// | `field NUMBER plain uint64 NAME` | 0 to 128, by ascending number, under distinct names |
-/// | `method 0 SERVICE NAME M M` | once, M being the message |
-/// | `end` | once |
-/// | `conn CONN WORDS` | once; CONN is 1 to 16, WORDS 4 to 65536 |
-/// | `store CONN PLACE VALUE` | any number; PLACE is 1 to WORDS - 1, VALUE below 2^64 |
-/// | `submit CONN 0 ADDR` | 64 at most; ADDR is at least 1, and ADDR plus two words a field at most WORDS |
-/// | `drain CONN` | any number |
-/// | `close` | once, last |
-///
-/// Words stand with single spaces, numbers are decimal without sign or leading zero, and names are a
-/// letter or `_` with letters, digits and `_` behind it, 64 bytes at most. The format is this
-/// project's own.
-///
-/// # Errors
-///
-/// `At` has the line at fault, counted from 1, with its reason:
-///
-/// - `Table` where the first two lines and a line `end` are there, and the lines between aren't the
-///   canonical text of a table. Line and reason are those of [`table_text::read_table`] (`Syntax`,
-///   `Number`, `Duplicate`, `UnknownType`, `MapKey` or `Limit`), the line as one of the script. It comes
-///   before the other reasons, even those of lines before it.
-/// - `NotYet` at the first line that isn't a next line of these; a last line without its line feed is none.
-/// - `Close` at the line behind the last, where every line is a next one and `close` is missing.
-///
-/// `Memory` comes where none was found, and nothing else is said then.
+impl From<Memory> for Stop {
+    ghost use Rattle.script_lang.specs.declared.reading.Stop.TheVariants as stop;
+
+    ghost from_gives = { λ _ e. e ≡ stop.Memory };
+
+    fn from(_: Memory) -> Stop {
+        Stop::Memory
+    }
+}
+
+/// The script that a text spells, each byte of it.
 pub fn read_script(alloc: Global, text: &[u8]) -> Result<Script, ScriptFault>
     // What is read is spelled so, each byte of it.
     ensures read { IfOk result (Spells text.now) }
     // What is spelled so is read, unless memory runs out.
-    ensures only { (s : Script) → Spells text.now s → MatchResult result (λ t. t ≡ s) (λ e. e ≡ ScriptFault.Memory) }
-    // Which fault it is.
-    ensures fault { IfErr result (IsFault text.now) }
-
-    // What its caller may rest on.
-    ensures table { IfOk result (λ s. IsThinTable s.table) }
-    ensures sizes { IfOk result (λ s. IsConn s.conn s.words) }
-    ensures lines { IfOk result (λ s. All (IsWithin s.words (field_count s.table)) s.lines) }
-    ensures submits { IfOk result (λ s. count_by is_submit s.lines ≤ 64) }
+    ensures only { (s : Script) → Spells text.now s → MatchResult result (λ t. t ≡ s) (λ e. e ≡ OutOfMemory) }
+    // A fault is the text's: the first line at fault, with its first reason.
+    ensures fault { IfErr result (IsFaultOf text.now) }
+    // What holds of each script.
+    ensures script { IfOk result IsScript }
 {
+    one_answer();
     read_text(alloc, text)
 }
 
 fn read_text(alloc: Global, text: &[u8]) -> Result<Script, ScriptFault>
-    ensures { MatchResult result (Spells text.now) (IsFault text.now) }
+    ensures { MatchResult result (Spells text.now) (IsFaultOf text.now) }
 {
-    check_table(alloc, text)?;
-    read_lines(alloc, text)
+    let head = read_head(text)?;
+    let Some((front, behind)) = split_table(text, head.front) else {
+        return Err(endless_fault(alloc, text, head));
+    };
+    let table = table_of(alloc, head.front, front)?;
+    match read_lines(alloc, behind) {
+        Ok(lines) => Ok(Script {
+            loads: head.loads,
+            table,
+            lines,
+        }),
+        Err(Stop::At { left, reason }) => Err(fault_behind(&text[..text.len() - left], reason)),
+        Err(Stop::Memory) => Err(ScriptFault::Memory),
+    }
 }
 
-/// The fault of the table's text, where it has one.
-fn check_table(alloc: Global, text: &[u8]) -> Result<(), ScriptFault>
-    ensures { MatchResult result (λ _. LacksTableFault text.now) (IsFault text.now) }
+/// The fault of the line behind these.
+fn fault_behind(front: &[u8], reason: ScriptReason) -> ScriptFault
+    ensures { result ≡ ScriptFault.At (line_behind front.now) reason }
 {
-    let Some((table, _)) = split_table(text, HEAD) else {
-        return Ok(());
-    };
-    match read_table(alloc, table) {
-        Ok(_) => Ok(()),
+    ScriptFault::At {
+        line: line_count(front) as u64 + 1,
+        reason,
+    }
+}
+
+/// The table whose text stands behind the head.
+fn table_of(alloc: Global, head: &[u8], text: &[u8]) -> Result<Table, ScriptFault>
+    ensures table { IfOk result (λ t. IsValid t × (text.now ≡ table_text t)) }
+    ensures fault { IfErr result (IsTableFault head.now text.now) }
+{
+    one_fault();
+    match read_table(alloc, text) {
+        Ok(table) => Ok(table),
         Err(TableFault::At { line, reason }) => Err(ScriptFault::At {
-            line: line + 2,
+            line: line_count(head) as u64 + line,
             reason: ScriptReason::Table(reason),
         }),
         Err(TableFault::Memory) => Err(ScriptFault::Memory),
     }
 }
 
-fn read_lines(alloc: Global, text: &[u8]) -> Result<Script, ScriptFault>
-    ensures { MatchResult result (Spells text.now) (IsLineFault text.now) }
+/// The fault of a text that has no line `end` behind its head.
+fn endless_fault(alloc: Global, text: &[u8], head: Head<'_>) -> ScriptFault
+    requires head { IsHead head.front.now head.loads }
+    requires endless { IsEndless head.front.now text.now head.behind.now }
+    ensures { IsFaultOf text.now result }
 {
-    let room = line_count(text);
-    let mut stage = Stage::Start;
-    let mut rest = text;
-    let mut line = 1;
-    while !rest.is_empty() {
-        let not_yet = ScriptFault::At {
-            line,
-            reason: ScriptReason::NotYet,
-        };
-        let Some((front, behind)) = split_line(rest) else {
-            return Err(not_yet);
-        };
-        let Some(next) = stage.after_line(alloc, room, front)? else {
-            return Err(not_yet);
-        };
-        stage = next;
-        rest = behind;
-        line += 1;
-    }
-    match stage.finished() {
-        Some(script) => Ok(script),
-        None => Err(ScriptFault::At {
-            line,
-            reason: ScriptReason::Close,
-        }),
+    match table_of(alloc, head.front, head.behind) {
+        Err(fault) => fault,
+        Ok(_) => fault_behind(text, ScriptReason::Word),
     }
 }
 
-/// A text has one answer, whoever gives it: a script and no fault, or a fault and no script.
-pub fn one_answer()
-    ensures script { (text : List ℕ) (s t : Script) → Spells text s → Spells text t → s ≡ t }
-    ensures either { (text : List ℕ) (s : Script) (line : ℕ) (r : ScriptReason) → Spells text s → IsFault text (At line r) → ⊥ }
-    ensures fault { (text : List ℕ) (m n : ℕ) (r q : ScriptReason) → IsFault text (At m r) → IsFault text (At n q) → (m ≡ n) × (r ≡ q) }
-{}
+/// The lines that a text spells up to its end, `close` among them.
+fn read_lines(alloc: Global, text: &[u8]) -> Result<Lines, Stop>
+    ensures lines { IfOk result (AreRead text.now) }
+    ensures stop { IfErr result (IsStopOf text.now) }
+{
+    let mut body = Body::new(alloc);
+    let mut rest = text;
+    while let Some((line, behind)) = cut(rest, b'\n') {
+        match body.said(line) {
+            Ok(said) => body.add(said)?,
+            Err(reason) => return Err(stopped_at(rest, reason)),
+        }
+        rest = behind;
+    }
+    if !rest.is_empty() {
+        return Err(stopped_at(rest, ScriptReason::Word));
+    }
+    if !body.closed {
+        return Err(stopped_at(rest, ScriptReason::Close));
+    }
+    Ok(body.lines)
+}
+
+fn stopped_at(rest: &[u8], reason: ScriptReason) -> Stop
+    ensures { result ≡ Stop.At (length rest.now) reason }
+{
+    Stop::At {
+        left: rest.len(),
+        reason,
+    }
+}
 
 /// How many lines end in the text.
-fn line_count(text: &[u8]) -> usize {
+fn line_count(text: &[u8]) -> usize
+    ensures count { result ≡ line_count text.now }
+    ensures small { result ≤ length text.now }
+{
     text.iter().filter(|byte| **byte == b'\n').count()
 }

@@ -1,55 +1,169 @@
-//! The words of a line.
+//! The words of a line, from the left.
 
-ghost use Rattle.std.specs.Prelude.{◌≡◌, ◌↔◌, option_map, IsTrue};
-ghost use Rattle.script_lang.specs.Reading.{parted, number_of, small_number_of, IsMarked};
+ghost use Rattle.std.specs.Prelude.{◌≡◌, ◌+◌, ◌-◌, ◌*◌, ◌<◌, ◌≤◌, ℕ, false, true, length, take, slice_index, Some, None, IfOk, if◌then◌else◌};
+ghost use Rattle.std.specs.List.{list_all};
+ghost use Rattle.std.specs.Char.{is_ascii_digit, digit_value};
+ghost use Rattle.std.specs.Str.Parse.{digits_value};
+ghost use Rattle.mrpc_table.specs.Lines.{in_64_bits};
+ghost use Rattle.script_lang.specs.Forms.{is_hexadecimal};
+ghost use Rattle.script_lang.specs.Reading.{seen_by, words_in, is_padded, words_behind, first_number, no_more, last_number, negated, hexadecimal_in, last_value, within};
 
-use memchr::memchr;
+use crate::fault::ScriptReason;
+use mrpc_table::Decimal;
 
-/// The bytes before the first space and those behind it; none where there is no space.
-pub(crate) fn split_word(line: &[u8]) -> Option<(&[u8], &[u8])>
-    ensures { option_map (λ p. (p.0.now, p.1.now)) result ≡ parted 32 line.now }
+/// What is left of a line behind some of its words: the words behind a space, or nothing.
+pub(crate) type Rest<'a> = Option<&'a [u8]>;
+
+/// The number with one digit more at its end.
+fn with_digit(number: Decimal, digit: u8) -> Decimal
+    requires from { 48 ≤ digit }
+    requires to { digit ≤ 57 }
+    ensures { (n : ℕ) → number ≡ in_64_bits n → result ≡ in_64_bits (n * 10 + (digit - 48)) }
 {
-    split_at_byte(line, b' ')
-}
-
-/// The bytes before the first line feed and those behind it; none where there is no line feed.
-pub(crate) fn split_line(text: &[u8]) -> Option<(&[u8], &[u8])>
-    ensures { option_map (λ p. (p.0.now, p.1.now)) result ≡ parted 10 text.now }
-{
-    split_at_byte(text, b'\n')
-}
-
-fn split_at_byte(bytes: &[u8], byte: u8) -> Option<(&[u8], &[u8])>
-    ensures { option_map (λ p. (p.0.now, p.1.now)) result ≡ parted byte bytes.now }
-{
-    let at = memchr(byte, bytes)?;
-    Some((&bytes[..at], &bytes[at + 1..]))
-}
-
-/// The number that a word spells: decimal digits without sign or leading zero, below 2^64.
-pub(crate) fn number(word: &[u8]) -> Option<u64>
-    ensures { result ≡ number_of word.now }
-{
-    if is_marked(word) {
-        return None;
-    }
-    match std::str::from_utf8(word) {
-        Ok(text) => text.parse().ok(),
-        Err(_) => None,
+    let Decimal::Small(front) = number else {
+        return Decimal::Large;
+    };
+    let Some(tens) = front.checked_mul(10) else {
+        return Decimal::Large;
+    };
+    match tens.checked_add(u64::from(digit - b'0')) {
+        Some(number) => Decimal::Small(number),
+        None => Decimal::Large,
     }
 }
 
-/// Whether the word begins with `+`, or with a 0 that isn't the whole of it.
-fn is_marked(word: &[u8]) -> bool
-    ensures { IsTrue result ↔ IsMarked word.now }
+/// The number that the decimal digits at the front spell, and how many they are.
+fn leading(text: &[u8]) -> (Decimal, usize)
+    ensures digits { list_all is_ascii_digit (take result.1 text.now) ≡ true }
+    ensures number { result.0 ≡ in_64_bits (digits_value 10 (take result.1 text.now)) }
+    ensures within { result.1 ≤ length text.now }
+    ensures end { result.1 < length text.now → is_ascii_digit (slice_index text.now result.1) ≡ false }
 {
-    matches!(word, [b'+', ..] | [b'0', _, ..])
+    let mut number = Decimal::Small(0);
+    for (i, byte) in text.iter().enumerate() {
+        if !byte.is_ascii_digit() {
+            return (number, i);
+        }
+        number = with_digit(number, *byte);
+    }
+    (number, text.len())
 }
 
-/// The number below 2^32 that a word spells.
-#[tactic(auto, unfolding(crate::specs::Reading::small_number_of))]
-pub(crate) fn small_number(word: &[u8]) -> Option<u32>
-    ensures { result ≡ small_number_of word.now }
+/// No digit, or a zero in front of others.
+fn is_padded(digits: &[u8]) -> bool
+    ensures { result ≡ is_padded digits.now }
 {
-    u32::try_from(number(word)?).ok()
+    matches!(digits, [] | [b'0', _, ..])
+}
+
+/// What is left behind a word that ends here.
+fn behind(tail: &[u8]) -> Result<Rest<'_>, ScriptReason>
+    ensures { seen_by words_in result ≡ words_behind tail.now }
+{
+    match tail {
+        [] => Ok(None),
+        [b' ', rest @ ..] => Ok(Some(rest)),
+        _ => Err(ScriptReason::Word),
+    }
+}
+
+/// The number that the first word spells, and what is left behind it.
+pub(crate) fn number(rest: Rest<'_>) -> Result<(Decimal, Rest<'_>), ScriptReason>
+    ensures { seen_by (λ p. (p.0, words_in p.1)) result ≡ first_number (words_in rest.entry) }
+{
+    let Some(text) = rest else {
+        return Err(ScriptReason::Word);
+    };
+    let (number, count) = leading(text);
+    if is_padded(&text[..count]) {
+        return Err(ScriptReason::Word);
+    }
+    let rest = behind(&text[count..])?;
+    Ok((number, rest))
+}
+
+/// Nothing is left.
+#[tactic(auto, unfolding(crate::specs::Reading::no_more))]
+pub(crate) fn no_more(rest: Rest<'_>) -> Result<(), ScriptReason>
+    ensures { result ≡ no_more (words_in rest.entry) }
+{
+    match rest {
+        None => Ok(()),
+        Some(_) => Err(ScriptReason::Word),
+    }
+}
+
+/// The number that the one word spells that is left.
+#[tactic(auto, unfolding(crate::specs::Reading::last_number))]
+pub(crate) fn last_number(rest: Rest<'_>) -> Result<Decimal, ScriptReason>
+    ensures { result ≡ last_number (words_in rest.entry) }
+{
+    let (number, rest) = number(rest)?;
+    no_more(rest)?;
+    Ok(number)
+}
+
+/// The word of a negative number, in two's complement.
+fn negated(number: Decimal) -> Decimal
+    ensures { result ≡ negated number }
+{
+    match number {
+        Decimal::Small(number) if number <= 1 << 63 => Decimal::Small(number.wrapping_neg()),
+        _ => Decimal::Large,
+    }
+}
+
+/// The value of a lower-case hexadecimal digit.
+fn hexadecimal_digit(byte: u8) -> Option<u64>
+    ensures { result ≡ (if is_hexadecimal byte then Some (digit_value byte) else None) }
+{
+    match byte {
+        b'0'..=b'9' => Some(u64::from(byte - b'0')),
+        b'a'..=b'f' => Some(u64::from(byte - b'a') + 10),
+        _ => None,
+    }
+}
+
+/// The number that 1 to 16 hexadecimal digits spell.
+fn hexadecimal(digits: &[u8]) -> Result<Decimal, ScriptReason>
+    ensures { result ≡ hexadecimal_in digits.now }
+{
+    if digits.is_empty() || digits.len() > 16 {
+        return Err(ScriptReason::Word);
+    }
+    let mut word: u64 = 0;
+    for digit in digits {
+        let Some(value) = hexadecimal_digit(*digit) else {
+            return Err(ScriptReason::Word);
+        };
+        word = word * 16 + value;
+    }
+    Ok(Decimal::Small(word))
+}
+
+/// What the one word that is left stores: a number of 64 bits, or a larger one where it is out of range.
+pub(crate) fn last_value(rest: Rest<'_>) -> Result<Decimal, ScriptReason>
+    ensures { result ≡ last_value (words_in rest.entry) }
+{
+    let Some(text) = rest else {
+        return Err(ScriptReason::Word);
+    };
+    if let Some(digits) = text.strip_prefix(b"-") {
+        Ok(negated(last_number(Some(digits))?))
+    } else if let Some(digits) = text.strip_prefix(b"0x") {
+        hexadecimal(digits)
+    } else {
+        last_number(rest)
+    }
+}
+
+/// The number, where it is in its range.
+pub(crate) fn within(least: u64, most: u64, number: Decimal) -> Result<u64, ScriptReason>
+    ensures is { result ≡ within least most number }
+    ensures to { IfOk result (λ n. n ≤ most) }
+{
+    match number {
+        Decimal::Small(number) if least <= number && number <= most => Ok(number),
+        _ => Err(ScriptReason::Number),
+    }
 }

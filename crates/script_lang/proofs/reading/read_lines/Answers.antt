@@ -1,26 +1,31 @@
-use Rattle.std.proofs.Common.{Some, None, sym, subst, ◌<◌, length, arith}
-use Rattle.script_lang.specs.Standing.{place_of, Takes}
-use Rattle.script_lang.proofs.Texts.{unfed, refused, onward, shrinks, some_bytes}
+use Rattle.std.proofs.Common.{◌≡◌, ◌≢◌, [], List, length, false, refl, sym, ap, subst, ◌∙◌, arith}
+use Rattle.std.specs.Prelude.{Result, Ok, Err}
+use Rattle.script_lang.specs.Stops.{ReadsTo, StopsAt, IsStopOf}
+use Rattle.script_lang.proofs.LineRuns.{reads_none, kept_fresh, on_line, at_fault, last_is, stop_unfed, stop_unclosed, some_bytes, no_bytes}
+use Rattle.script_lang.proofs.Verdicts.{seen, IsKept}
 use Rattle.script_lang.proofs.reading.read_lines.Goals as goal
 
-pub returns-in_default : goal.returns-in_default
-returns-in_default c =
-    unfed c.args.text.now c.loop-rest.line (place_of c.loop-rest.stage) c.loop-rest.rest.now c.loop-rest.invariant.reads (some_bytes c.loop-rest.rest.now c.loop-rest-test.ensures) (sym c.in_default.ensures)
+pub loop-line-init : goal.loop-line-init
+loop-line-init c = rw c.new-body.ensures (record { reads = reads_none c.args.text.now; kept = kept_fresh })
 
-pub returns-in_default-2 : goal.returns-in_default-2
-returns-in_default-2 c =
-    let none : Takes (place_of c.loop-rest.stage) c.in-Some.front.now None = subst (Takes (place_of c.loop-rest.stage) c.in-Some.front.now) c.in_default-2.is c.in_ok-next.ensures in
-    refused c.args.text.now c.loop-rest.line (place_of c.loop-rest.stage) c.loop-rest.rest.now c.in-Some.front.now c.in-Some.behind.now c.loop-rest.invariant.reads (some_bytes c.loop-rest.rest.now c.loop-rest-test.ensures) (sym c.in-Some.ensures) none
+pub returns-in-Err-clause-stop : goal.returns-in-Err-clause-stop
+returns-in-Err-clause-stop c =
+    let stop = at_fault c.args.text.now c.loop-line.body c.loop-line.rest.now c.in-Some.line.now c.in-Some.behind.now c.in-Err.reason c.loop-line.invariant.reads c.loop-line.invariant.kept c.in-Some.ensures.parts c.in-Err.ensures in
+    subst (IsStopOf c.args.text.now) (sym c.stopped_at.ensures) stop
 
-pub loop-rest-smaller : goal.loop-rest-smaller
-loop-rest-smaller c = shrinks c.loop-rest.rest.now c.in-Some.front.now c.in-Some.behind.now (sym c.in-Some.ensures)
+pub loop-line-preserved : goal.loop-line-preserved
+loop-line-preserved c =
+    let on = on_line c.args.text.now c.loop-line.body c.add.new.self c.loop-line.rest.now c.in-Some.line.now c.in-Some.behind.now c.in-Ok.said c.loop-line.invariant.reads c.loop-line.invariant.kept c.in-Some.ensures.parts c.in-Ok.ensures c.in_ok-add-in-Ok.ensures in
+    record { reads = on.reads; kept = on.kept }
 
-pub loop-rest-preserved : goal.loop-rest-preserved
-loop-rest-preserved c =
-    let some : Takes (place_of c.loop-rest.stage) c.in-Some.front.now (Some c.in-Some-2.next) = subst (Takes (place_of c.loop-rest.stage) c.in-Some.front.now) c.in-Some-2.is c.in_ok-next.ensures in
-    let shorter : length c.in-Some.behind.now < length c.loop-rest.rest.now = shrinks c.loop-rest.rest.now c.in-Some.front.now c.in-Some.behind.now (sym c.in-Some.ensures) in
-    record {
-      reads = onward c.args.text.now c.loop-rest.line (place_of c.loop-rest.stage) c.loop-rest.rest.now c.in-Some.front.now c.in-Some.behind.now some.0 (place_of c.in-Some-2.next) c.loop-rest.invariant.reads (sym c.in-Some.ensures) some.1 some.2;
-      kept = some.3;
-      room = omega (arith, shorter, c.loop-rest.invariant.room);
-    }
+pub returns-then-not-is_empty-clause-stop : goal.returns-then-not-is_empty-clause-stop
+returns-then-not-is_empty-clause-stop c =
+    let rest = c.loop-line.rest.now in
+    subst (IsStopOf c.args.text.now) (sym c.stopped_at-then-not-is_empty.ensures)
+    (stop_unfed c.args.text.now (seen c.loop-line.body) rest c.loop-line.invariant.reads (last_is rest c.in_default.ensures.parts) (some_bytes rest c.if-not-is_empty.ensures))
+
+pub returns-then-not-body-clause-stop : goal.returns-then-not-body-clause-stop
+returns-then-not-body-clause-stop c =
+    let rest = c.loop-line.rest.now in
+    subst (IsStopOf c.args.text.now) (sym c.stopped_at-then-not-body.ensures)
+    (stop_unclosed c.args.text.now (seen c.loop-line.body) rest c.loop-line.invariant.reads (no_bytes rest c.if-not-is_empty.ensures) c.if-not-body.true)

@@ -1,5 +1,44 @@
-use Rattle.script_lang.proofs.Faults.{with_table}
+use Rattle.std.proofs.Common.{◌≡◌, ◌-◌, List, ℕ, length, take, refl, sym, ap, subst, ◌∙◌, arith, inl, inr}
+use Rattle.std.proofs.lemmas.Result.{err_from_is_err_and}
+use Rattle.mrpc_table.specs.Text.{table_text}
+use Rattle.table_text.specs.TableText.{HasTableBehind}
+use Rattle.script_lang.specs.Stops.{StopsAt, IsStopOf}
+use Rattle.script_lang.specs.Texts.{IsFaultOf, line_behind}
+use Rattle.script_lang.proofs.WholeTexts.{table_fault_of, spelled, stop_is_fault, left_within}
 use Rattle.script_lang.proofs.reading.read_text.Goals as goal
 
-pub returns : goal.returns
-returns c = with_table c.args.text.now c.read_lines.result c.in_ok-check_table.ensures c.read_lines.ensures
+pub endless_fault-requires-clause-head : goal.endless_fault-requires-clause-head
+endless_fault-requires-clause-head c = c.in_ok-head.ensures.head.0
+
+pub endless_fault-requires-clause-endless : goal.endless_fault-requires-clause-endless
+endless_fault-requires-clause-endless c = record { text_is = c.in_ok-head.ensures.head.1; endless = λ table rest h. c.in_default.ensures.only table rest h }
+
+pub returns-in_err-table : goal.returns-in_err-table
+returns-in_err-table c =
+    let head = c.in_ok-head.head in
+    let p = err_from_is_err_and c.from_residual-in_err-table.result c.from_residual-in_err-table.ensures.1 in
+    rw (p.1, p.2)
+    (table_fault_of c.args.text.now head.front.now c.in-Some.front.now head.loads c.in_err-table.field-0.0 c.in_ok-head.ensures.head.0 (inl (c.in-Some.behind.now, c.in-Some.ensures.found)) c.in_err-table.ensures.fault)
+
+pub returns-in-Ok : goal.returns-in-Ok
+returns-in-Ok c =
+    let text = c.args.text.now in
+    let head = c.in_ok-head.head in
+    let table = c.in_ok-table.table in
+    let read = c.in_ok-table.ensures.table in
+    let behind = c.in-Some.behind.now in
+    let found : HasTableBehind head.front.now text (table_text table) behind = subst (λ (t : List ℕ). HasTableBehind head.front.now text t behind) read.1 c.in-Some.ensures.found in
+    spelled text head.front.now behind head.loads table c.in-Ok.lines c.in_ok-head.ensures.head.0 read.0 found c.in-Ok.ensures.lines
+
+pub returns-in-Err-At : goal.returns-in-Err-At
+returns-in-Err-At c =
+    let text = c.args.text.now in
+    let head = c.in_ok-head.head in
+    let table = c.in_ok-table.table in
+    let read = c.in_ok-table.ensures.table in
+    let behind = c.in-Some.behind.now in
+    let found : HasTableBehind head.front.now text (table_text table) behind = subst (λ (t : List ℕ). HasTableBehind head.front.now text t behind) read.1 c.in-Some.ensures.found in
+    let stop : StopsAt behind c.in-Err-At.left c.in-Err-At.reason = rw c.in-Err-At.field-0-is at c.in-Err-At.ensures.stop in
+    let fault_is = rw (c.in-Err-At.left-is, c.in-Err-At.reason-is) at c.fault_behind.ensures in
+    subst (IsFaultOf text) (sym fault_is)
+    (stop_is_fault text head.front.now behind head.loads table c.in-Err-At.left c.in-Err-At.reason c.in_ok-head.ensures.head.0 read.0 found stop)

@@ -1,18 +1,41 @@
-use Rattle.std.proofs.Common.{◌≡◌, ℕ, List, refl, sym, subst, ◌∙◌}
-use Rattle.std.specs.Str.Parse.{ParsesUnsigned}
-use Rattle.std.proofs.lemmas.Bool.{false≢true}
-use Rattle.script_lang.specs.Reading.{IsMarked}
-use Rattle.script_lang.proofs.Words.{number_of-marked, number_of-parsed, number_of-garbled}
+use Rattle.std.proofs.Common.{◌≡◌, ℕ, List, length, take, drop, Option, Some, Result, Ok, Err, Bor, refl, sym, ap, ◌∙◌, arith}
+use Rattle.std.proofs.lemmas.List.{take_rest}
+use Rattle.std.proofs.lemmas.Result.{err_from_is_err_and}
+use Rattle.mrpc_table.specs.Lines.{words_of}
+use Rattle.script_lang.proofs.FirstNumbers.{IsLed, number_padded, number_behind}
+use Rattle.script_lang.specs.Reading.{◌>>=◌, seen_by, words_in, words_behind, first_number}
+use Rattle.script_lang.specs.declared.fault.ScriptReason.{ScriptReason}
 use Rattle.script_lang.proofs.word.number.Goals as goal
 
-pub returns-then-is_marked : goal.returns-then-is_marked
-returns-then-is_marked c = sym (number_of-marked c.args.word.now (c.if-is_marked.ensures.0 refl))
+pub returns-in_default : goal.returns-in_default
+unfolding first_number
+returns-in_default c = rw c.in_default.is refl
 
-pub returns-in-Ok : goal.returns-in-Ok
-returns-in-Ok c =
-    let unmarked : IsMarked c.args.word.now → ⊥ = λ m. false≢true (c.if-is_marked.ensures.1 m) in
-    let e : c.in-Ok.text.now ≡ c.args.word.now = c.in-Ok.ensures.cases.0 in
-    c.ok.ensures.value ∙ number_of-parsed c.args.word.now c.parse.result unmarked (subst (λ (w : List ℕ). ParsesUnsigned 64 10 w c.parse.result) e c.parse.ensures.value.0)
+pub returns-then-is_padded : goal.returns-then-is_padded
+returns-then-is_padded c =
+    let l = c.leading-number.ensures in
+    number_padded c.in-Some.text.now c.leading-number.result.1 c.leading-number.result.0 (record { digits = l.digits; value = l.number; within = l.within; end = l.end })
+    (sym (c.if-is_padded.ensures {u = tt}))
+    ∙ ap (λ r. first_number (words_in r)) (sym c.in-Some.is)
 
-pub returns-in-Err : goal.returns-in-Err
-returns-in-Err c = sym (number_of-garbled c.args.word.now c.in-Err.ensures.cases.0)
+pub returns-in_err-rest : goal.returns-in_err-rest
+returns-in_err-rest c =
+    let l = c.leading-number.ensures in
+    let text = c.in-Some.text.now in
+    let n = c.leading-number.result.1 in
+    let p = err_from_is_err_and c.from_residual.result c.from_residual.ensures.1 in
+    let is : ◌≡◌ {A = Result (List (List ℕ)) ScriptReason} (Err c.in_err-rest.field-0.0) (words_behind (drop n text)) =
+    sym (ap (seen_by words_in) (c.in_err-rest.was {u = tt})) ∙ c.behind.ensures ∙ ap words_behind (take_rest text n) in
+    rw (p.1, p.2) (
+    number_behind text n c.leading-number.result.0 (Err c.in_err-rest.field-0.0) (record { digits = l.digits; value = l.number; within = l.within; end = l.end }) (sym (c.if-is_padded.ensures {u = tt})) is
+    ∙ ap (λ r. first_number (words_in r)) (sym c.in-Some.is))
+
+pub returns : goal.returns
+returns c =
+    let l = c.leading-number.ensures in
+    let text = c.in-Some.text.now in
+    let n = c.leading-number.result.1 in
+    let is : ◌≡◌ {A = Result (List (List ℕ)) ScriptReason} (Ok (words_in c.in_ok-rest.rest)) (words_behind (drop n text)) =
+    sym (ap (seen_by words_in) (c.in_ok-rest.was {u = tt})) ∙ c.behind.ensures ∙ ap words_behind (take_rest text n) in
+    number_behind text n c.leading-number.result.0 (Ok (words_in c.in_ok-rest.rest)) (record { digits = l.digits; value = l.number; within = l.within; end = l.end }) (sym (c.if-is_padded.ensures {u = tt})) is
+    ∙ ap (λ r. first_number (words_in r)) (sym c.in-Some.is)
