@@ -1,0 +1,6 @@
+mod Determined
+mod GivenLaws
+mod Leading
+mod Legality
+mod Opened
+mod Rows
