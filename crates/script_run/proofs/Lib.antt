@@ -1,0 +1,15 @@
+mod Accepting
+mod Ends
+mod GivenLaws
+mod GoingOn
+mod KnownBytes
+mod Lists
+mod Needs
+mod Opening
+mod Places
+mod Races
+mod Rows
+mod Sendings
+mod Submissions
+mod Taken
+mod Zipped

@@ -1,0 +1,4 @@
+pub mod Connection
+pub mod Replays
+pub mod Running
+pub mod Sending
