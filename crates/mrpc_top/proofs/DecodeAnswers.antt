@@ -5,17 +5,15 @@ use Rattle.mrpc_table.specs.declared.table.Table.{Table}
 use Rattle.frame_transport.specs.Frames.{IsFrame, bytes_of, joined, StandFrom, IsPartial, Splits, IsFaultAt}
 use Rattle.frame_transport.specs.declared.format.Frame.{Frame}
 use Rattle.frame_transport.specs.declared.fault.FeedFault.{FeedFault}
-use Rattle.frame_transport.proofs.FaultFacts.{none_before_length}
-use Rattle.frame_transport.proofs.Splitting.{frame_unique, splits_once}
 use Rattle.mrpc_top.specs.Reading.{IsAllOf}
 use Rattle.mrpc_top.specs.Decoding.{message_in, IsLineOf, AreLinesOf, IsFaultIn, StandInFront, IsDecoded, IsCutAt}
 use Rattle.mrpc_top.specs.Decoding.IsLineOf.{line_of_hello, line_of_call}
 use Rattle.mrpc_top.specs.Decoding.IsFaultIn.{no_method, in_payload}
 use Rattle.mrpc_top.specs.Decoding.IsCutAt.{in_frame, in_header, in_short_frame}
+use Rattle.mrpc_top.specs.DecodeInput.{Holds, IsTextFault}
 use Rattle.mrpc_top.specs.Command.{IsInput, DecodesText, HasDecodeFault}
 use Rattle.mrpc_top.specs.Command.HasDecodeFault.{too_long, fault_in_text, fault_in_stream}
-use Rattle.mrpc_top.proofs.MeaningLaws.{MeaningLaw}
-use Rattle.mrpc_top.proofs.TextAnswers.{no_text_fault, one_holding}
+use Rattle.mrpc_top.specs.Laws.{MeaningLaw}
 
 -- ---- the frames
 
@@ -33,12 +31,12 @@ whole_front start stream fs rest s = record { more = rest; whole = s.whole; each
 pub behind : (start : ℕ) (stream : List ℕ) (h : Frame) (hs : List Frame) (a : StandInFront start stream (h ∷ hs)) → StandInFront (start + length (bytes_of h)) (joined hs ++ a.more) hs
 behind start stream h hs a = record { more = a.more; whole = refl; each = All-tail IsFrame h hs a.each; places = a.places.1 }
 
-pub next : (start : ℕ) (stream : List ℕ) (h g : Frame) (hs gs : List Frame) (a : StandInFront start stream (h ∷ hs))
+pub next : MeaningLaw → (start : ℕ) (stream : List ℕ) (h g : Frame) (hs gs : List Frame) (a : StandInFront start stream (h ∷ hs))
     → StandInFront start stream (g ∷ gs) → (h ≡ g) × StandInFront (start + length (bytes_of h)) (joined hs ++ a.more) gs
-next start stream h g hs gs a b =
+next law start stream h g hs gs a b =
     let here : bytes_of h ++ (joined hs ++ a.more) ≡ bytes_of g ++ (joined gs ++ b.more) =
     sym (append_assoc (bytes_of h) (joined hs) a.more) ∙ sym a.whole ∙ b.whole ∙ append_assoc (bytes_of g) (joined gs) b.more in
-    let same = frame_unique h g (joined hs ++ a.more) (joined gs ++ b.more) (All-head IsFrame h hs a.each) (All-head IsFrame g gs b.each) here (a.places.0 ∙ sym b.places.0) in (
+    let same = law.frames.one_frame h g (joined hs ++ a.more) (joined gs ++ b.more) (All-head IsFrame h hs a.each) (All-head IsFrame g gs b.each) here (a.places.0 ∙ sym b.places.0) in (
       same.0,
       record {
         more = b.more;
@@ -52,50 +50,52 @@ none_in_front : (start : ℕ) (stream : List ℕ) (g : Frame) (gs : List Frame) 
 none_in_front start stream g gs a partial b = partial g (joined gs ++ b.more) (All-head IsFrame g gs b.each) (sym a.whole ∙ b.whole ∙ append_assoc (bytes_of g) (joined gs) b.more)
 
 -- where all whole frames of a stream have lines, each that stands in front has one
-line_of_frame : (T : Table) (start : ℕ) (stream text : List ℕ) (fs before : List Frame) (f : Frame) (a : StandInFront start stream fs)
+line_of_frame : MeaningLaw → (T : Table) (start : ℕ) (stream text : List ℕ) (fs before : List Frame) (f : Frame) (a : StandInFront start stream fs)
     → IsPartial a.more → AreLinesOf T fs text → StandInFront start stream (before ++ f ∷ []) → (line : List ℕ) × IsLineOf T f line
 unfolding behind
-line_of_frame T start stream text [] [] f a partial l b = absurd (none_in_front start stream f [] a partial b)
-line_of_frame T start stream text [] (g ∷ gs) f a partial l b = absurd (none_in_front start stream g (gs ++ f ∷ []) a partial b)
-line_of_frame T start stream text (h ∷ hs) [] f a partial l b = (l.0, subst (λ (k : Frame). IsLineOf T k l.0) (next start stream h f hs [] a b).0 l.2)
-line_of_frame T start stream text (h ∷ hs) (g ∷ gs) f a partial l b =
-    line_of_frame T (start + length (bytes_of h)) (joined hs ++ a.more) l.1 hs gs f (behind start stream h hs a) partial l.3 (next start stream h g hs (gs ++ f ∷ []) a b).1
+line_of_frame law T start stream text [] [] f a partial l b = absurd (none_in_front start stream f [] a partial b)
+line_of_frame law T start stream text [] (g ∷ gs) f a partial l b = absurd (none_in_front start stream g (gs ++ f ∷ []) a partial b)
+line_of_frame law T start stream text (h ∷ hs) [] f a partial l b = (l.0, subst (λ (k : Frame). IsLineOf T k l.0) (next law start stream h f hs [] a b).0 l.2)
+line_of_frame law T start stream text (h ∷ hs) (g ∷ gs) f a partial l b =
+    line_of_frame law T (start + length (bytes_of h)) (joined hs ++ a.more) l.1 hs gs f (behind start stream h hs a) partial l.3 (next law start stream h g hs (gs ++ f ∷ []) a b).1
 
 -- so none of them is at fault
 pub no_fault_in_front : MeaningLaw → (T : Table) (start : ℕ) (stream text : List ℕ) (fs before : List Frame) (rest : List ℕ) (f : Frame) (place : ℕ) (word : List ℕ)
     → Splits start stream fs rest → AreLinesOf T fs text → StandInFront start stream (before ++ f ∷ []) → IsFaultIn T f place word → ⊥
 unfolding whole_front
 no_fault_in_front law T start stream text fs before rest f place word s l b fault =
-    let line = line_of_frame T start stream text fs before f (whole_front start stream fs rest s) s.partial l b in
+    let line = line_of_frame law T start stream text fs before f (whole_front start stream fs rest s) s.partial l b in
     no_fault_in law T f line.0 place word line.1 fault
 
-nothing_at_fault : (place : ℕ) (rest : List ℕ) (fault : FeedFault) → rest ≡ [] → IsFaultAt place rest fault → ⊥
-nothing_at_fault place rest fault none first = none_before_length place rest (omega (arith, ap length none)) fault first
+nothing_at_fault : MeaningLaw → (place : ℕ) (rest : List ℕ) (fault : FeedFault) → rest ≡ [] → IsFaultAt place rest fault → ⊥
+nothing_at_fault law place rest fault none first = law.frames.short place rest (omega (arith, ap length none)) fault first
 
 pub no_stream_fault : MeaningLaw → (T : Table) (stream lines text : List ℕ) (place : ℕ) (word : List ℕ) → IsDecoded T stream lines → IsCutAt T 0 stream text place word → ⊥
 no_stream_fault law T stream lines text place word d (in_frame before f stand told fault) =
     no_fault_in_front law T 0 stream lines d.frames before [] f place word d.splits d.lines stand fault
 no_stream_fault law T stream lines text place word d (in_header frames rest fault splits told first is) =
-    nothing_at_fault (0 + length (joined frames)) rest fault (splits_once 0 stream frames d.frames rest [] splits d.splits).1 first
+    nothing_at_fault law (0 + length (joined frames)) rest fault (law.frames.splits_once 0 stream frames d.frames rest [] splits d.splits).1 first
 no_stream_fault law T stream lines text place word d (in_short_frame frames rest splits told clean some at is) =
-    some (splits_once 0 stream frames d.frames rest [] splits d.splits).1
+    some (law.frames.splits_once 0 stream frames d.frames rest [] splits d.splits).1
 
 -- ---- the whole
 
--- a stream that is decoded has no fault
-abbrev pub NoCut : Type 0
-NoCut = (T : Table) (stream told other word : List ℕ) (place : ℕ) → IsDecoded T stream told → IsCutAt T 0 stream other place word → ⊥
+-- a text is of one table and one stream, and then has no fault; and a stream that is decoded has none
+pub record DecodingLaw : Type 0 where
+  pub parts : (text stream other : List ℕ) (T U : Table) → Holds text T stream → Holds text U other → (T ≡ U) × (stream ≡ other)
+  pub no_text_fault : (text stream word : List ℕ) (T : Table) (line : ℕ) → Holds text T stream → IsTextFault text line word → ⊥
+  pub no_cut : (T : Table) (stream told other word : List ℕ) (place : ℕ) → IsDecoded T stream told → IsCutAt T 0 stream other place word → ⊥
 
-no_fault_of : NoCut → (text : List ℕ) (out out' : Option (List ℕ)) → length text ≤ 16777216 → DecodesText text out out' → HasDecodeFault text → ⊥
-no_fault_of no_cut text out out' short d (too_long long) = omega (arith, short, long)
-no_fault_of no_cut text out out' short d (fault_in_text line word fault) = no_text_fault text d.table d.stream line word d.holds fault
-no_fault_of no_cut text out out' short d (fault_in_stream U other told place word holds cut) =
-    let same = one_holding text d.table U d.stream other d.holds holds in
-    no_cut d.table d.stream d.lines told word place d.decoded
+no_fault_of : DecodingLaw → (text : List ℕ) (out out' : Option (List ℕ)) → length text ≤ 16777216 → DecodesText text out out' → HasDecodeFault text → ⊥
+no_fault_of law text out out' short d (too_long long) = omega (arith, short, long)
+no_fault_of law text out out' short d (fault_in_text line word fault) = law.no_text_fault text d.stream word d.table line d.holds fault
+no_fault_of law text out out' short d (fault_in_stream U other told place word holds cut) =
+    let same = law.parts text d.stream other d.table U d.holds holds in
+    law.no_cut d.table d.stream d.lines told word place d.decoded
     (subst (λ (s : List ℕ). IsCutAt d.table 0 s told place word) (sym same.1) (subst (λ (T : Table). IsCutAt T 0 other told place word) (sym same.0) cut))
 
 -- an input that was decoded has no fault
-pub no_decoding : NoCut → (left : Option (List ℕ)) (text found : List ℕ) (out out' : Option (List ℕ)) → left ≡ Some text → HasDecodeFault text → IsInput left found → DecodesText found out out' → ⊥
-no_decoding no_cut left text found out out' told fault input d =
+pub no_decoding : DecodingLaw → (left : Option (List ℕ)) (text found : List ℕ) (out out' : Option (List ℕ)) → left ≡ Some text → HasDecodeFault text → IsInput left found → DecodesText found out out' → ⊥
+no_decoding law left text found out out' told fault input d =
     let all : text ≡ found = subst (λ l. IsAllOf l found) told input.all in
-    no_fault_of no_cut found out out' input.short d (subst HasDecodeFault all fault)
+    no_fault_of law found out out' input.short d (subst HasDecodeFault all fault)

@@ -5,10 +5,10 @@ use Rattle.std.specs.Cmp.Lexicographic.{pointwise}
 use Rattle.std.proofs.lemmas.Bool.Decides.{Decides-eqb}
 use Rattle.std.proofs.lemmas.Result.{IfErr-at_err}
 use Rattle.std.proofs.lemmas.Slice.Eq.{strip_prefix_is}
-use Rattle.script_lang.specs.TableText.{HasTableBehind}
+use Rattle.table_text.specs.TableText.{HasTableBehind, IsEndless}
 use Rattle.mrpc_top.specs.declared.decoding.Cut.{Cut}
 use Rattle.mrpc_top.specs.declared.decoding.Cut.TheVariants.{Fault, Memory as NoMemory, Out}
-use Rattle.mrpc_top.specs.DecodeInput.{OnFault, IsEndless, head, first_line, second_line}
+use Rattle.mrpc_top.specs.DecodeInput.{OnFault, head, first_line, second_line}
 
 -- what follows from a property of a fault, holds of it
 pub on_fault : (P Q : ℕ → List ℕ → Type 0) (cut : Cut) → ((place : ℕ) (word : List ℕ) → P place word → Q place word) → OnFault P cut → OnFault Q cut
@@ -22,11 +22,11 @@ IsTakenOff front text rest = (pointwise eqb (take (length front) text) front ≡
 
 -- behind the first two lines no `end` line follows
 pub endless_of : (text : List ℕ) (behind rest : Bor (List ℕ)) → IsTakenOff first_line text behind.now → IsTakenOff second_line behind.now rest.now
-    → ((t stream : List ℕ) → HasTableBehind head text t stream → ⊥) → IsEndless text rest.now
+    → ((t stream : List ℕ) → HasTableBehind head text t stream → ⊥) → IsEndless head text rest.now
 endless_of text behind rest first second none =
     let first_is : text ≡ first_line ++ behind.now = strip_prefix_is Decides-eqb text first_line (Some behind) first in
     let second_is : behind.now ≡ second_line ++ rest.now = strip_prefix_is Decides-eqb behind.now second_line (Some rest) second in
-    record { whole = first_is ∙ ap (λ (t : List ℕ). first_line ++ t) second_is; endless = none }
+    record { text_is = first_is ∙ ap (λ (t : List ℕ). first_line ++ t) second_is; endless = none }
 
 -- what was told of a fault
 pub told_fault : {X : Type 0} (P : ℕ → List ℕ → Type 0) (r : Result X Cut) (cut : Cut) (place : ℕ) (word : Bor (List ℕ)) → r ≡ Err cut → cut ≡ Fault place word → IfErr r (OnFault P) → P place word.now

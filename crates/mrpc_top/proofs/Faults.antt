@@ -3,19 +3,23 @@ use Rattle.std.proofs.Common.{◌≡◌, ◌∙◌, ℕ, List, [], ◌∷◌, le
 use Rattle.std.specs.Prelude.{String}
 use Rattle.std.specs.declared.alloc.Global.{Global}
 use Rattle.script_lang.specs.declared.script.Script.{Script}
-use Rattle.script_lang.specs.Thin.{Spells}
-use Rattle.script_lang.proofs.Faults.{fault_or_spelled}
+use Rattle.script_lang.specs.Texts.{Spells, IsFault}
+use Rattle.script_lang.specs.declared.fault.ScriptReason.{ScriptReason}
 use Rattle.mrpc_top.specs.Reading.{IsAllOf}
 use Rattle.mrpc_top.specs.declared.command.Command.{Command}
 use Rattle.mrpc_top.specs.declared.command.Command.TheVariants.{Replay, Decode}
 use Rattle.mrpc_top.specs.Command.{IsInput, HasFault, Names, command_word}
 
-pub no_script : (left : Option (List ℕ)) (text found : List ℕ) (s : Script) → left ≡ Some text → HasFault text → IsInput left found → Spells found s → ⊥
-no_script left text found s told fault input spelled =
+-- a text isn't both a script's and at fault
+abbrev pub NotBoth : Type 0
+NotBoth = (text : List ℕ) (s : Script) (line : ℕ) (r : ScriptReason) → Spells text s → IsFault text line r → ⊥
+
+pub no_script : NotBoth → (left : Option (List ℕ)) (text found : List ℕ) (s : Script) → left ≡ Some text → HasFault text → IsInput left found → Spells found s → ⊥
+no_script not_both left text found s told fault input spelled =
     let all : IsAllOf (Some text) found = subst (λ l. IsAllOf l found) told input.all in
     let same : Spells text s = subst (λ t. Spells t s) (sym all) spelled in
     let short : length found ≡ length text = subst (λ t. length t ≡ length text) all refl in
-    ⊎_elim (λ long. absurd (omega (arith, long, short, input.short))) (λ f. fault_or_spelled text s f.0 f.1 same f.2) fault
+    ⊎_elim (λ long. absurd (omega (arith, long, short, input.short))) (λ f. not_both text s f.0 f.1 same f.2) fault
 
 first_byte : List (List ℕ) → ℕ
 first_byte words = get_or (get_or words 0 []) 0 0

@@ -4,13 +4,11 @@ use Rattle.std.specs.declared.alloc.Global.{Global}
 use Rattle.std.specs.Fmt.{decimal}
 use Rattle.std.specs.Io.KnownBytes.{Appends}
 use Rattle.script_lang.specs.declared.fault.ScriptReason.{ScriptReason}
-use Rattle.script_lang.specs.declared.fault.ScriptFault.TheVariants.{At}
 use Rattle.script_lang.specs.declared.script.Script.{Script}
-use Rattle.script_lang.specs.Thin.{Spells}
-use Rattle.script_lang.specs.Answers.{IsFault}
+use Rattle.script_lang.specs.Texts.{Spells, IsFault}
 use Rattle.script_lang.specs.Reason.{reason_word}
+use Rattle.script_run.specs.Replays.{Replays}
 use Rattle.mrpc_top.specs.Reading.{IsAllOf, ReadsPast}
-use Rattle.mrpc_top.specs.Replay.{Replays}
 use Rattle.mrpc_top.specs.DecodeInput.{Holds, IsTextFault}
 use Rattle.mrpc_top.specs.Decoding.{IsDecoded, IsCutAt}
 use Rattle.mrpc_top.specs.declared.command.Command.{Command}
@@ -51,7 +49,7 @@ pub record IsInput (left : Option (List ℕ)) (text : List ℕ) : Type 0 where
 pub record Refuses (text : List ℕ) (out out' : Option (List ℕ)) : Type 0 where
   pub line : ℕ
   pub reason : ScriptReason
-  pub fault : IsFault text (At line reason)
+  pub fault : IsFault text line reason
   pub written : Appends out out' (fault_line line (reason_word reason))
 
 -- an input has a fault: it is too long, or its text has a first fault; the fault's line was written
@@ -77,7 +75,7 @@ pub record IsScript (left : Option (List ℕ)) : Type 0 where
 
 -- a text has a fault: it is too long for an input, or a line is at fault
 abbrev pub HasFault : List ℕ → Type 0
-HasFault text = (input_limit < length text) ⊎ ((line : ℕ) × (reason : ScriptReason) × IsFault text (At line reason))
+HasFault text = (input_limit < length text) ⊎ ((line : ℕ) × (reason : ScriptReason) × IsFault text line reason)
 
 -- a text is a table's text and whole frames behind it, and their lines were written
 pub record DecodesText (text : List ℕ) (out out' : Option (List ℕ)) : Type 0 where

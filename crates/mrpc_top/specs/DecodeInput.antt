@@ -1,12 +1,12 @@
 -- The input of `decode`: two lines, the text of a table, an `end` line, and a stream of frames.
-use Rattle.std.specs.Prelude.{◌≡◌, ◌≢◌, ◌⊎◌, ℕ, ◌+◌, ◌==◌, List, ◌++◌, codes, count_by}
+use Rattle.std.specs.Prelude.{◌≡◌, ◌≢◌, ℕ, ◌+◌, ◌==◌, List, ◌++◌, codes, count_by}
 use Rattle.mrpc_table.specs.Valid.{IsValid}
 use Rattle.mrpc_table.specs.Text.{table_text}
 use Rattle.table_text.specs.Faults.{IsFirstFault}
 use Rattle.table_text.specs.Reason.{reason_word}
 use Rattle.mrpc_table.specs.declared.table.Table.{Table}
 use Rattle.table_text.specs.declared.fault.TableReason.{TableReason}
-use Rattle.script_lang.specs.TableText.{HasTableBehind}
+use Rattle.table_text.specs.TableText.{HasTableBehind, IsEndless, IsTableBehind}
 use Rattle.mrpc_top.specs.declared.decoding.Cut.{Cut}
 use Rattle.mrpc_top.specs.declared.decoding.Cut.TheVariants.{Fault, Memory, Out}
 
@@ -31,15 +31,6 @@ pub record Holds (text : List ℕ) (T : Table) (stream : List ℕ) : Type 0 wher
   pub valid : IsValid T
   pub parts : HasTableBehind head text (table_text T) stream
 
--- no `end` line follows the first two, so that all the rest is the text of a table
-pub record IsEndless (text table : List ℕ) : Type 0 where
-  pub whole : text ≡ head ++ table
-  pub endless : (t stream : List ℕ) → HasTableBehind head text t stream → ⊥
-
--- this is the text of the table: up to an `end` line, or all the rest
-abbrev pub IsTableText : List ℕ → List ℕ → Type 0
-IsTableText text table = ((stream : List ℕ) × HasTableBehind head text table stream) ⊎ IsEndless text table
-
 -- the text of a table, whose first line is the third of an input, has this fault on that line of the input
 pub record IsFaultOfTable (table : List ℕ) (line : ℕ) (word : List ℕ) : Type 0 where
   pub at : ℕ
@@ -50,7 +41,15 @@ pub record IsFaultOfTable (table : List ℕ) (line : ℕ) (word : List ℕ) : Ty
 
 -- the fault of the text, with its line: of the first two lines, of the table, or a missing `end` line
 pub data IsTextFault (text : List ℕ) (line : ℕ) (word : List ℕ) : Type 0 where
-  no_first_line : ((rest : List ℕ) → text ≢ first_line ++ rest) → line ≡ 1 → word ≡ codes "Header" → IsTextFault text line word
-  no_second_line : (rest : List ℕ) → text ≡ first_line ++ rest → ((more : List ℕ) → rest ≢ second_line ++ more) → line ≡ 2 → word ≡ codes "Word" → IsTextFault text line word
-  in_table : (table : List ℕ) → IsTableText text table → IsFaultOfTable table line word → IsTextFault text line word
-  no_end : (T : Table) → IsValid T → IsEndless text (table_text T) → line ≡ count_by (λ byte. byte == 10) text + 1 → word ≡ codes "Word" → IsTextFault text line word
+  no_first_line :
+      ((rest : List ℕ) → text ≢ first_line ++ rest) → line ≡ 1 → word ≡ codes "Header"
+      → IsTextFault text line word
+  no_second_line :
+      (rest : List ℕ) → text ≡ first_line ++ rest → ((more : List ℕ) → rest ≢ second_line ++ more)
+      → line ≡ 2 → word ≡ codes "Word"
+      → IsTextFault text line word
+  in_table : (table : List ℕ) → IsTableBehind head text table → IsFaultOfTable table line word → IsTextFault text line word
+  no_end :
+      (T : Table) → IsValid T → IsEndless head text (table_text T)
+      → line ≡ count_by (λ byte. byte == 10) text + 1 → word ≡ codes "Word"
+      → IsTextFault text line word

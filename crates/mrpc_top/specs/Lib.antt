@@ -1,7 +1,6 @@
 pub mod Command
-pub mod Copying
 pub mod DecodeInput
 pub mod Decoding
+pub mod Laws
 pub mod Reading
-pub mod Replay
 pub mod Telling

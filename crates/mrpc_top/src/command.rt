@@ -5,22 +5,22 @@ ghost use Rattle.std.specs.Io.KnownBytes.{Appends};
 ghost use Rattle.mrpc_base.specs.Faults.{HasCause};
 ghost use Rattle.mrpc_table.specs.declared.table.Table.{Table};
 ghost use Rattle.script_lang.specs.declared.script.Script.{Script};
-ghost use Rattle.script_lang.specs.Thin.{Spells};
+ghost use Rattle.script_lang.specs.Texts.{Spells};
+ghost use Rattle.script_run.specs.Replays.{Replays};
 ghost use Rattle.mrpc_top.specs.DecodeInput.{Holds, IsTextFault};
 ghost use Rattle.mrpc_top.specs.Decoding.{IsDecoded, IsCutAt};
-ghost use Rattle.mrpc_top.specs.Replay.{Replays};
 ghost use Rattle.mrpc_top.specs.Command.{command_word, IsReplay, IsDecode, IsCommand, Names, IsRefused, IsScript, Refuses, Runs, HasFault, Decodes, DecodesText, IsCutShort, CutsText, HasDecodeFault, fault_line};
 
 use crate::decode_input::read_head;
 use crate::decoding::{Cut, decode_stream};
+use crate::laws::{meaning_law, text_law};
 use crate::reading::{INPUT_LIMIT, Input, read_input};
-use crate::replay::{Stop, replay};
 use itoa::Buffer;
 use mrpc_base::{Sink, Source, write_all};
 use mrpc_table::{Bytes, Memory};
-use script_lang::{ScriptFault, read_script};
+use script_lang::{ScriptFault, one_answer, read_script};
+use script_run::{Stop, run_script};
 use std::alloc::Global;
-use wire_decode::{meaning_or_fault, one_fault, one_meaning};
 
 /// The work is done.
 pub const DONE: u8 = 0;
@@ -45,9 +45,8 @@ pub const WIRE_FAILED: u8 = 6;
 
 /// Runs the command that the words name, and answers its exit status.
 ///
-/// `replay` reads a script from `input`, runs it, and writes the audit to `out` and the frames to
-/// `wire`. The script may be thin for now (`script_lang`); its first fault is written to `out` as one
-/// line `fault LINE REASON`.
+/// `replay` reads a script from `input`, runs it, and writes the audit to `out` and the frames to `wire`. The first
+/// fault of a text that is no script (`script_lang` says which are) is written to `out` as one line `fault LINE REASON`.
 ///
 /// `decode` reads the line `mrpc-decode 1`, the line `table`, the canonical text of a table and the line
 /// `end`, and behind them frames to the end of the input. For each frame it writes a line to `out`:
@@ -116,9 +115,8 @@ pub fn one_decoding()
         → IsCutAt T 0 stream other at spelled → (place ≡ at) × (word ≡ spelled) × (told ≡ other) }
     ensures no_cut { (T : Table) (stream told other word : List ℕ) (place : ℕ) → IsDecoded T stream told → IsCutAt T 0 stream other place word → ⊥ }
 {
-    one_meaning();
-    one_fault();
-    meaning_or_fault();
+    text_law();
+    meaning_law();
 }
 
 /// A command of the program.
@@ -153,6 +151,7 @@ fn run<S: Source, K: Sink, W: Sink>(
     ensures unsent { result ≡ INPUT_FAILED → wire.new ≡ wire.old }
     ensures faultless { result ≡ WIRE_FAILED → (command ≡ Command.Replay) × IsScript (S.left input.old) }
 {
+    one_answer();
     one_decoding();
     match read_input(alloc, input) {
         Input::Whole(text) => match command {
@@ -201,7 +200,7 @@ fn replay_text<K: Sink, W: Sink>(alloc: Global, text: &[u8], out: &mut K, wire: 
     ensures faultless { result ≡ WIRE_FAILED → (s : Script) × Spells text.now s }
 {
     match read_script(alloc, text) {
-        Ok(script) => match replay(alloc, &script, out, wire) {
+        Ok(script) => match run_script(alloc, &script, out, wire) {
             Ok(()) => DONE,
             Err(Stop::Memory) => NO_MEMORY,
             Err(Stop::Out) => OUTPUT_FAILED,

@@ -7,9 +7,8 @@ ghost use Rattle.mrpc_top.specs.DecodeInput.{OnFault, Holds, IsTextFault, IsFaul
 
 use crate::decoding::Cut;
 use mrpc_table::Table;
-use script_lang::split_table;
 use std::alloc::Global;
-use table_text::{TableFault, read_table};
+use table_text::{TableFault, one_fault, read_table, split_table};
 
 const FIRST_LINE: &[u8] = b"mrpc-decode 1\n";
 
@@ -53,6 +52,7 @@ fn read_lines(alloc: Global, text: &[u8]) -> Result<Table, Cut>
     ensures cut { IfErr result (OnFault (IsFaultOfTable text.now)) }
     ensures not_out { result ≢ Err Cut.Out }
 {
+    one_fault();
     match read_table(alloc, text) {
         Ok(table) => Ok(table),
         Err(TableFault::At { line, reason }) => Err(fault(line + 2, reason.word())),

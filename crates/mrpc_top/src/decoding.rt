@@ -10,6 +10,7 @@ ghost use Rattle.mrpc_top.specs.DecodeInput.{OnFault};
 ghost use Rattle.mrpc_top.specs.Decoding.{IsLineOf, IsFaultIn, IsFaultOfHeader, IsDecoded, IsCutAt, hello, hello_line, message_in, call_line};
 ghost use Rattle.mrpc_top.specs.Telling.{Gave, StopsIn, Tells};
 
+use crate::laws::frame_law;
 use call_ledger::{put_hex, put_number};
 use frame_transport::{Feed, FeedFault, Frame, HEADER_LEN, HELLO, REQUEST};
 use mrpc_base::{Sink, write_all};
@@ -60,6 +61,7 @@ pub(crate) fn decode_stream<K: Sink>(
     ensures cut { IfErr result (OnFault (λ place word. (text : List ℕ) × IsCutAt table.now 0 stream.now text place word × Appends (K.written out.old) (K.written out.new) text)) }
     ensures out_cause { HasCause (result ≡ Err Cut.Out) (K.faults out.old) (K.faults out.new) }
 {
+    frame_law();
     let mut feed = Feed::new(alloc);
     let mut rest = stream;
     while !rest.is_empty() {
@@ -112,6 +114,7 @@ fn tell_piece(
     ensures cut { IfErr result (OnFault (λ place word. (text : List ℕ) × (lines.new ≡ lines.old ++ text) × ((more : List ℕ) → IsCutAt table.now feed.old.place (feed.old.bytes ++ (piece.now ++ more)) text place word))) }
     ensures not_out { result ≢ Err Cut.Out }
 {
+    frame_law();
     let fed = feed.feed(piece);
     tell_waiting(alloc, table, feed, lines)?;
     match fed {
@@ -150,6 +153,7 @@ fn tell_waiting(alloc: Global, table: &Table, feed: &mut Feed, lines: &mut Bytes
     ensures cut { IfErr result (OnFault (λ place word. (text : List ℕ) × (lines.new ≡ lines.old ++ text) × StopsIn table.now feed.old text place word)) }
     ensures not_out { result ≢ Err Cut.Out }
 {
+    frame_law();
     while let Some(frame) = feed.next() {
         tell(alloc, table, &frame, lines)?;
     }

@@ -9,11 +9,10 @@
 #![tactic(auto)]
 
 mod command;
-mod copying;
 mod decode_input;
 mod decoding;
+mod laws;
 mod reading;
-mod replay;
 
 pub use command::{
     DONE, FAULTY_INPUT, INPUT_FAILED, NO_COMMAND, NO_MEMORY, OUTPUT_FAILED, WIRE_FAILED,

@@ -1,5 +1,5 @@
 use Rattle.std.proofs.Common.{inr, subst}
-use Rattle.script_lang.specs.Thin.{Spells}
+use Rattle.script_lang.specs.Texts.{Spells}
 use Rattle.mrpc_top.specs.Command.{IsInput, CutsText, DecodesText}
 use Rattle.mrpc_top.proofs.DecodeAnswers.{no_decoding}
 use Rattle.mrpc_top.proofs.Faults.{no_script}
@@ -8,8 +8,8 @@ use Rattle.mrpc_top.proofs.command.run.Goals as goal
 pub returns-in-Replay-clause-refused : goal.returns-in-Replay-clause-refused
 returns-in-Replay-clause-refused g c text told replay fault =
     let input : IsInput (g.S.Source.left c.args.input.now) c.in-Whole.text.items = record { all = c.in-Whole.ensures.whole.1; short = c.in-Whole.ensures.whole.0 } in (
-      λ done. let d = c.replay_text.ensures.done done in no_script _ text c.in-Whole.text.items d.0 told fault input (subst (λ t. Spells t d.0) c.deref.ensures.value d.1),
-      λ failed. let d = c.replay_text.ensures.faultless failed in no_script _ text c.in-Whole.text.items d.0 told fault input (subst (λ t. Spells t d.0) c.deref.ensures.value d.1),
+      λ done. let d = c.replay_text.ensures.done done in no_script c.one_answer.ensures.either _ text c.in-Whole.text.items d.0 told fault input (subst (λ t. Spells t d.0) c.deref.ensures.value d.1),
+      λ failed. let d = c.replay_text.ensures.faultless failed in no_script c.one_answer.ensures.either _ text c.in-Whole.text.items d.0 told fault input (subst (λ t. Spells t d.0) c.deref.ensures.value d.1),
     )
 
 pub returns-in-Whole-clause-cut_short : goal.returns-in-Whole-clause-cut_short
@@ -20,5 +20,5 @@ returns-in-Whole-clause-cut_short g c faulty decode =
 pub returns-in-Whole-clause-undecoded : goal.returns-in-Whole-clause-undecoded
 returns-in-Whole-clause-undecoded g c text told decode fault done =
     let input : IsInput (g.S.Source.left c.args.input.now) c.in-Whole.text.items = record { all = c.in-Whole.ensures.whole.1; short = c.in-Whole.ensures.whole.0 } in
-    no_decoding c.one_decoding.ensures.no_cut _ text c.in-Whole.text.items _ _ told fault input
+    no_decoding (record { parts = c.one_decoding.ensures.parts; no_text_fault = c.one_decoding.ensures.no_text_fault; no_cut = c.one_decoding.ensures.no_cut }) _ text c.in-Whole.text.items _ _ told fault input
     (subst (λ t. DecodesText t (g.K.Sink.written c.args.out.now) (g.K.Sink.written c.decode_text.new.out)) c.deref-in-Decode.ensures.value (c.decode_text.ensures.done done))

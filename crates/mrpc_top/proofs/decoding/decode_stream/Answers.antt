@@ -16,7 +16,7 @@ loop-rest-init g c = (
     done = [];
     text = [];
     stream_is = refl;
-    tells = subst (Tells c.args.table.now 0 [] []) (sym c.new-feed.ensures) (tells_nothing c.args.table.now);
+    tells = subst (Tells c.args.table.now 0 [] []) (sym c.new-feed.ensures) (tells_nothing c.frame_law.ensures c.args.table.now);
     appends = appends-nothing (g.K.Sink.written c.args.out.now);
   },
   refl,
@@ -36,7 +36,7 @@ returns-in_err-told-clause-cut g c =
     λ place word h.
     let written : c.as_slice.result.now ≡ h.0 = c.as_slice.ensures ∙ h.1 ∙ ap (λ (bs : List ℕ). bs ++ h.0) c.new-lines.ensures in (
       before.0.text ++ h.0,
-      subst (λ (bs : List ℕ). IsCutAt T 0 bs (before.0.text ++ h.0) place word) (sym stream) (cut_behind _ _ _ _ _ _ _ _ _ before.0.tells (h.2 behind)),
+      subst (λ (bs : List ℕ). IsCutAt T 0 bs (before.0.text ++ h.0) place word) (sym stream) (cut_behind c.frame_law.ensures _ _ _ _ _ _ _ _ _ before.0.tells (h.2 behind)),
       appends-more _ _ _ _ _ before.0.appends (subst (Appends (g.K.Sink.written c.loop-rest.out) (g.K.Sink.written c.write_all.new.out)) written (c.if-not-write_all.ensures.done refl)),
     ) in
     let same = err_from_is_err_and c.from_residual.result c.from_residual.ensures.1 in
@@ -54,7 +54,7 @@ loop-rest-preserved g c =
         done = before.0.done ++ piece;
         text = before.0.text ++ told.0;
         stream_is = before.0.stream_is ∙ ap (λ (bs : List ℕ). before.0.done ++ bs) c.split_at.ensures.by_index.0 ∙ sym (append_assoc before.0.done piece behind);
-        tells = tells_more _ _ _ _ _ _ _ _ before.0.tells told.2;
+        tells = tells_more c.frame_law.ensures _ _ _ _ _ _ _ _ before.0.tells told.2;
         appends = appends-more _ _ _ _ _ before.0.appends (subst (Appends (g.K.Sink.written c.loop-rest.out) (g.K.Sink.written c.write_all.new.out)) written (c.if-not-write_all.ensures.done refl));
       },
       same ∙ before.1,

@@ -25,7 +25,7 @@ returns-in_err-tell_waiting-clause-cut c =
 pub returns-in-Ok-clause-told : goal.returns-in-Ok-clause-told
 returns-in-Ok-clause-told c =
     let gave = c.in_ok-tell_waiting.ensures.gave in
-    (gave.0, gave.1, tells_of _ _ _ _ _ _ c.in-Ok.ensures.ok c.in-Ok.ensures.clean gave.2 c.requires.none_behind)
+    (gave.0, gave.1, tells_of c.frame_law.ensures _ _ _ _ _ _ c.in-Ok.ensures.ok c.in-Ok.ensures.clean gave.2 c.requires.none_behind)
 
 pub returns-in-Err-clause-cut : goal.returns-in-Err-clause-cut
 returns-in-Err-clause-cut c =
@@ -35,5 +35,5 @@ returns-in-Err-clause-cut c =
     let gave = c.in_ok-tell_waiting.ensures.gave in
     let cut : (place : ℕ) (word : List ℕ) → IsFaultOfHeader c.in-Err.fault place word
     → (text : List ℕ) × (lines ≡ c.args.lines.now ++ text) × ((more : List ℕ) → IsCutAt T old.place (old.bytes ++ (c.args.piece.now ++ more)) text place word) =
-    λ place word fault. (gave.0, gave.1, cut_in_header _ _ _ _ _ _ _ _ _ c.in-Err.ensures.stops gave.2 fault) in
+    λ place word fault. (gave.0, gave.1, cut_in_header c.frame_law.ensures _ _ _ _ _ _ _ _ _ c.in-Err.ensures.stops gave.2 fault) in
     on_fault _ _ cut _ c.cut_by.ensures.fault

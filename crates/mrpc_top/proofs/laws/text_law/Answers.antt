@@ -1,0 +1,9 @@
+use Rattle.mrpc_top.proofs.laws.text_law.Goals as goal
+
+pub returns : goal.returns
+returns c = record {
+  one_behind = c.one_table_behind.ensures.one;
+  one_first = c.one_fault.ensures.one;
+  none_first = c.one_fault.ensures.none;
+  one_each = c.one_text.ensures;
+}
