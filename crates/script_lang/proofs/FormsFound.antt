@@ -1,15 +1,14 @@
 -- The form that the words of a line have: one at most, and found by the first of them.
-use Rattle.std.proofs.Common.{◌≡◌, ◌≢◌, ◌⊎◌, ℕ, ◌+◌, ◌<◌, ◌≤◌, ◌==◌, ◌&&◌, ◌||◌, zero, suc, get_or, Bool, true, false, cond, List, [], ◌∷◌, ◌++◌, codes, length, drop, Option, Some, None, refl, sym, ap, subst, ◌∙◌, arith, inl, inr, eq-eqb}
+use Rattle.std.proofs.Common.{◌≡◌, ℕ, ◌<◌, ◌==◌, ◌&&◌, zero, suc, get_or, Bool, true, false, cond, List, [], ◌∷◌, codes, length, drop, Option, Some, None, refl, sym, ap, subst, ◌∙◌, arith, inl, inr}
 use Rattle.std.specs.Prelude.{nat_lt, nat_le, option_map, Contains, if◌then◌else◌}
 use Rattle.std.specs.List.{list_all, list_any, onto_first}
 use Rattle.std.specs.Option.{option_and_then}
 use Rattle.std.specs.Str.{bytes_eq}
-use Rattle.std.specs.Str.Parse.{digits_value}
-use Rattle.std.proofs.lemmas.Bool.{eqb-true, ltb-true, leb-true, lt-ltb, le-leb, and_parts, and_from, cases_Bool, or_left, or_right, or_cases, false≢true}
+use Rattle.std.proofs.lemmas.Bool.{eqb-true, ltb-true, leb-true, lt-ltb, le-leb, and_parts, or_left, or_right, or_cases, false≢true}
 use Rattle.std.proofs.lemmas.Option.{same_Some, cond_some}
 use Rattle.std.proofs.lemmas.Slice.Eq.{bytes_eq-Decides}
 use Rattle.mrpc_table.specs.Lines.{words_of, number_of}
-use Rattle.script_lang.specs.Forms.{Value, plain, negative, hexadecimal, Form, conn, store, race, submit, reply, drain, close, IsNumber, is_hexadecimal, AreHexadecimal, IsValue, AreWordsOf}
+use Rattle.script_lang.specs.Forms.{Value, plain, negative, hexadecimal, Form, conn, store, race, submit, reply, drain, close, is_hexadecimal, AreHexadecimal, IsValue, AreWordsOf}
 use Rattle.script_lang.specs.Offences.{later_words, IsSkipped, IsLater, IsForm}
 use Rattle.script_lang.specs.Reading.{are_hexadecimal, begins_with, is_later_word}
 use Rattle.script_lang.proofs.FirstNumbers.{has_word}

@@ -1,11 +1,11 @@
 -- The lines in front of a table's text.
-use Rattle.std.proofs.Common.{◌≡◌, ◌≢◌, ◌⊎◌, ℕ, zero, suc, ◌+◌, ◌-◌, ◌^◌, ◌<◌, ◌≤◌, ◌==◌, ◌&&◌, ◌||◌, not, Bool, true, false, cond, List, [], ◌∷◌, ◌++◌, codes, length, get_or, take, drop, All, Option, Some, None, Result, Ok, Err, refl, sym, ap, subst, ◌∙◌, append_assoc, arith, inl, inr, eq-eqb}
-use Rattle.std.specs.Prelude.{Contains, option_map}
+use Rattle.std.proofs.Common.{◌≡◌, ◌≢◌, ℕ, zero, suc, ◌<◌, ◌==◌, ◌||◌, not, true, List, [], ◌∷◌, ◌++◌, codes, length, get_or, drop, Option, Some, None, Result, Ok, Err, refl, sym, ap, subst, ◌∙◌, append_assoc, arith, inl, inr, eq-eqb}
+use Rattle.std.specs.Prelude.{option_map}
 use Rattle.std.specs.List.{list_all}
 use Rattle.std.specs.Char.{is_ascii_digit}
 use Rattle.std.specs.Str.Parse.{digits_value}
 use Rattle.std.proofs.lemmas.Bool.{and_parts, leb-true, false≢true}
-use Rattle.std.proofs.lemmas.List.{append_cancel_left, length-append, take_at, drop_at}
+use Rattle.std.proofs.lemmas.List.{append_cancel_left}
 use Rattle.std.proofs.lemmas.List.Elements.{Contains-append_cases}
 use Rattle.std.proofs.lemmas.Option.{same_Some, cond_some}
 use Rattle.mrpc_table.specs.Lines.{pieces_of, is_decimal, number_of, in_64_bits}
@@ -13,10 +13,10 @@ use Rattle.mrpc_table.specs.declared.words.Decimal.{Decimal}
 use Rattle.script_lang.specs.Forms.{IsNumber}
 use Rattle.script_lang.specs.Heads.{HasLimit, IsLimitFault}
 use Rattle.script_lang.specs.Reading.{within}
-use Rattle.script_lang.specs.Texts.{IsOneLine, first_line, table_line, loads_line, IsLimit, IsHead, usual, limited, IsFault, no_first_line, no_second_line, no_limit, no_third_line}
+use Rattle.script_lang.specs.Texts.{IsOneLine, first_line, table_line, loads_line, IsLimit, IsFault, no_second_line, no_limit, no_third_line}
 use Rattle.script_lang.specs.declared.fault.ScriptReason.{ScriptReason}
 use Rattle.script_lang.specs.declared.fault.ScriptReason.TheVariants.{Header, Table, Word, Number, Known, Unknown, Place, NotYet, Close, After}
-use Rattle.script_lang.proofs.LineRuns.{has_piece, pieces_line, cut_is, last_is, same_pieces}
+use Rattle.script_lang.proofs.LineRuns.{has_piece, pieces_line, cut_is, same_pieces}
 use Rattle.script_lang.proofs.Verdicts.{within_tests}
 
 -- ---- the line of a limit

@@ -1,19 +1,17 @@
 -- Hexadecimal digits, and the number that they spell.
-use Rattle.std.proofs.Common.{◌≡◌, ℕ, suc, ◌+◌, ◌*◌, ◌^◌, ◌<◌, ◌≤◌, ◌&&◌, ◌||◌, Bool, true, false, cond, List, [], ◌∷◌, length, get_or, take, Option, Some, None, Result, Ok, Err, refl, sym, ap, ◌∙◌, arith, inl, inr}
+use Rattle.std.proofs.Common.{◌≡◌, ℕ, ◌+◌, ◌*◌, ◌^◌, ◌<◌, ◌≤◌, true, false, cond, List, [], ◌∷◌, length, get_or, take, Ok, Err, refl, sym, ap, arith}
 use Rattle.std.specs.List.{list_all}
 use Rattle.std.specs.Char.{digit_value}
 use Rattle.std.specs.Str.Parse.{AllDigits, digits_value}
 use Rattle.std.proofs.Math.Nat.{pow-le-pow_right}
-use Rattle.std.proofs.lemmas.Bool.{and_parts, and_from, and_right, and_left, or_cases, leb-true, ltb-true}
+use Rattle.std.proofs.lemmas.Bool.{and_parts, and_right}
 use Rattle.std.proofs.lemmas.Grind.{common_steps}
 use Rattle.std.proofs.lemmas.Int.Digits.{digits_value-lt, digits_value_more}
 use Rattle.std.proofs.lemmas.List.{length-take}
 use Rattle.std.proofs.lemmas.List.Recursion.{and_fails_at}
-use Rattle.mrpc_table.specs.declared.words.Decimal.{Decimal}
 use Rattle.mrpc_table.specs.declared.words.Decimal.TheVariants.{Small}
 use Rattle.script_lang.specs.Forms.{is_hexadecimal}
-use Rattle.script_lang.specs.Reading.{are_hexadecimal, hexadecimal_in}
-use Rattle.script_lang.specs.declared.fault.ScriptReason.{ScriptReason}
+use Rattle.script_lang.specs.Reading.{hexadecimal_in}
 use Rattle.script_lang.specs.declared.fault.ScriptReason.TheVariants.{Word}
 
 pub digit_small : (c : ℕ) → is_hexadecimal c ≡ true → digit_value c < 16

@@ -1,15 +1,13 @@
 -- A line is read as its form is judged: what the form means, or which of its numbers stands against it.
-use Rattle.std.proofs.Common.{◌≡◌, ◌≢◌, ℕ, ◌+◌, ◌-◌, ◌%◌, ◌^◌, ◌<◌, ◌≤◌, ◌==◌, ◌&&◌, Bool, true, false, cond, List, [], ◌∷◌, ◌++◌, codes, drop, Option, Some, None, Result, Ok, Err, refl, sym, ap, ◌∙◌, arith, inl, inr}
-use Rattle.std.specs.Prelude.{nat_le, nat_lt, option_map}
-use Rattle.std.specs.List.{list_any}
-use Rattle.std.specs.Option.{option_and_then}
+use Rattle.std.proofs.Common.{◌≡◌, ℕ, ◌-◌, ◌^◌, ◌==◌, ◌&&◌, Bool, true, false, cond, List, [], ◌∷◌, codes, drop, Option, Some, None, Result, Ok, Err, refl, sym, ap, ◌∙◌}
+use Rattle.std.specs.Prelude.{option_map}
 use Rattle.std.specs.Str.{bytes_eq}
 use Rattle.std.specs.Str.Parse.{digits_value}
-use Rattle.mrpc_table.specs.Lines.{words_of, number_of, in_64_bits}
+use Rattle.mrpc_table.specs.Lines.{number_of, in_64_bits}
 use Rattle.mrpc_table.specs.declared.words.Decimal.{Decimal}
-use Rattle.mrpc_table.specs.declared.words.Decimal.TheVariants.{Small, Large}
+use Rattle.mrpc_table.specs.declared.words.Decimal.TheVariants.{Small}
 use Rattle.script_lang.specs.Forms.{Value, plain, negative, hexadecimal, Form, conn, store, race, submit, reply, drain, close}
-use Rattle.script_lang.specs.Reading.{◌>>=◌, number_in, first_number, no_more, last_number, negated, are_hexadecimal, hexadecimal_in, begins_with, value_in, last_value, within, heap_of, place_in, load_of, none_open, has_room, not_closed, conn_said, store_said, race_said, optional_number, request_in, submit_said, drain_said, as_said, close_said, is_later_word, words_said, line_said}
+use Rattle.script_lang.specs.Reading.{◌>>=◌, number_in, first_number, no_more, last_number, negated, are_hexadecimal, begins_with, value_in, last_value, within, heap_of, place_in, load_of, none_open, has_room, not_closed, conn_said, store_said, race_said, optional_number, submit_said, drain_said, as_said, close_said, is_later_word, words_said, line_said}
 use Rattle.script_lang.specs.declared.body.Body.{Body}
 use Rattle.script_lang.specs.declared.body.Said.{Said}
 use Rattle.script_lang.specs.declared.body.Said.TheVariants as said

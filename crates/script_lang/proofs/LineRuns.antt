@@ -1,23 +1,22 @@
 -- The lines of a text, one by one.
-use Rattle.std.proofs.Common.{◌≡◌, ◌≢◌, ◌⊎◌, ℕ, zero, suc, ◌+◌, ◌-◌, ◌<◌, ◌≤◌, ◌==◌, Bool, true, false, cond, List, [], ◌∷◌, ◌++◌, length, get_or, All, Option, Some, None, Result, Ok, Err, refl, sym, ap, subst, ◌∙◌, append_assoc, arith, inl, inr, eq-eqb}
-use Rattle.std.specs.Prelude.{Contains, count_by}
-use Rattle.std.specs.List.{flat_map, AllByRecursion, onto_first, slice_split, join_with_byte}
-use Rattle.std.proofs.lemmas.Bool.{cases_Bool, false≢true, ne_eqb, eqb-true}
+use Rattle.std.proofs.Common.{◌≡◌, ◌≢◌, ℕ, ◌<◌, ◌==◌, Bool, true, false, cond, List, [], ◌∷◌, ◌++◌, length, get_or, All, Result, Ok, Err, refl, sym, ap, subst, ◌∙◌, append_assoc, arith, eq-eqb}
+use Rattle.std.specs.List.{flat_map, AllByRecursion, onto_first, join_with_byte}
+use Rattle.std.proofs.lemmas.Bool.{false≢true, ne_eqb, eqb-true}
 use Rattle.std.proofs.lemmas.Grind.{flat_map-append}
 use Rattle.std.proofs.lemmas.List.{append-nil, length-append, get_or_default, nil_from_length}
 use Rattle.std.proofs.lemmas.List.Concat.{flat_map-cons}
-use Rattle.std.proofs.lemmas.List.Elements.{All-from_recursion, recursion_from_All, All-nil, All-cons, All-push}
+use Rattle.std.proofs.lemmas.List.Elements.{All-nil, All-cons, All-push}
 use Rattle.std.proofs.lemmas.List.Splits.{slice_split_at, slice_split_none, join_with_byte-slice_split}
 use Rattle.mrpc_table.specs.Lines.{pieces_of}
 use Rattle.script_lang.specs.Offences.{Before, Goes, Leads, OffendsFirst}
 use Rattle.script_lang.specs.Reading.{said_by, fresh_body, body_after}
-use Rattle.script_lang.specs.Stops.{ReadsTo, IsStop, in_line, no_feed, no_close, StopsAt}
+use Rattle.script_lang.specs.Stops.{ReadsTo, in_line, no_feed, no_close, StopsAt}
 use Rattle.script_lang.specs.Texts.{IsOneLine, with_feed, nothing}
 use Rattle.script_lang.specs.declared.body.Body.{Body}
 use Rattle.script_lang.specs.declared.body.Said.{Said}
 use Rattle.script_lang.specs.declared.fault.ScriptReason.{ScriptReason}
 use Rattle.script_lang.specs.declared.fault.ScriptReason.TheVariants.{Word, Close}
-use Rattle.script_lang.proofs.Steps.{Step, goes_on, stops, step}
+use Rattle.script_lang.proofs.Steps.{goes_on, stops, step}
 use Rattle.script_lang.proofs.Verdicts.{seen, IsKept}
 
 -- ---- a text that is cut at its first line feed
@@ -137,13 +136,13 @@ kept_fresh = record {
   few = omega arith;
 }
 
-same_Ok : (s t : Said) → ◌≡◌ {A = Result Said ScriptReason} (Ok s) (Ok t) → s ≡ t
+pub same_Ok : (s t : Said) → ◌≡◌ {A = Result Said ScriptReason} (Ok s) (Ok t) → s ≡ t
 same_Ok s t e = cc
 
-same_Err : (r q : ScriptReason) → ◌≡◌ {A = Result Said ScriptReason} (Err r) (Err q) → r ≡ q
+pub same_Err : (r q : ScriptReason) → ◌≡◌ {A = Result Said ScriptReason} (Err r) (Err q) → r ≡ q
 same_Err r q e = cc
 
-ok_or_err : (s : Said) (r : ScriptReason) → ◌≡◌ {A = Result Said ScriptReason} (Ok s) (Err r) → ⊥
+pub ok_or_err : (s : Said) (r : ScriptReason) → ◌≡◌ {A = Result Said ScriptReason} (Ok s) (Err r) → ⊥
 ok_or_err s r e = cc
 
 -- what the next line does, by what it says

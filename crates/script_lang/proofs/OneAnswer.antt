@@ -1,6 +1,5 @@
 -- A text has one answer: the script that it spells, or its fault.
-use Rattle.std.proofs.Common.{◌≡◌, ◌≢◌, ◌⊎◌, ℕ, ◌+◌, ◌-◌, ◌<◌, ◌≤◌, ◌==◌, Bool, true, false, List, [], ◌∷◌, ◌++◌, codes, length, take, All, Result, Ok, Err, refl, sym, ap, subst, ◌∙◌, append_assoc, arith, inl, inr}
-use Rattle.std.specs.Prelude.{MatchResult}
+use Rattle.std.proofs.Common.{◌≡◌, ◌⊎◌, ℕ, ◌+◌, ◌-◌, List, [], ◌∷◌, ◌++◌, codes, length, take, refl, sym, ap, subst, ◌∙◌, arith, inl, inr}
 use Rattle.std.specs.List.{flat_map}
 use Rattle.std.proofs.lemmas.List.{append-nil, append_cancel_left, length-append, take_at}
 use Rattle.mrpc_table.specs.Text.{table_text}
@@ -9,18 +8,16 @@ use Rattle.mrpc_table.specs.declared.table.Table.{Table as TheTable}
 use Rattle.table_text.specs.Faults.{IsFirstFault}
 use Rattle.table_text.specs.TableText.{HasTableBehind, IsEndless, IsTableBehind}
 use Rattle.table_text.specs.declared.fault.TableReason.{TableReason}
-use Rattle.script_lang.specs.Offences.{Before, Leads, OffendsFirst}
-use Rattle.script_lang.specs.Stops.{ReadsTo, AreRead, IsStop, in_line as stops_in_line, no_feed as stops_unfed, no_close as stops_unclosed, StopsAt}
-use Rattle.script_lang.specs.Texts.{IsHead, IsOneLine, with_feed, nothing, Begins, Spells, line_count, line_behind, IsFault, no_first_line, no_second_line, no_limit, no_third_line, in_table, no_end, in_line, no_feed, no_close, IsFaultOf}
+use Rattle.script_lang.specs.Offences.{Before}
+use Rattle.script_lang.specs.Stops.{AreRead, IsStop, in_line as stops_in_line, no_feed as stops_unfed, no_close as stops_unclosed, StopsAt}
+use Rattle.script_lang.specs.Texts.{IsHead, with_feed, Begins, Spells, line_count, line_behind, IsFault, no_first_line, no_second_line, no_limit, no_third_line, in_table, no_end, in_line, no_feed, no_close}
 use Rattle.script_lang.specs.declared.script.Line.{Line}
 use Rattle.script_lang.specs.declared.script.Script.{Script}
-use Rattle.script_lang.specs.declared.fault.ScriptFault.{ScriptFault}
-use Rattle.script_lang.specs.declared.fault.ScriptFault.TheVariants as fault
 use Rattle.script_lang.specs.declared.fault.ScriptReason.{ScriptReason}
-use Rattle.script_lang.specs.declared.fault.ScriptReason.TheVariants.{Table, Word, Close}
-use Rattle.script_lang.proofs.OneHead.{HasHead, HeadFault, no_first, no_second, no_range, no_third, IsSameHead, one_head, head_or_fault, one_head_fault, IsHeadRead, some_head}
-use Rattle.script_lang.proofs.OneRun.{one_read, read_or_stopped, one_stop_each, IsRun, some_run}
-use Rattle.script_lang.proofs.WholeTexts.{front_of, front_and_rest, spelled, stop_is_fault}
+use Rattle.script_lang.specs.declared.fault.ScriptReason.TheVariants.{Table, Word}
+use Rattle.script_lang.proofs.OneHead.{HasHead, HeadFault, no_first, no_second, no_range, no_third, one_head, head_or_fault, one_head_fault, some_head}
+use Rattle.script_lang.proofs.OneRun.{one_read, read_or_stopped, one_stop_each, some_run}
+use Rattle.script_lang.proofs.WholeTexts.{front_and_rest, spelled, stop_is_fault}
 
 -- what is known of tables and their texts
 pub record TableLaws : Type 0 where

@@ -1,8 +1,7 @@
 -- A text has one head, or it is at fault in its first three lines, once.
-use Rattle.std.proofs.Common.{◌≡◌, ◌≢◌, ◌⊎◌, ℕ, zero, suc, ◌+◌, ◌<◌, ◌≤◌, ◌==◌, Bool, true, false, cond, List, [], ◌∷◌, ◌++◌, codes, length, drop, Option, Some, None, refl, sym, ap, subst, ◌∙◌, append_assoc, arith, inl, inr}
+use Rattle.std.proofs.Common.{◌≡◌, ◌≢◌, ◌⊎◌, ℕ, List, [], ◌∷◌, ◌++◌, codes, drop, Option, Some, None, refl, sym, ap, subst, ◌∙◌, append_assoc, arith, inl, inr}
 use Rattle.std.proofs.lemmas.Bool.{cases_lt, cases_eq}
 use Rattle.std.proofs.lemmas.List.{append_cancel_left}
-use Rattle.std.proofs.lemmas.Option.{same_Some}
 use Rattle.mrpc_table.specs.Lines.{pieces_of, number_of}
 use Rattle.script_lang.specs.Forms.{IsNumber}
 use Rattle.script_lang.specs.Heads.{HasLimit, IsLimitFault}
@@ -10,7 +9,7 @@ use Rattle.script_lang.specs.Texts.{first_line, table_line, loads_line, IsLimit,
 use Rattle.script_lang.specs.declared.fault.ScriptReason.{ScriptReason}
 use Rattle.script_lang.specs.declared.fault.ScriptReason.TheVariants.{Header, Word, Number}
 use Rattle.script_lang.proofs.HeadTexts.{one_limit, no_line, other_line, no_number_of, loads_parts, usual_head, limited_head}
-use Rattle.script_lang.proofs.LineRuns.{IsCut, IsSplit, fed, last, split_text, pieces_line, pieces_alone}
+use Rattle.script_lang.proofs.LineRuns.{IsCut, fed, last, split_text, pieces_line, pieces_alone}
 
 -- ---- the head
 

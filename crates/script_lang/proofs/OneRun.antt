@@ -1,22 +1,22 @@
 -- The lines of a text are read in one way: to their end, or up to one stop.
-use Rattle.std.proofs.Common.{◌≡◌, ◌≢◌, ◌⊎◌, ℕ, zero, suc, ◌+◌, ◌-◌, ◌<◌, ◌≤◌, ◌==◌, Bool, true, false, List, [], ◌∷◌, ◌++◌, length, drop, All, refl, sym, ap, subst, ◌∙◌, append_assoc, arith, inl, inr}
+use Rattle.std.proofs.Common.{◌≡◌, ◌⊎◌, ℕ, zero, suc, ◌+◌, ◌<◌, Bool, true, List, [], ◌∷◌, ◌++◌, length, drop, refl, sym, ap, subst, ◌∙◌, append_assoc, arith, inl, inr}
 use Rattle.std.specs.Prelude.{Contains}
 use Rattle.std.specs.List.{flat_map, AllByRecursion}
-use Rattle.std.proofs.lemmas.Bool.{cases_Bool, false≢true, true≢false}
-use Rattle.std.proofs.lemmas.List.{append-nil, length-append, nil_from_length}
+use Rattle.std.proofs.lemmas.Bool.{cases_Bool, false≢true}
+use Rattle.std.proofs.lemmas.List.{nil_from_length}
 use Rattle.std.proofs.lemmas.List.Concat.{flat_map-cons}
-use Rattle.std.proofs.lemmas.List.Elements.{recursion_from_All, All-tail, All-head, Contains-append_right}
+use Rattle.std.proofs.lemmas.List.Elements.{recursion_from_All, Contains-append_right}
 use Rattle.mrpc_table.specs.Lines.{pieces_of}
 use Rattle.script_lang.specs.Offences.{Before, Goes, Leads, OffendsFirst}
-use Rattle.script_lang.specs.Reading.{said_by, fresh_body, body_after}
+use Rattle.script_lang.specs.Reading.{fresh_body, body_after}
 use Rattle.script_lang.specs.Stops.{ReadsTo, AreRead, IsStop, in_line, no_feed, no_close, StopsAt}
 use Rattle.script_lang.specs.Texts.{IsOneLine, with_feed, nothing}
 use Rattle.script_lang.specs.declared.body.Body.{Body}
 use Rattle.script_lang.specs.declared.script.Line.{Line}
 use Rattle.script_lang.specs.declared.fault.ScriptReason.{ScriptReason}
 use Rattle.script_lang.specs.declared.fault.ScriptReason.TheVariants.{Word, Close}
-use Rattle.script_lang.proofs.LineRuns.{pieces_line, same_pieces, IsCut, IsSplit, fed, last, split_text, reads_none, reads_more, kept_fresh, stop_in_line, stop_unfed, stop_unclosed}
-use Rattle.script_lang.proofs.Steps.{Step, goes_on, stops, step, one_reason, one_next, goes_or_offends}
+use Rattle.script_lang.proofs.LineRuns.{pieces_line, same_pieces, fed, last, split_text, reads_none, reads_more, kept_fresh, stop_in_line, stop_unfed, stop_unclosed}
+use Rattle.script_lang.proofs.Steps.{goes_on, stops, step, one_reason, one_next, goes_or_offends}
 use Rattle.script_lang.proofs.Verdicts.{seen, IsKept}
 
 -- ---- two readings of one text

@@ -1,5 +1,5 @@
 -- One line more: it goes on, or it is at fault, for one first reason; and never both.
-use Rattle.std.proofs.Common.{◌≡◌, ◌≢◌, ◌⊎◌, ℕ, zero, suc, ◌+◌, ◌^◌, ◌<◌, ◌≤◌, ◌==◌, ◌&&◌, Bool, true, false, cond, List, [], ◌∷◌, ◌++◌, codes, length, get_or, Option, Some, None, Result, Ok, Err, refl, sym, ap, subst, ◌∙◌, arith, inl, inr, eq-eqb}
+use Rattle.std.proofs.Common.{◌≡◌, ◌⊎◌, ℕ, zero, suc, ◌+◌, ◌<◌, ◌≤◌, ◌==◌, Bool, true, false, cond, List, [], ◌∷◌, ◌++◌, length, get_or, Option, Some, None, Result, Ok, Err, refl, sym, ap, subst, ◌∙◌, arith, inl, inr, eq-eqb}
 use Rattle.std.specs.Prelude.{Contains, count_by, IfSome}
 use Rattle.std.specs.List.{filter}
 use Rattle.std.proofs.lemmas.Bool.{cases_Bool, cases_lt, eqb-true, cond-true, cond-false, true≢false, false≢true}
@@ -8,9 +8,9 @@ use Rattle.std.proofs.lemmas.List.Sums.{length-filter, sum_by_push}
 use Rattle.std.proofs.lemmas.Option.{same_Some}
 use Rattle.mrpc_table.specs.Lines.{words_of}
 use Rattle.script_lang.specs.Lines.{is_conn, is_submit, IsConn, IsOpen, IsPlace, Allows}
-use Rattle.script_lang.specs.Forms.{Value, Form, conn, store, race, submit, reply, drain, close, AreWordsOf, AreInRange, word_of, line_of, Says}
+use Rattle.script_lang.specs.Forms.{Value, Form, conn, store, race, submit, reply, drain, close, AreInRange, word_of, line_of, Says}
 use Rattle.script_lang.specs.Offences.{Before, IsSkipped, IsLater, IsForm, used_by, stored_by, is_submission, Offends, no_form, out_of_range, opened_before, not_opened, no_place, load_zero, later_form, second_conn, too_many, behind_close, order_of, OffendsFirst, Goes, skips, says, closes}
-use Rattle.script_lang.specs.Reading.{is_skipped, is_later_word, line_said, said_by, opened_after, submits_after, body_after}
+use Rattle.script_lang.specs.Reading.{is_skipped, is_later_word, line_said, said_by, body_after}
 use Rattle.script_lang.specs.declared.body.Body.{Body}
 use Rattle.script_lang.specs.declared.body.Opened.{Opened}
 use Rattle.script_lang.specs.declared.body.Said.{Said}
@@ -22,7 +22,7 @@ use Rattle.script_lang.specs.declared.fault.ScriptReason.TheVariants.{Header, Ta
 use Rattle.script_lang.proofs.FirstNumbers.{has_word}
 use Rattle.script_lang.proofs.FormsFound.{form_of, form_found, form_is, one_form, later_true, true_later, form_or_later, skipped_or_form, skipped_or_later}
 use Rattle.script_lang.proofs.Judged.{judged, or_unformed, line_split}
-use Rattle.script_lang.proofs.Verdicts.{seen, conn_count, IsKept, IsKnown, IsUnknown, IsMisplaced, IsSurplus, Against, ArePassed, none_before, Verdict, is_line, is_close, is_wrong, verdict}
+use Rattle.script_lang.proofs.Verdicts.{seen, IsKept, IsKnown, IsUnknown, IsMisplaced, IsSurplus, Against, ArePassed, none_before, Verdict, is_line, is_close, is_wrong, verdict}
 
 -- ---- lines of a form
 
@@ -332,7 +332,7 @@ kept_more b l n kept other count few = record {
 same_conn : (c w d x : ℕ) → line.Conn c w ≡ line.Conn d x → (c ≡ d) × (w ≡ x)
 same_conn c w d x e = (cc, cc)
 
-kept_conn : (b : Body) (c w : ℕ) → IsKept b → IsConn c w → count_by is_conn b.lines ≡ 0
+pub kept_conn : (b : Body) (c w : ℕ) → IsKept b → IsConn c w → count_by is_conn b.lines ≡ 0
     → IsKept (record { lines = b.lines ++ line.Conn c w ∷ []; opened = Some (record { conn = c; words = w }); submits = b.submits; closed = b.closed })
 kept_conn b c w kept is_right none = record {
   opened = λ d x h. elim (Contains-push_cases b.lines (line.Conn c w) (line.Conn d x) h) [
@@ -353,7 +353,7 @@ kept_line b (line.Race c k p v) kept allowed = kept_more b (line.Race c k p v) b
 kept_line b (line.Submit c m n a) kept allowed = kept_more b (line.Submit c m n a) (b.submits + 1) kept refl refl (omega (arith, kept.submits, allowed.4))
 kept_line b (line.Drain c) kept allowed = kept_more b (line.Drain c) b.submits kept refl (omega arith) kept.few
 
-kept_close : (b : Body) → IsKept b → IsKept (body_after b said.Close)
+pub kept_close : (b : Body) → IsKept b → IsKept (body_after b said.Close)
 kept_close b kept = record { opened = kept.opened; there = kept.there; small = kept.small; conns = kept.conns; submits = kept.submits; few = kept.few }
 
 -- ---- one line more

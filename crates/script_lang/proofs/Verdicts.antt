@@ -1,15 +1,14 @@
 -- What a form is judged: the line that it is, or the first reason that stands against it.
-use Rattle.std.proofs.Common.{◌≡◌, ◌≢◌, ◌⊎◌, ℕ, suc, ◌+◌, ◌-◌, ◌%◌, ◌^◌, ◌<◌, ◌≤◌, ◌==◌, ◌&&◌, Bool, true, false, cond, List, [], ◌∷◌, ◌++◌, length, Option, Some, None, Result, Ok, Err, refl, sym, ap, subst, ◌∙◌, arith, inl, inr, eq-eqb}
+use Rattle.std.proofs.Common.{◌≡◌, ◌≢◌, ◌⊎◌, ℕ, ◌+◌, ◌-◌, ◌%◌, ◌^◌, ◌<◌, ◌≤◌, ◌==◌, ◌&&◌, Bool, true, false, Option, Some, None, Result, Ok, Err, refl, sym, ap, subst, ◌∙◌, arith, inl, inr, eq-eqb}
 use Rattle.std.specs.Prelude.{nat_le, nat_lt, Contains, count_by, IfSome}
 use Rattle.std.specs.Str.Parse.{digits_value}
-use Rattle.std.proofs.lemmas.Bool.{cases_Bool, cases_lt, cases_eq, and_parts, and_from, lt-ltb, le-ltb, le-leb, ltb-true, leb-true, eqb-true, ne_eqb, false_from_ne_true, cond-true, cond-false, true≢false, false≢true}
+use Rattle.std.proofs.lemmas.Bool.{cases_Bool, cases_lt, cases_eq, and_parts, and_from, lt-ltb, le-ltb, le-leb, ltb-true, leb-true, eqb-true, false_from_ne_true, cond-true, cond-false, true≢false, false≢true}
 use Rattle.std.proofs.lemmas.Option.{same_Some}
 use Rattle.mrpc_table.specs.Lines.{in_64_bits}
-use Rattle.mrpc_table.specs.declared.words.Decimal.{Decimal}
 use Rattle.mrpc_table.specs.declared.words.Decimal.TheVariants.{Small, Large}
 use Rattle.script_lang.specs.Lines.{is_conn, is_submit, IsOpen, IsPlace}
-use Rattle.script_lang.specs.Forms.{Value, plain, negative, hexadecimal, Form, conn, store, race, submit, reply, drain, close, Ranged, IsInRange, ranged_value, AreInRange, word_of, line_of, Says}
-use Rattle.script_lang.specs.Offences.{Before, used_by, stored_by, is_submission, order_of}
+use Rattle.script_lang.specs.Forms.{Value, plain, negative, hexadecimal, Form, conn, store, race, submit, reply, drain, close, IsInRange, ranged_value, AreInRange, word_of, line_of, Says}
+use Rattle.script_lang.specs.Offences.{Before, used_by, order_of}
 use Rattle.script_lang.specs.Reading.{◌>>=◌, negated, within, heap_of, place_in, load_of, none_open, has_room, not_closed, as_said}
 use Rattle.script_lang.specs.declared.body.Body.{Body}
 use Rattle.script_lang.specs.declared.body.Opened.{Opened}

@@ -1,24 +1,21 @@
 -- A whole text: what is read of it is what it spells, and what stops the reading is its fault.
-use Rattle.std.proofs.Common.{◌≡◌, ◌≢◌, ◌⊎◌, ℕ, ◌+◌, ◌-◌, ◌<◌, ◌≤◌, ◌==◌, Bool, true, false, List, [], ◌∷◌, ◌++◌, codes, length, take, All, Result, Ok, Err, refl, sym, ap, subst, ◌∙◌, append_assoc, arith, inl, inr}
-use Rattle.std.specs.Prelude.{count_by, MatchResult}
+use Rattle.std.proofs.Common.{◌≡◌, ℕ, ◌-◌, ◌≤◌, true, List, [], ◌∷◌, ◌++◌, codes, length, take, Result, Ok, Err, refl, sym, ap, subst, ◌∙◌, append_assoc, arith}
+use Rattle.std.specs.Prelude.{MatchResult}
 use Rattle.std.specs.List.{flat_map}
 use Rattle.std.proofs.lemmas.List.{append-nil, length-append, take_at}
 use Rattle.mrpc_table.specs.Text.{table_text}
 use Rattle.mrpc_table.specs.Valid.{IsValid}
 use Rattle.mrpc_table.specs.declared.table.Table.{Table as TheTable}
-use Rattle.table_text.specs.Faults.{IsFirstFault}
-use Rattle.table_text.specs.TableText.{HasTableBehind, IsEndless, IsTableBehind}
-use Rattle.table_text.specs.declared.fault.TableReason.{TableReason}
+use Rattle.table_text.specs.TableText.{HasTableBehind, IsTableBehind}
 use Rattle.script_lang.specs.Lines.{AreAllowed, Allows, IsScript}
-use Rattle.script_lang.specs.Offences.{Before, Goes, skips, says, closes, Leads, OffendsFirst}
+use Rattle.script_lang.specs.Offences.{Before, Goes, skips, says, closes, Leads}
 use Rattle.script_lang.specs.Stops.{ReadsTo, AreRead, IsStop, in_line as stops_in_line, no_feed as stops_unfed, no_close as stops_unclosed, StopsAt, IsTableFault}
-use Rattle.script_lang.specs.Texts.{IsHead, usual, limited, IsLimit, IsOneLine, with_feed, nothing, Begins, Spells, line_count, line_behind, IsFault, in_table, no_end, in_line, no_feed, no_close, IsFaultOf}
+use Rattle.script_lang.specs.Texts.{IsHead, usual, limited, IsLimit, with_feed, nothing, Begins, Spells, line_behind, IsFault, in_table, in_line, no_feed, no_close, IsFaultOf}
 use Rattle.script_lang.specs.declared.script.Line.{Line}
 use Rattle.script_lang.specs.declared.script.Script.{Script}
 use Rattle.script_lang.specs.declared.fault.ScriptFault.{ScriptFault}
 use Rattle.script_lang.specs.declared.fault.ScriptFault.TheVariants as fault
 use Rattle.script_lang.specs.declared.fault.ScriptReason.{ScriptReason}
-use Rattle.script_lang.specs.declared.fault.ScriptReason.TheVariants.{Table, Word, Close}
 
 -- ---- the front of a text
 

@@ -1,6 +1,7 @@
 //! Reading a script from its text.
 
-ghost use Rattle.std.specs.Prelude.{◌≡◌, ◌+◌, ◌<◌, ◌≤◌, ℕ, List, length, IfOk, IfErr, MatchResult};
+ghost use Rattle.std.specs.Prelude.{◌≡◌, ◌+◌, ◌<◌, ◌≤◌, ℕ, List, [], ◌∷◌, length, IfOk, IfErr, IfSome, MatchResult, MatchOption};
+ghost use Rattle.mrpc_table.specs.Lines.{pieces_of};
 ghost use Rattle.mrpc_table.specs.Text.{table_text};
 ghost use Rattle.mrpc_table.specs.Valid.{IsValid};
 ghost use Rattle.table_text.specs.TableText.{IsEndless};
@@ -15,7 +16,8 @@ use crate::fault::{ScriptFault, ScriptReason};
 use crate::head::{Head, read_head};
 use crate::laws::one_answer;
 use crate::script::{Lines, Script};
-use mrpc_table::{Memory, Table, cut};
+use memchr::memchr;
+use mrpc_table::{Memory, Table};
 use std::alloc::Global;
 use table_text::{TableFault, one_fault, read_table, split_table};
 
@@ -39,6 +41,16 @@ impl From<Memory> for Stop {
 }
 
 /// The script that a text spells, each byte of it.
+///
+/// A text (this project's own format; the manual's "Scripts") begins with `mrpc-replay 1`, with `loads N` where the
+/// limit of loads isn't 1024, and with `table`. Then come the canonical text of a table, `end`, and lines that do
+/// something, the last of which is `close`. Behind the table empty lines and lines that begin with `#` say nothing. Each
+/// line ends with a line feed. Reading takes time in proportion to the text.
+///
+/// # Errors
+///
+/// [`ScriptFault::At`] has the first line at fault, counted from 1, and the first of its reasons in the order of
+/// [`ScriptReason`]; [`ScriptFault::Memory`] comes where no memory was found for the table or the lines.
 pub fn read_script(alloc: Global, text: &[u8]) -> Result<Script, ScriptFault>
     // What is read is spelled so, each byte of it.
     ensures read { IfOk result (Spells text.now) }
@@ -117,7 +129,7 @@ fn read_lines(alloc: Global, text: &[u8]) -> Result<Lines, Stop>
 {
     let mut body = Body::new(alloc);
     let mut rest = text;
-    while let Some((line, behind)) = cut(rest, b'\n') {
+    while let Some((line, behind)) = cut_line(rest) {
         match body.said(line) {
             Ok(said) => body.add(said)?,
             Err(reason) => return Err(stopped_at(rest, reason)),
@@ -131,6 +143,16 @@ fn read_lines(alloc: Global, text: &[u8]) -> Result<Lines, Stop>
         return Err(stopped_at(rest, ScriptReason::Close));
     }
     Ok(body.lines)
+}
+
+/// The first line of a text, without its line feed, and what stands behind it; none where no line ends in the text.
+/// (As `cut` does it for words, which are short; the search for a line feed looks at many bytes at once.)
+fn cut_line(text: &[u8]) -> Option<(&[u8], &[u8])>
+    ensures parts { MatchOption result (pieces_of text.now ≡ text.now ∷ []) (λ p. pieces_of text.now ≡ p.0.now ∷ pieces_of p.1.now) }
+    ensures long { IfSome result (λ p. length p.0.now + 1 + length p.1.now ≡ length text.now) }
+{
+    let at = memchr(b'\n', text)?;
+    Some((&text[..at], &text[at + 1..]))
 }
 
 fn stopped_at(rest: &[u8], reason: ScriptReason) -> Stop

@@ -1,4 +1,4 @@
-//! The words of a line, from the left.
+//! The words of a line, from the left. What reads a number is inlined, since a script may have a million of them.
 
 ghost use Rattle.std.specs.Prelude.{◌≡◌, ◌+◌, ◌-◌, ◌*◌, ◌<◌, ◌≤◌, ℕ, false, true, length, take, slice_index, Some, None, IfOk, if◌then◌else◌};
 ghost use Rattle.std.specs.List.{list_all};
@@ -13,6 +13,9 @@ use mrpc_table::Decimal;
 
 /// What is left of a line behind some of its words: the words behind a space, or nothing.
 pub(crate) type Rest<'a> = Option<&'a [u8]>;
+
+/// Each number of so many decimal digits stands in 64 bits.
+const SURE_DIGITS: usize = 19;
 
 /// The number with one digit more at its end.
 fn with_digit(number: Decimal, digit: u8) -> Decimal
@@ -32,21 +35,59 @@ fn with_digit(number: Decimal, digit: u8) -> Decimal
     }
 }
 
+/// The number that the decimal digits at the front of so few bytes spell, and how many they are.
+#[inline(always)]
+fn short_leading(front: &[u8]) -> (u64, usize)
+    requires few { length front.now ≤ 19 }
+    ensures digits { list_all is_ascii_digit (take result.1 front.now) ≡ true }
+    ensures number { result.0 ≡ digits_value 10 (take result.1 front.now) }
+    ensures within { result.1 ≤ length front.now }
+    ensures end { result.1 < length front.now → is_ascii_digit (slice_index front.now result.1) ≡ false }
+{
+    let mut number: u64 = 0;
+    for (i, byte) in front.iter().enumerate() {
+        if !byte.is_ascii_digit() {
+            return (number, i);
+        }
+        number = number * 10 + u64::from(*byte - b'0');
+    }
+    (number, front.len())
+}
+
+/// The number that the decimal digits at the front spell, and how many they are, where the first 19 spell this one.
+fn long_leading(text: &[u8], first: u64) -> (Decimal, usize)
+    requires long { 19 ≤ length text.now }
+    requires digits { list_all is_ascii_digit (take 19 text.now) ≡ true }
+    requires number { first ≡ digits_value 10 (take 19 text.now) }
+    ensures digits { list_all is_ascii_digit (take result.1 text.now) ≡ true }
+    ensures number { result.0 ≡ in_64_bits (digits_value 10 (take result.1 text.now)) }
+    ensures within { result.1 ≤ length text.now }
+    ensures end { result.1 < length text.now → is_ascii_digit (slice_index text.now result.1) ≡ false }
+{
+    let mut number = Decimal::Small(first);
+    for i in SURE_DIGITS..text.len() {
+        let byte = text[i];
+        if !byte.is_ascii_digit() {
+            return (number, i);
+        }
+        number = with_digit(number, byte);
+    }
+    (number, text.len())
+}
+
 /// The number that the decimal digits at the front spell, and how many they are.
+#[inline(always)]
 fn leading(text: &[u8]) -> (Decimal, usize)
     ensures digits { list_all is_ascii_digit (take result.1 text.now) ≡ true }
     ensures number { result.0 ≡ in_64_bits (digits_value 10 (take result.1 text.now)) }
     ensures within { result.1 ≤ length text.now }
     ensures end { result.1 < length text.now → is_ascii_digit (slice_index text.now result.1) ≡ false }
 {
-    let mut number = Decimal::Small(0);
-    for (i, byte) in text.iter().enumerate() {
-        if !byte.is_ascii_digit() {
-            return (number, i);
-        }
-        number = with_digit(number, *byte);
+    let (number, count) = short_leading(&text[..text.len().min(SURE_DIGITS)]);
+    if count < SURE_DIGITS {
+        return (Decimal::Small(number), count);
     }
-    (number, text.len())
+    long_leading(text, number)
 }
 
 /// No digit, or a zero in front of others.
@@ -68,6 +109,7 @@ fn behind(tail: &[u8]) -> Result<Rest<'_>, ScriptReason>
 }
 
 /// The number that the first word spells, and what is left behind it.
+#[inline(always)]
 pub(crate) fn number(rest: Rest<'_>) -> Result<(Decimal, Rest<'_>), ScriptReason>
     ensures { seen_by (λ p. (p.0, words_in p.1)) result ≡ first_number (words_in rest.entry) }
 {
@@ -94,6 +136,7 @@ pub(crate) fn no_more(rest: Rest<'_>) -> Result<(), ScriptReason>
 }
 
 /// The number that the one word spells that is left.
+#[inline(always)]
 #[tactic(auto, unfolding(crate::specs::Reading::last_number))]
 pub(crate) fn last_number(rest: Rest<'_>) -> Result<Decimal, ScriptReason>
     ensures { result ≡ last_number (words_in rest.entry) }
@@ -142,6 +185,7 @@ fn hexadecimal(digits: &[u8]) -> Result<Decimal, ScriptReason>
 }
 
 /// What the one word that is left stores: a number of 64 bits, or a larger one where it is out of range.
+#[inline(always)]
 pub(crate) fn last_value(rest: Rest<'_>) -> Result<Decimal, ScriptReason>
     ensures { result ≡ last_value (words_in rest.entry) }
 {

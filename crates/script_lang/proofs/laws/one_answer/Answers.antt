@@ -1,4 +1,4 @@
-use Rattle.script_lang.proofs.OneAnswer.{TableLaws, one_script, one_fault_each, script_or_fault, some_answer}
+use Rattle.script_lang.proofs.OneAnswer.{one_script, one_fault_each, script_or_fault, some_answer}
 use Rattle.script_lang.proofs.WholeTexts.{sound_script}
 use Rattle.script_lang.proofs.laws.one_answer.Goals as goal
 

@@ -1,4 +1,4 @@
-use Rattle.std.proofs.Common.{◌≡◌, ◌++◌, List, ℕ, refl, sym, ap, subst, ◌∙◌, inr}
+use Rattle.std.proofs.Common.{◌++◌, List, ℕ, refl, sym, ap, subst, ◌∙◌, inr}
 use Rattle.script_lang.specs.Texts.{IsFaultOf, no_end}
 use Rattle.script_lang.proofs.WholeTexts.{table_fault_of}
 use Rattle.script_lang.proofs.reading.endless_fault.Goals as goal

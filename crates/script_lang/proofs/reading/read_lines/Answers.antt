@@ -1,8 +1,7 @@
-use Rattle.std.proofs.Common.{◌≡◌, ◌≢◌, [], List, length, false, refl, sym, ap, subst, ◌∙◌, arith}
-use Rattle.std.specs.Prelude.{Result, Ok, Err}
-use Rattle.script_lang.specs.Stops.{ReadsTo, StopsAt, IsStopOf}
+use Rattle.std.proofs.Common.{sym, subst}
+use Rattle.script_lang.specs.Stops.{IsStopOf}
 use Rattle.script_lang.proofs.LineRuns.{reads_none, kept_fresh, on_line, at_fault, last_is, stop_unfed, stop_unclosed, some_bytes, no_bytes}
-use Rattle.script_lang.proofs.Verdicts.{seen, IsKept}
+use Rattle.script_lang.proofs.Verdicts.{seen}
 use Rattle.script_lang.proofs.reading.read_lines.Goals as goal
 
 pub loop-line-init : goal.loop-line-init

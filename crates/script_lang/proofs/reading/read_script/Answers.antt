@@ -1,4 +1,3 @@
-use Rattle.std.proofs.Common.{refl}
 use Rattle.script_lang.proofs.WholeTexts.{only_one}
 use Rattle.script_lang.proofs.reading.read_script.Goals as goal
 

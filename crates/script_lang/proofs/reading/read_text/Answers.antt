@@ -1,10 +1,10 @@
-use Rattle.std.proofs.Common.{◌≡◌, ◌-◌, List, ℕ, length, take, refl, sym, ap, subst, ◌∙◌, arith, inl, inr}
+use Rattle.std.proofs.Common.{List, ℕ, sym, subst, inl}
 use Rattle.std.proofs.lemmas.Result.{err_from_is_err_and}
 use Rattle.mrpc_table.specs.Text.{table_text}
 use Rattle.table_text.specs.TableText.{HasTableBehind}
-use Rattle.script_lang.specs.Stops.{StopsAt, IsStopOf}
-use Rattle.script_lang.specs.Texts.{IsFaultOf, line_behind}
-use Rattle.script_lang.proofs.WholeTexts.{table_fault_of, spelled, stop_is_fault, left_within}
+use Rattle.script_lang.specs.Stops.{StopsAt}
+use Rattle.script_lang.specs.Texts.{IsFaultOf}
+use Rattle.script_lang.proofs.WholeTexts.{table_fault_of, spelled, stop_is_fault}
 use Rattle.script_lang.proofs.reading.read_text.Goals as goal
 
 pub endless_fault-requires-clause-head : goal.endless_fault-requires-clause-head

@@ -1,6 +1,6 @@
-use Rattle.std.proofs.Common.{refl, sym, ap, ◌∙◌}
+use Rattle.std.proofs.Common.{refl}
 use Rattle.script_lang.proofs.FirstNumbers.{has_word}
-use Rattle.script_lang.specs.Reading.{words_in, no_more}
+use Rattle.script_lang.specs.Reading.{no_more}
 use Rattle.script_lang.proofs.word.no_more.Goals as goal
 
 pub returns-in-Some : goal.returns-in-Some

@@ -1,9 +1,8 @@
-use Rattle.std.proofs.Common.{◌≡◌, ℕ, List, length, take, drop, Option, Some, Result, Ok, Err, Bor, refl, sym, ap, ◌∙◌, arith}
+use Rattle.std.proofs.Common.{◌≡◌, ℕ, List, drop, Result, Ok, Err, refl, sym, ap, ◌∙◌}
 use Rattle.std.proofs.lemmas.List.{take_rest}
 use Rattle.std.proofs.lemmas.Result.{err_from_is_err_and}
-use Rattle.mrpc_table.specs.Lines.{words_of}
-use Rattle.script_lang.proofs.FirstNumbers.{IsLed, number_padded, number_behind}
-use Rattle.script_lang.specs.Reading.{◌>>=◌, seen_by, words_in, words_behind, first_number}
+use Rattle.script_lang.proofs.FirstNumbers.{number_padded, number_behind}
+use Rattle.script_lang.specs.Reading.{seen_by, words_in, words_behind, first_number}
 use Rattle.script_lang.specs.declared.fault.ScriptReason.{ScriptReason}
 use Rattle.script_lang.proofs.word.number.Goals as goal
 

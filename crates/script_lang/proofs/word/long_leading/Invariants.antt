@@ -4,7 +4,7 @@ use Rattle.std.specs.List.{list_all}
 use Rattle.std.specs.Char.{is_ascii_digit}
 use Rattle.std.specs.Str.Parse.{digits_value}
 use Rattle.mrpc_table.specs.Lines.{in_64_bits}
-use Rattle.script_lang.proofs.word.leading.Given as goal
+use Rattle.script_lang.proofs.word.long_leading.Given as goal
 
 abbrev pub invariant-loop-i : goal.invariant-loop-i
 invariant-loop-i l = record {

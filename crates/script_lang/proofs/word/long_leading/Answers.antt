@@ -2,7 +2,7 @@ use Rattle.std.proofs.Common.{take, sym}
 use Rattle.std.specs.Char.{is_ascii_digit}
 use Rattle.std.specs.Str.Parse.{digits_value}
 use Rattle.script_lang.proofs.Digits.{all_more, number_more}
-use Rattle.script_lang.proofs.word.leading.Goals as goal
+use Rattle.script_lang.proofs.word.long_leading.Goals as goal
 
 pub loop-i-preserved : goal.loop-i-preserved
 loop-i-preserved c =
