@@ -48,6 +48,51 @@ fn time_fills_the_bucket(rt: HostRuntime) {
 }
 
 #[test]
+fn a_bucket_is_filled_up_to_full(rt: HostRuntime) {
+    let mut bucket = Bucket { level: 0, last: 0 };
+    bucket.clock(&SECOND, 1999);
+    assert_eq!(rt; bucket.level, 1999);
+    bucket.clock(&SECOND, 2000);
+    assert_eq!(rt; bucket.level, 2000);
+    bucket.clock(&SECOND, 2001);
+    assert_eq!(rt; bucket.level, 2000);
+}
+
+#[test]
+fn the_smallest_numbers_pay_for_one_call(rt: HostRuntime) {
+    let smallest = Rate {
+        amount: 1,
+        per: 1,
+        burst: 1,
+        hold: false,
+    };
+    let mut bucket = Bucket::full(&smallest, 5);
+    assert_eq!(rt; bucket.step(&smallest), Step::Pass { level: 0 });
+    assert_eq!(rt; bucket.step(&smallest), Step::Short { level: 0, cost: 1 });
+    bucket.clock(&smallest, 6);
+    assert_eq!(rt; bucket.step(&smallest), Step::Pass { level: 0 });
+}
+
+#[test]
+fn an_upgrade_rounds_down_and_is_no_more_than_full(rt: HostRuntime) {
+    let sevenths = Rate {
+        amount: 1,
+        per: 7,
+        burst: 3,
+        hold: false,
+    };
+    let mut bucket = Bucket {
+        level: 1999,
+        last: 0,
+    };
+    bucket.convert(&SECOND, &sevenths);
+    assert_eq!(rt; bucket.level, 13);
+    bucket.level = 4000;
+    bucket.convert(&SECOND, &sevenths);
+    assert_eq!(rt; bucket.level, 21);
+}
+
+#[test]
 fn an_upgrade_converts_the_level(rt: HostRuntime) {
     let half = Rate {
         amount: 1,
