@@ -2,4 +2,12 @@
 #![tactic(auto)]
 
 #[cfg(test)]
-mod tests;
+mod calls;
+#[cfg(test)]
+mod clears;
+#[cfg(test)]
+mod faults;
+#[cfg(test)]
+mod rules;
+#[cfg(test)]
+mod verdicts;

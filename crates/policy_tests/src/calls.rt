@@ -1,0 +1,61 @@
+//! Calls of tables that were read, and the lines of policies.
+
+ghost use Rattle.std.specs.Prelude.{◌≤◌, length};
+ghost use Rattle.mrpc_table.specs.Valid.{IsValid};
+ghost use Rattle.policy_access.specs.Call.{IsCallOf};
+
+use mrpc_table::{Bytes, FieldValue, Memory, Table, Tree, Value, cut, fits};
+use policy_access::{Access, Call, Lines, Verdict};
+use std::alloc::Global;
+use std::process::Abort;
+
+/// A message with one number, and a method on it.
+pub const SMALL: &[u8] = b"message M\nfield 1 plain uint64 a\nmethod 0 S Get M M\n";
+
+/// The lines of a text, each with its line feed.
+pub fn lines_of(alloc: Global, text: &[u8]) -> Result<Lines, Memory> {
+    let mut lines = Lines::new(alloc);
+    let mut rest = text;
+    while let Some((line, others)) = cut(rest, b'\n') {
+        lines.push(Bytes::from_slice(alloc, line)?)?;
+        rest = others;
+    }
+    Ok(lines)
+}
+
+/// A call of the first method.
+pub fn call_of(number: u32, tree: Tree) -> Call {
+    Call {
+        conn: 1,
+        seq: 1,
+        method: 0,
+        number,
+        tree,
+    }
+}
+
+/// A message whose field 1 is this number.
+pub fn with_number(alloc: Global, number: u64) -> Result<Tree, Memory> {
+    let mut fields = Vec::new(alloc);
+    fields.push((1, FieldValue::One(Value::Number(number))))?;
+    Ok(Tree { fields })
+}
+
+/// The call is one of the table.
+pub fn assert_is_of(rt: &impl Abort, call: &Call, table: &Table)
+    requires { IsValid table.now }
+    ensures { IsCallOf table.now call.now }
+{
+    assert!(rt; (call.method as usize) < table.methods.len());
+    let message = table.message_of(call.method, call.number);
+    assert!(rt; fits(&call.tree, table, message));
+}
+
+/// What a policy says of a call, which is one of the table.
+pub fn judged(rt: &impl Abort, policy: &Access, table: &Table, call: &Call) -> Verdict
+    requires { IsValid table.now }
+    ensures { result.rule ≤ length policy.now.rules }
+{
+    assert_is_of(rt, call, table);
+    policy.judge(call, table)
+}
