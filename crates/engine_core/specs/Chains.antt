@@ -92,7 +92,10 @@ pub data Makes (before : Chain) (op : Op) (after : Chain) : Type 0 where
   attaches : (at : ℕ) (name label : List ℕ) (policy : Policy) (front back : List Entry)
       → op ≡ Attach at name label policy
       → before.entries ≡ front ++ back → length front ≡ at
-      → after ≡ record { entries = front ++ new_entry name (before.attached + 1) policy ∷ back; attached = before.attached + 1 }
+      → after ≡ record {
+        entries = front ++ new_entry name (before.attached + 1) policy ∷ back;
+        attached = before.attached + 1;
+      }
       → Makes before op after
   -- the entry of the name is gone
   detaches : (name : List ℕ) (e : Entry) (front back : List Entry) → op ≡ Detach name

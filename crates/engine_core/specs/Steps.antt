@@ -32,7 +32,8 @@ pub record IsUnallowed (before after : List Mark) : Type 0 where
   pub none : (attach version : ℕ) → is_allowed after attach version ≡ false
   pub no_more : (attach : ℕ) → length (other_marks attach after) ≤ length (other_marks attach before)
 
-pub data Steps (policy : Policy) (attach version level moment : ℕ) (old new : StandingCall) (left : ℕ) (outcome : Outcome) : Type 0 where
+pub data Steps (policy : Policy) (attach version level moment : ℕ) (old new : StandingCall) (left : ℕ)
+    (outcome : Outcome) : Type 0 where
   was_allowed : (p : AccessPolicy) → policy ≡ Access p → is_allowed old.marks attach version ≡ true
       → outcome ≡ Passed Nothing → new ≡ old → left ≡ level
       → Steps policy attach version level moment old new left outcome

@@ -42,6 +42,7 @@ noted_in (Held level cost) = Nothing
 noted_in (Refused n why) = n
 noted_in Redacted = Nothing
 
+-- fields were cleared
 abbrev pub is_redacted_by : Outcome → Bool
 is_redacted_by Redacted = true
 is_redacted_by _ = false

@@ -49,7 +49,8 @@ pub(crate) fn charge(rate: &Rate, bucket: &mut Bucket, attach: u32, call: &mut S
     requires rate { IsRate rate.now }
     requires room { length (other_marks attach call.old.marks) ≤ 7 }
     ensures step { (version moment : ℕ)
-        → Steps (Policy.Rate rate.now) attach version bucket.old.level moment call.old call.new bucket.new.level result }
+        → Steps (Policy.Rate rate.now) attach version bucket.old.level moment
+        call.old call.new bucket.new.level result }
     ensures last { bucket.new.last ≡ bucket.old.last }
 {
     if is_noted(call, attach) {
