@@ -2,9 +2,10 @@
 //!
 //! [`open`] makes a queue and its ends: a [`Producer`] puts items and a [`Consumer`] takes them, each by a call that
 //! takes no lock. A queue of [`Piece`]s carries bytes with marks between them, which a [`PieceReader`] reads into
-//! buffers. [`GivenBytes`] keep, for contracts alone, which bytes were given. It stands on the ruled array queue of `crossbeam_queue`. The layer above uses one contract: what was taken
-//! is a beginning of what was put, in order and each item once, which [`meet`] tells of the two ends of one queue; and
-//! where a consumer finds nothing, it has taken all that it was ever told of.
+//! buffers. [`GivenBytes`] keep, for contracts alone, which bytes were given. It stands on the ruled array queue of
+//! `crossbeam_queue`. The layer above uses one contract: what was taken is a beginning of what was put, in order and
+//! each item once, which [`meet`] tells of the two ends of one queue; and where a consumer finds nothing, it has taken
+//! all that it was ever told of.
 #![tactic(auto)]
 
 mod consumer;

@@ -1,0 +1,99 @@
+-- The rule of a queue on two items, and the bytes and marks of a few pieces.
+use Rattle.std.proofs.Common.{◌≡◌, ℕ, zero, suc, true≢false, List, [], ◌∷◌, refl, sym, subst, inl, inr}
+use mathlib.Core.Option.{some, some-injective, some-ne-none}
+use mathlib.Core.List.{IsPrefix}
+use lib.ListN.{get_elem?}
+use Rattle.one_way_queue.specs.declared.piece.Piece.{Piece}
+use Rattle.one_way_queue.specs.declared.piece.Piece.TheVariants.{Bytes, Mark}
+use Rattle.one_way_queue.specs.declared.side.Side.{Side}
+use Rattle.one_way_queue.specs.Pieces.{bytes_of, marks_of}
+use Rattle.one_way_queue.specs.Sides.{putting, taking, Agree, Fits, IsOneWay}
+
+-- ---- the rule, for an end that put 7 and 8 and one that took so many of them, and was told of so many
+
+abbrev items_put : List ℕ
+items_put = 7 ∷ 8 ∷ []
+
+abbrev ends : List ℕ → List ℕ → List (Side ℕ)
+ends taken told = putting items_put ∷ taking taken told ∷ []
+
+-- each end fits, wherever one was told of a beginning
+each : (taken told : List ℕ) → IsPrefix told items_put → (port : ℕ) (v : Side ℕ)
+    → get_elem? (ends taken told) port ≡ some v → Fits 0 1 items_put taken port v
+each taken told begins zero v e =
+    subst (Fits 0 1 items_put taken 0) (some-injective _ _ e) record {
+      puts = λ _. (refl, refl);
+      takes = λ t. absurd (true≢false (sym t));
+      told = (items_put, refl);
+    }
+each taken told begins (suc zero) v e =
+    subst (Fits 0 1 items_put taken 1) (some-injective _ _ e) record {
+      puts = λ p. absurd (true≢false (sym p));
+      takes = λ _. (refl, refl);
+      told = begins;
+    }
+each taken told begins (suc (suc port)) v e = absurd (some-ne-none v (sym e))
+
+both_wait : IsOneWay items_put (ends [] [])
+both_wait = (0, 1, items_put, [], refl, each [] [] (items_put, refl))
+
+-- the first was taken by an end that had been told of both
+one_waits : IsOneWay (8 ∷ []) (ends (7 ∷ []) items_put)
+one_waits = (0, 1, items_put, 7 ∷ [], refl, each (7 ∷ []) items_put ([], refl))
+
+-- what the two ends say of what was put and taken in all
+apart : (items taken told : List ℕ) (rule : IsOneWay items (ends taken told))
+    → (items_put ≡ rule.2) × (taken ≡ rule.3)
+apart items taken told rule =
+    let first = (rule.5 0 (putting items_put) refl).puts refl in
+    let second = (rule.5 1 (taking taken told) refl).takes refl in
+    (first.1, second.1)
+
+-- no item overtakes another, is lost, comes twice, or comes from nowhere
+none_overtakes : IsOneWay (7 ∷ []) (ends (8 ∷ []) []) → ⊥
+none_overtakes rule = let s = apart (7 ∷ []) (8 ∷ []) [] rule in cc (s.0, s.1, rule.4)
+
+none_lost : IsOneWay [] (ends (7 ∷ []) []) → ⊥
+none_lost rule = let s = apart [] (7 ∷ []) [] rule in cc (s.0, s.1, rule.4)
+
+none_twice : IsOneWay (7 ∷ 8 ∷ []) (ends (7 ∷ []) []) → ⊥
+none_twice rule = let s = apart (7 ∷ 8 ∷ []) (7 ∷ []) [] rule in cc (s.0, s.1, rule.4)
+
+none_from_nowhere : IsOneWay (8 ∷ 9 ∷ []) (ends (7 ∷ []) []) → ⊥
+none_from_nowhere rule = let s = apart (8 ∷ 9 ∷ []) (7 ∷ []) [] rule in cc (s.0, s.1, rule.4)
+
+-- nobody is told of what was not put
+none_told : IsOneWay [] (ends (7 ∷ 8 ∷ []) (9 ∷ [])) → ⊥
+none_told rule =
+    let s = apart [] (7 ∷ 8 ∷ []) (9 ∷ []) rule in
+    let t = (rule.5 1 (taking (7 ∷ 8 ∷ []) (9 ∷ [])) refl).told in
+    cc (s.0, t.1)
+
+-- one end at most puts
+one_puts : IsOneWay {T = ℕ} (7 ∷ []) (putting (7 ∷ []) ∷ putting (7 ∷ []) ∷ []) → ⊥
+one_puts rule =
+    let first = (rule.5 0 (putting (7 ∷ [])) refl).puts refl in
+    let second = (rule.5 1 (putting (7 ∷ [])) refl).puts refl in
+    cc (first.0, second.0)
+
+-- of two beginnings of one list one begins the other
+begins : Agree {T = ℕ} (7 ∷ []) (7 ∷ 8 ∷ [])
+begins = inl (8 ∷ [], refl)
+
+is_begun : Agree {T = ℕ} (7 ∷ 8 ∷ []) (7 ∷ [])
+is_begun = inr (8 ∷ [], refl)
+
+neither_begins : Agree {T = ℕ} (7 ∷ []) (8 ∷ 7 ∷ []) → ⊥
+neither_begins (inl p) = cc (p.1)
+neither_begins (inr p) = cc (p.1)
+
+-- ---- pieces of bytes with a mark between them
+
+abbrev pieces : List (Piece ℕ)
+pieces = Bytes (7 ∷ 8 ∷ []) ∷ Bytes [] ∷ Mark 5 ∷ Bytes (9 ∷ []) ∷ []
+
+all_bytes : bytes_of pieces ≡ 7 ∷ 8 ∷ 9 ∷ []
+all_bytes = refl
+
+one_mark : marks_of pieces ≡ 5 ∷ []
+one_mark = refl
