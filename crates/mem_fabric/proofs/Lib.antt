@@ -1,2 +1,3 @@
 mod Outgoing
+mod Rows
 mod Search

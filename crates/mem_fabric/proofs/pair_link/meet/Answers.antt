@@ -4,7 +4,7 @@ use mathlib.Core.List.{IsPrefix}
 use Rattle.one_way_queue.specs.Ends.{put_of}
 use Rattle.one_way_queue.specs.Pieces.{bytes_of}
 use Rattle.one_way_queue.specs.Readers.{given_by, taken_by, told_by}
-use Rattle.mem_fabric.specs.Pair.{frames_of, IsOutgoing, HasTakenAll}
+use Rattle.mem_fabric.specs.Pair.{frames_of, IsOutgoing}
 use Rattle.mem_fabric.proofs.Outgoing.{met_after_end, bytes_of_frames}
 use Rattle.mem_fabric.proofs.pair_link.meet.Goals as goal
 
