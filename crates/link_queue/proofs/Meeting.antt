@@ -1,5 +1,5 @@
 -- What a closed link and its writer have to do with each other.
-use Rattle.std.proofs.Common.{◌≡◌, ◌≤◌, ℕ, ◌+◌, Bool, true, List, ◌++◌, append_assoc, refl, ap, sym, ◌∙◌, subst, arith}
+use Rattle.std.proofs.Common.{◌≡◌, ◌≤◌, ℕ, Bool, true, List, ◌++◌, append_assoc, refl, ap, sym, ◌∙◌, subst, arith}
 use mathlib.Core.List.{IsPrefix}
 use Rattle.mrpc_base.specs.Faults.{Rose, raised}
 use Rattle.one_way_queue.specs.declared.piece.Piece.{Piece}

@@ -1,13 +1,16 @@
--- The definitions on short lists: two frames and the marks to a writer, two pieces and the marks back from it.
-use Rattle.std.proofs.Common.{◌≡◌, ℕ, true, false, true≢false, List, [], ◌∷◌, None, Some, refl, sym, inl}
+-- The definitions on short lists: two frames and the marks to a writer, a few pieces and the marks back from it.
+use Rattle.std.proofs.Common.{◌≡◌, ℕ, Bool, true, false, true≢false, List, [], ◌∷◌, ◌++◌, None, Some}
+use Rattle.std.proofs.Common.{refl, sym, ap, inl, inr, arith}
 use Rattle.one_way_queue.specs.declared.piece.Piece.{Piece}
 use Rattle.one_way_queue.specs.declared.piece.Piece.TheVariants.{Bytes, Mark}
 use Rattle.link_queue.specs.declared.marks.Order.{Order}
 use Rattle.link_queue.specs.declared.marks.Order.TheVariants.{Finish, Close}
-use Rattle.link_queue.specs.declared.marks.News.TheVariants.{End, Failed}
+use Rattle.link_queue.specs.declared.marks.News.{News}
+use Rattle.link_queue.specs.declared.marks.News.TheVariants.{End, Failed, Memory}
 use Rattle.link_queue.specs.declared.marks.Health.TheVariants.{Working, Failed as HasFailed, Memory as LacksMemory}
-use Rattle.link_queue.specs.Known.{since}
-use Rattle.link_queue.specs.Marks.{frames_of, is_open, is_closed, has_finished, ends_once, may_hold, PassesOn, BringsBack}
+use Rattle.link_queue.specs.Known.{TellsMore, since}
+use Rattle.link_queue.specs.Marks.{Among, frames_of, is_open, is_closed, has_finished, ends_once, may_hold, IsNewsOf}
+use Rattle.link_queue.specs.Marks.{QueuesUp, HasQueuedUp, PassesOn, BringsBack, HasBroughtBack}
 
 abbrev orders : List (Piece Order)
 orders = Bytes (1 ∷ 2 ∷ []) ∷ Mark Finish ∷ Bytes (3 ∷ []) ∷ Mark Close ∷ []
@@ -35,6 +38,18 @@ still_open = refl
 the_second : since ((1 ∷ 2 ∷ []) ∷ []) frames ≡ (3 ∷ []) ∷ []
 the_second = refl
 
+-- an inner link that had given 1 gave 2 and 3 since; of one that told nothing before, nothing is said
+more_came : TellsMore (Some (1 ∷ [])) (Some (1 ∷ 2 ∷ 3 ∷ [])) (2 ∷ 3 ∷ [])
+more_came known e = let same : 1 ∷ [] ≡ known = cc (e) in ap (λ (l : List ℕ). Some (l ++ 2 ∷ 3 ∷ [])) same
+
+no_more_came : TellsMore (Some (1 ∷ [])) (Some (1 ∷ 2 ∷ [])) (3 ∷ []) → ⊥
+no_more_came h = let e = h (1 ∷ []) refl in cc (e)
+
+tells_nothing : TellsMore None None (3 ∷ [])
+tells_nothing known e = absurd (cc (e))
+
+-- ---- what a writer passed on of the orders that it took
+
 -- all were passed on, or the first alone where the inner link failed then
 all_passed : PassesOn orders frames true Working
 all_passed = record { unclosed = λ e. absurd (true≢false e); closed_last = λ _. refl; in_order = refl; whole = λ _. refl }
@@ -51,6 +66,15 @@ none_twice h = cc (h.in_order)
 
 none_left_out : PassesOn orders ((1 ∷ 2 ∷ []) ∷ []) true Working → ⊥
 none_left_out h = cc (h.whole refl)
+
+none_from_nowhere : PassesOn orders ((9 ∷ []) ∷ []) true HasFailed → ⊥
+none_from_nowhere h = cc (h.in_order)
+
+-- the closing mark is the last that it takes
+none_behind_the_closing : PassesOn (Mark Close ∷ Bytes (3 ∷ []) ∷ []) [] true HasFailed → ⊥
+none_behind_the_closing h = true≢false (sym (h.closed_last refl))
+
+-- ---- what it brought back of the bytes that came
 
 -- a piece was put, and one is held; then the end is held
 one_held : BringsBack (Bytes (7 ∷ []) ∷ []) (Some (Bytes (8 ∷ 9 ∷ []))) (7 ∷ 8 ∷ 9 ∷ []) false Working
@@ -71,3 +95,112 @@ no_failure h = cc (h.failed_first (inl refl))
 
 no_bytes_after_the_end : may_hold true (Some (Bytes (7 ∷ []))) ≡ false
 no_bytes_after_the_end = refl
+
+no_byte_twice : BringsBack (Bytes (7 ∷ []) ∷ []) (Some (Bytes (7 ∷ 8 ∷ []))) (7 ∷ 8 ∷ []) false Working → ⊥
+no_byte_twice h = cc (h.in_order)
+
+no_byte_lost : BringsBack (Bytes (8 ∷ []) ∷ []) None (7 ∷ 8 ∷ []) false Working → ⊥
+no_byte_lost h = cc (h.in_order)
+
+-- a failure is told of a link that failed alone, and want of memory where it was wanting
+failure_told : IsNewsOf HasFailed Failed
+failure_told = refl
+
+no_failure_told : IsNewsOf LacksMemory Failed → ⊥
+no_failure_told e = cc (e)
+
+no_want_told : IsNewsOf Working Memory → ⊥
+no_want_told e = cc (e)
+
+-- at the closing it leaves out what it held for a full queue, but no byte before that, and none where it told the end
+held_left_out : HasBroughtBack (Bytes (7 ∷ []) ∷ []) (7 ∷ 8 ∷ 9 ∷ []) false Working
+held_left_out = record {
+  in_order = refl;
+  whole = λ a. absurd a;
+  ends_once = refl;
+  ended_first = λ a. absurd a;
+  failed_first = λ a. absurd a;
+}
+
+all_brought : HasBroughtBack (Bytes (7 ∷ []) ∷ Bytes (8 ∷ []) ∷ Mark End ∷ []) (7 ∷ 8 ∷ []) true Working
+all_brought = record {
+  in_order = refl;
+  whole = λ _. refl;
+  ends_once = refl;
+  ended_first = λ _. refl;
+  failed_first = failed;
+}
+  where
+    failed : Among Failed (End ∷ []) → Working ≡ HasFailed
+    failed (inl e) = absurd (cc (e))
+    failed (inr a) = absurd a
+
+none_overtaken : HasBroughtBack (Bytes (8 ∷ []) ∷ []) (7 ∷ 8 ∷ []) false Working → ⊥
+none_overtaken h = cc (h.in_order)
+
+no_end_with_a_rest : HasBroughtBack (Bytes (7 ∷ []) ∷ Mark End ∷ []) (7 ∷ 8 ∷ []) true Working → ⊥
+no_end_with_a_rest h = let e = h.whole (inl refl) in cc (e)
+
+-- ---- what a link put into the queue of one frame, and what it took of the queue back
+
+abbrev bytes_and_end : List (Piece News)
+bytes_and_end = Bytes (7 ∷ 8 ∷ []) ∷ Mark End ∷ []
+
+abbrev queues : Bool → List (Piece News) → List ℕ → Bool → ℕ → Type 0
+queues finished taken given ended faults =
+    QueuesUp 1 3 (Bytes (1 ∷ []) ∷ Mark Finish ∷ []) finished taken given ended Working faults
+
+still_comes : queues true (Bytes (7 ∷ 8 ∷ []) ∷ []) (7 ∷ []) false 0
+still_comes = record {
+  places = refl;
+  unclosed = refl;
+  finishes = refl;
+  ends = λ e. absurd (true≢false (sym e));
+  gave = λ e. absurd (true≢false (sym e));
+  fails = λ e. absurd (cc (e));
+  counts = λ some. absurd (omega (arith, some));
+}
+
+all_came : queues true bytes_and_end (7 ∷ 8 ∷ []) true 0
+all_came = record {
+  places = refl;
+  unclosed = refl;
+  finishes = refl;
+  ends = λ _. inl refl;
+  gave = λ _. refl;
+  fails = λ e. absurd (cc (e));
+  counts = λ some. absurd (omega (arith, some));
+}
+
+-- it ends only at the mark of the end, and once every byte before it was given; its finish puts a mark
+no_end_without_the_mark : queues true (Bytes (7 ∷ []) ∷ []) (7 ∷ []) true 0 → ⊥
+no_end_without_the_mark h = absurd (h.ends refl)
+
+no_end_with_bytes_left : queues true bytes_and_end (7 ∷ []) true 0 → ⊥
+no_end_with_bytes_left h = let e = h.gave refl in cc (e)
+
+no_mark_without_finish : queues false [] [] false 0 → ⊥
+no_mark_without_finish h = true≢false h.finishes
+
+-- it counts no fault while the inner link works
+no_fault_of_its_own : queues true [] [] false 1 → ⊥
+no_fault_of_its_own h = let e = h.counts (omega arith) in cc (e)
+
+-- a closed link put the closing mark last, and has learnt of a failure only by its mark
+all_went : HasQueuedUp orders bytes_and_end (7 ∷ 8 ∷ []) true false
+all_went = record {
+  closed_last = refl;
+  ends = λ _. inl refl;
+  gave = λ _. refl;
+  fails = λ e. absurd (true≢false (sym e));
+}
+
+never_closed : HasQueuedUp (Bytes (1 ∷ []) ∷ []) [] [] false false → ⊥
+never_closed h = true≢false (sym h.closed_last)
+
+no_failure_without_the_mark : HasQueuedUp orders bytes_and_end (7 ∷ 8 ∷ []) true true → ⊥
+no_failure_without_the_mark h = let a = h.fails refl in none a
+  where
+    none : Among Failed (End ∷ []) → ⊥
+    none (inl e) = cc (e)
+    none (inr a) = absurd a

@@ -1,5 +1,5 @@
 -- What goes to a writer and what comes back from it.
-use Rattle.std.specs.Prelude.{◌≡◌, ◌⊎◌, ◌+◌, ◌++◌, ℕ, Bool, true, false, List, [], ◌∷◌, Option, None, Some}
+use Rattle.std.specs.Prelude.{◌≡◌, ◌⊎◌, ◌<◌, ◌+◌, ◌++◌, ℕ, Bool, true, false, List, [], ◌∷◌, Option, None, Some}
 use Rattle.one_way_queue.specs.declared.piece.Piece.{Piece}
 use Rattle.one_way_queue.specs.declared.piece.Piece.TheVariants.{Bytes, Mark}
 use Rattle.one_way_queue.specs.Pieces.{bytes_of, marks_of}
@@ -80,15 +80,17 @@ may_hold ended (Some (Mark Failed)) = false
 may_hold ended (Some (Mark Memory)) = false
 
 -- what a link put into the queue, and what it took of the queue back: the queue has two places for the marks, it is
--- open, it was finished where a mark says so, it ended only at the end mark and with every byte before it, and it
--- failed only at that mark
-pub record QueuesUp (most capacity : ℕ) (put : List (Piece Order)) (finished : Bool) (taken : List (Piece News)) (given : List ℕ) (ended : Bool) (health : Health) : Type 0 where
+-- open, it was finished where a mark says so, it ended only at the end mark and with every byte before it, it learnt of
+-- a failure only at that mark, and it counts faults of its own only since then
+pub record QueuesUp (most capacity : ℕ) (put : List (Piece Order)) (finished : Bool)
+    (taken : List (Piece News)) (given : List ℕ) (ended : Bool) (health : Health) (faults : ℕ) : Type 0 where
   pub places : capacity ≡ most + 2
   pub unclosed : is_open put ≡ true
   pub finishes : has_finished put ≡ finished
   pub ends : ended ≡ true → Among End (marks_of taken)
   pub gave : ended ≡ true → given ≡ bytes_of taken
   pub fails : health ≡ HasFailed → Among Failed (marks_of taken)
+  pub counts : 0 < faults → health ≡ HasFailed
 
 -- the same of a closed link
 pub record HasQueuedUp (put : List (Piece Order)) (taken : List (Piece News)) (given : List ℕ) (ended failed : Bool) : Type 0 where

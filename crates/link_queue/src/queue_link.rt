@@ -41,7 +41,7 @@ impl<'r, R> Model for QueueLink<'r, R> {
 
     ghost view = { λ l. record { handed = frames_of (put_of l.out); finished = l.finished; given = given_by l.incoming; ended = l.ended; told = bytes_of (told_by l.incoming); most = l.most; health = l.health; faults = l.faults; forward = producer_queue l.out; backward = reader_queue l.incoming } };
 
-    ghost invariant = { λ l. QueuesUp l.most (capacity_of l.out) (put_of l.out) l.finished (taken_by l.incoming) (given_by l.incoming) l.ended l.health };
+    ghost invariant = { λ l. QueuesUp l.most (capacity_of l.out) (put_of l.out) l.finished (taken_by l.incoming) (given_by l.incoming) l.ended l.health l.faults };
 }
 
 impl<'r, R: Wait> QueueLink<'r, R> {
@@ -86,6 +86,8 @@ impl<'r, R: Wait> QueueLink<'r, R> {
         ensures given { result.given ≡ self.entry.given }
         ensures ended { result.ended ≡ self.entry.ended }
         ensures failed { (result.failed ≡ true) ↔ (self.entry.health ≡ Health.Failed) }
+        // A link that counted a fault has learnt that the inner link failed.
+        ensures counted { 0 < self.entry.faults → result.failed ≡ true }
         ensures forward { result.forward ≡ self.entry.forward }
         ensures backward { result.backward ≡ self.entry.backward }
     {
@@ -111,6 +113,7 @@ impl<'r, R: Wait> QueueLink<'r, R> {
 
     // Counts a send or a receive that failed.
     fn fault(&mut self)
+        requires { self.old.health ≡ Health.Failed }
         ensures faults { self.new ≡ record self.old { faults = raised self.old.faults } }
         ensures never_falls { self.old.faults ≤ self.new.faults }
     {

@@ -1,4 +1,4 @@
-use Rattle.std.proofs.Common.{◌≡◌, true, rules, ap, ◌∙◌}
+use Rattle.std.proofs.Common.{◌≡◌, ◌<◌, ℕ, true, rules, ap, sym, subst, ◌∙◌}
 use Rattle.one_way_queue.specs.Ends.{put_of}
 use Rattle.link_queue.specs.declared.marks.Order.TheVariants.{Close}
 use Rattle.link_queue.specs.declared.marks.Health.TheVariants.{Failed}
@@ -19,3 +19,11 @@ invariant_of-result g c =
 
 pub returns-clause-handed : goal.returns-clause-handed
 returns-clause-handed g c = ap frames_of c.put_waiting.ensures.done ∙ frames_snoc_mark (put_of c.self.inside.out) Close ∙ ap (λ v. v.handed) c.self.view_is
+
+pub returns-clause-counted : goal.returns-clause-counted
+returns-clause-counted g c = λ some.
+    let same = ap (λ v. v.faults) c.self.view_is in
+    let rose : 0 < c.self.inside.faults = subst (λ (n : ℕ). 0 < n) (sym same) some in
+    let fails : c.self.inside.health ≡ Failed = c.self.invariant.counts rose in
+    let says : (c.self.inside.health ≡ Failed → c.eq.result ≡ true) = search rules in
+    says fails

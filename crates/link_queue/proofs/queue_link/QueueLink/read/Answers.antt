@@ -1,4 +1,4 @@
-use Rattle.std.proofs.Common.{List, ℕ, ap, subst}
+use Rattle.std.proofs.Common.{List, ℕ, refl, ap, subst}
 use mathlib.Core.List.{IsPrefix}
 use Rattle.one_way_queue.specs.Readers.{given_by, taken_by, told_by}
 use Rattle.link_queue.specs.declared.marks.News.TheVariants.{End, Failed}
@@ -16,6 +16,7 @@ invariant_of-self-in-Mark-End g c =
       ends = λ _. found_among End _ _ _ e.mark c.in-Mark-End.field-0-is;
       gave = λ _. e.all;
       fails = λ f. found_too Failed _ _ _ e.mark (inv.fails f);
+      counts = inv.counts;
     }
 
 pub invariant_of-self-in-Mark-Failed : goal.invariant_of-self-in-Mark-Failed
@@ -29,6 +30,7 @@ invariant_of-self-in-Mark-Failed g c =
       ends = λ h. found_too End _ _ _ e.mark (inv.ends h);
       gave = λ _. e.all;
       fails = λ _. found_among Failed _ _ _ e.mark c.in-Mark-Failed.field-0-is;
+      counts = λ _. refl;
     }
 
 pub returns-in-Nothing-clause-idle : goal.returns-in-Nothing-clause-idle
