@@ -1,4 +1,6 @@
 // A thread that sends, and a writer's thread that passes on.
+ghost use Rattle.std.specs.Prelude.{◌≡◌, ◌≤◌, ◌+◌, IfOk, length};
+
 use link_queue::{Passed, QueueLink};
 use mrpc_base::{Link, MemLink};
 use mrpc_table::Memory;
@@ -18,8 +20,10 @@ pub struct Handed {
     pub sum: u64,
 }
 
-/// Passes so many frames on. Those for which no memory is found are left out.
-pub fn pass<R: Threads + Wait + Sync>(rt: &R, alloc: Global, count: u32) -> Result<Handed, Memory> {
+/// Passes so many frames on, at most. Those for which no memory is found are left out.
+pub fn pass<R: Threads + Wait + Sync>(rt: &R, alloc: Global, count: u32) -> Result<Handed, Memory>
+    ensures no_more { IfOk result (λ handed. handed.count ≤ count) }
+{
     let none = Vec::new(alloc);
     let inner = MemLink::new(
         alloc,
@@ -29,12 +33,17 @@ pub fn pass<R: Threads + Wait + Sync>(rt: &R, alloc: Global, count: u32) -> Resu
         Vec::new(alloc),
     );
     let (link, writer) = link_queue::open(rt, alloc, CAPACITY, inner)?;
-    let (end, _) = join(rt, move || writer.run(), move || send_all(link, count));
+    let (mut end, passed) = join(rt, move || writer.run(), move || send_all(link, count));
+    end.meet(passed);
     Ok(handed_to(end.link()))
 }
 
 // Sends frames that begin with their numbers, and closes the link.
-fn send_all<R: Wait>(mut link: QueueLink<R>, count: u32) -> Passed {
+fn send_all<R: Wait>(mut link: QueueLink<R>, count: u32) -> Passed
+    ensures handed { length result.handed ≤ length link.entry.handed + count }
+    ensures forward { result.forward ≡ link.entry.forward }
+    ensures backward { result.backward ≡ link.entry.backward }
+{
     let mut frame = [0; 64];
     for number in 0..count {
         frame[..4].copy_from_slice(&number.to_le_bytes());
@@ -43,7 +52,9 @@ fn send_all<R: Wait>(mut link: QueueLink<R>, count: u32) -> Passed {
     link.close()
 }
 
-fn handed_to(link: &MemLink) -> Handed {
+fn handed_to(link: &MemLink) -> Handed
+    ensures { result.count ≡ length link.now.handed }
+{
     let frames = link.handed();
     let mut sum = 0u64;
     for frame in frames {
