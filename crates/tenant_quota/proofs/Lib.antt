@@ -3,3 +3,4 @@ mod Tickets
 mod Steps
 mod Cap
 mod Tenants
+mod Rows

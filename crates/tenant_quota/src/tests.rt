@@ -1,7 +1,9 @@
-ghost use Rattle.std.specs.Prelude.{◌≡◌};
+ghost use Rattle.std.specs.Prelude.{◌≡◌, ◌≤◌, IfOk};
+ghost use Rattle.std.specs.Thread.{IsSync};
 
 use super::*;
 use mrpc_base::Tickets;
+use std::alloc::AllocError;
 use std::test::Fail;
 use std::thread::{Threads, join};
 
@@ -67,6 +69,63 @@ fn threads_draw_each_ticket_once(rt: HostRuntime) -> Result<(), Fail> {
     let other = one.split()?;
     let mut all = race(&rt, one, other);
     assert_eq!(rt; all.draw(0), 2000);
+    Ok(())
+}
+
+// The same in four threads.
+fn race_of_four<R: Threads + Sync>(rt: &R, mut seat: Seat) -> Result<Seat, AllocError>
+    requires windows { seat.quota.words ≡ 1 }
+    requires shares { 4 ≤ seat.share }
+    ensures { IfOk result (λ all. all.quota ≡ seat.quota) }
+{
+    let mut third = seat.split()?;
+    let second = seat.split()?;
+    let fourth = third.split()?;
+    let (mut all, other) = join(
+        rt,
+        move || -> Seat
+            requires { IsSync R.row × (seat.quota.words ≡ 1) × (second.quota ≡ seat.quota) }
+            ensures { result.quota ≡ seat.quota }
+        { race(rt, seat, second) },
+        move || -> Seat
+            requires { IsSync R.row × (third.quota.words ≡ 1) × (fourth.quota ≡ third.quota) }
+            ensures { result.quota ≡ third.quota }
+        { race(rt, third, fourth) },
+    );
+    all.join(other);
+    Ok(all)
+}
+
+// The same in eight threads.
+fn race_of_eight<R: Threads + Sync>(rt: &R, mut seat: Seat) -> Result<Seat, AllocError>
+    requires windows { seat.quota.words ≡ 1 }
+    requires shares { 8 ≤ seat.share }
+    ensures { IfOk result (λ all. all.quota ≡ seat.quota) }
+{
+    let half = seat.split()?;
+    let (all, others) = join(
+        rt,
+        move || -> Result<Seat, AllocError>
+            requires { IsSync R.row × (seat.quota.words ≡ 1) × (4 ≤ seat.share) }
+            ensures { IfOk result (λ all. all.quota ≡ seat.quota) }
+        { race_of_four(rt, seat) },
+        move || -> Result<Seat, AllocError>
+            requires { IsSync R.row × (half.quota.words ≡ 1) × (4 ≤ half.share) }
+            ensures { IfOk result (λ all. all.quota ≡ half.quota) }
+        { race_of_four(rt, half) },
+    );
+    let mut all = all?;
+    all.join(others?);
+    Ok(all)
+}
+
+#[test]
+fn eight_threads_draw_each_ticket_once(rt: HostRuntime) -> Result<(), Fail> {
+    let seat = open(rt.alloc(), 1)?;
+    let mut all = race_of_eight(&rt, seat)?;
+    all.tickets_are_distinct();
+    all.cap_is_kept(0, 100);
+    assert_eq!(rt; all.draw(0), 8000);
     Ok(())
 }
 
