@@ -1,0 +1,3 @@
+mod Answering
+mod Rows
+mod Steadiness

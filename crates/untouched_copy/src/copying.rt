@@ -1,0 +1,63 @@
+//! The copy of a message that a reader loads.
+
+ghost use Rattle.std.specs.Prelude.{◌≡◌, ◌<◌, ◌≤◌, ◌++◌, ℕ, List, IfOk, length, map};
+ghost use Rattle.mrpc_base.specs.Heap.{AfterLoads};
+ghost use Rattle.mrpc_table.specs.Valid.{IsValid};
+ghost use Rattle.graph_form.specs.Forgotten.{tree_of};
+ghost use Rattle.graph_form.specs.Malformed.{IsMalformed};
+ghost use Rattle.graph_form.specs.Placed.{Placed, loads, IsSound};
+ghost use Rattle.graph_copy.specs.Answers.{IfCopied, IfMalformed, loads_of};
+ghost use Rattle.graph_copy.specs.Copies.{since, IsCopied};
+ghost use Rattle.shared_heap.specs.Fresh.{AfterLoad, BeginsWith, word_of};
+ghost use Rattle.untouched_copy.specs.Untouched.{StandsUntouched};
+
+use crate::laws::untouched_graph_is_copied;
+use graph_copy::{CopyResult, copy};
+use mrpc_table::{Memory, Table};
+use shared_heap::Reader;
+use std::alloc::Global;
+
+/// Copies the message of a type, by its place in the table, at an address of a heap, from at most `limit` loads, while
+/// others may store. It waits for nobody. After `Memory` the loads that were made stand in the reader's list.
+pub fn copy_message(
+    alloc: Global,
+    reader: &mut Reader,
+    table: &Table,
+    msg: u32,
+    addr: u64,
+    limit: u64,
+) -> Result<CopyResult, Memory>
+    requires valid { IsValid table.now }
+    requires known { msg < length table.now.messages }
+    requires least_heap { 4 ≤ reader.old.heap.words }
+    requires greatest_heap { reader.old.heap.words ≤ 65536 }
+    requires least_limit { 1 ≤ limit }
+    requires greatest_limit { limit ≤ 16384 }
+
+    // A graph that stands after so many stores as the reader knows, and to which no later store goes, whatever list of
+    // stores goes on from what the reader knows now, is copied, by as many loads as it has words.
+    ensures untouched { (P : Placed) (all : List (ℕ × ℕ)) (after : ℕ)
+        → IsSound table.now reader.old.heap.words msg addr P → length (loads P) ≤ limit
+        → BeginsWith all reader.new.known → after ≤ length reader.old.known → StandsUntouched all after P
+        → IfOk result (λ answer. answer ≡ CopyResult.Copied (tree_of table.now msg P) (length (loads P))) }
+
+    // Whatever the answer is, the reader made these loads, and no other change.
+    ensures adds { map word_of reader.new.loads
+        ≡ map word_of reader.old.loads ++ since (map word_of reader.old.loads) (map word_of reader.new.loads) }
+    ensures only_loads { AfterLoads AfterLoad reader.old
+        (since (map word_of reader.old.loads) (map word_of reader.new.loads)) reader.new }
+    ensures few { length (since (map word_of reader.old.loads) (map word_of reader.new.loads)) ≤ limit }
+    ensures heap { reader.new.heap ≡ reader.old.heap }
+    ensures grows { BeginsWith reader.new.known reader.old.known }
+
+    // It is the copy that `graph_copy` makes, of exactly these loads.
+    ensures copied { IfOk result (IfCopied (IsCopied table.now reader.old.heap.words msg addr
+        (since (map word_of reader.old.loads) (map word_of reader.new.loads)))) }
+    ensures malformed { IfOk result (IfMalformed (IsMalformed table.now reader.old.heap.words msg addr limit
+        (since (map word_of reader.old.loads) (map word_of reader.new.loads)))) }
+    ensures counted { IfOk result (λ answer.
+        loads_of answer ≡ length (since (map word_of reader.old.loads) (map word_of reader.new.loads))) }
+{
+    untouched_graph_is_copied();
+    copy(alloc, reader, table, msg, addr, limit)
+}

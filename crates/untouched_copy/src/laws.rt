@@ -1,0 +1,26 @@
+//! The law of a graph that nobody stores to. The function does nothing; its clauses hold.
+
+ghost use Rattle.std.specs.Prelude.{◌≡◌, ◌≤◌, ℕ, List, length};
+ghost use Rattle.mrpc_base.specs.Heap.{AfterLoads};
+ghost use Rattle.mrpc_table.specs.declared.table.Table.{Table};
+ghost use Rattle.graph_form.specs.Forgotten.{tree_of};
+ghost use Rattle.graph_form.specs.Malformed.{Outcome, copied, ComesTo};
+ghost use Rattle.graph_form.specs.Placed.{Placed, loads, IsSound};
+ghost use Rattle.shared_heap.specs.Fresh.{Reading, AfterLoad, BeginsWith};
+ghost use Rattle.untouched_copy.specs.Untouched.{StandsUntouched};
+
+use graph_form::reading_determines_outcome;
+
+/// Where a reader made loads that come to something at an address, a sound graph stands there after as many stores as
+/// the reader knew at first, within the limit, and no later store of the writer's list goes to it: the loads are those
+/// of that graph, and they come to its tree.
+pub fn untouched_graph_is_copied()
+    ensures { (T : Table) (msg address limit after : ℕ) (old new : Reading) (own all : List (ℕ × ℕ)) (P : Placed)
+        (outcome : Outcome)
+        → AfterLoads AfterLoad old own new → ComesTo T old.heap.words msg address limit own outcome
+        → BeginsWith all new.known → after ≤ length old.known
+        → IsSound T old.heap.words msg address P → length (loads P) ≤ limit → StandsUntouched all after P
+        → (own ≡ loads P) × (outcome ≡ copied (tree_of T msg P)) }
+{
+    reading_determines_outcome();
+}
