@@ -21,6 +21,3 @@ pub use opening::open;
 pub use queue_link::{Passed, QueueLink};
 pub use writer::QueueWriter;
 pub use writer_end::WriterEnd;
-
-#[cfg(test)]
-mod tests;

@@ -15,6 +15,3 @@ mod pair_link;
 
 pub use mem_fabric::{ListedFaults, MemFabric};
 pub use pair_link::{PairLink, meet};
-
-#[cfg(test)]
-mod tests;

@@ -22,6 +22,3 @@ pub use line::{meet, open};
 pub use piece::{Found, Piece};
 pub use piece_reader::PieceReader;
 pub use producer::Producer;
-
-#[cfg(test)]
-mod tests;

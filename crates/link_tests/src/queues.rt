@@ -1,5 +1,5 @@
-use super::*;
 use mrpc_table::Bytes;
+use one_way_queue::{Consumer, Found, Piece, PieceReader, Producer, meet, open};
 use std::sync::Wait;
 use std::test::Fail;
 use std::thread;
@@ -12,9 +12,9 @@ fn comes_out_in_order(rt: HostRuntime) -> Result<(), Fail> {
     assert_eq!(rt; producer.put(&rt, 9), Err(9));
     assert_eq!(rt; producer.len(&rt), 2);
     meet(&mut producer, &mut consumer);
-    assert_eq!(rt; consumer.take(&rt), Some(7));
-    assert_eq!(rt; consumer.take(&rt), Some(8));
-    assert_eq!(rt; consumer.take(&rt), None);
+    for want in [Some(7), Some(8), None] {
+        assert_eq!(rt; consumer.take(&rt), want);
+    }
     Ok(())
 }
 
@@ -71,30 +71,4 @@ fn pieces_are_read_as_bytes(rt: HostRuntime) -> Result<(), Fail> {
     assert!(rt; matches!(reader.read(&rt, &mut buf), Found::Mark(5)));
     assert!(rt; matches!(reader.read(&rt, &mut buf), Found::Nothing));
     Ok(())
-}
-
-#[test]
-fn pieces_go_to_another_thread(rt: HostRuntime) -> Result<(), Fail> {
-    let (mut producer, consumer) = open::<Piece<u8>>(rt.alloc(), 4)?;
-    let reader = PieceReader::new(rt.alloc(), consumer);
-    let (_, found) = thread::join(
-        &rt,
-        move || producer.put_waiting(&rt, Piece::Mark(5)),
-        move || first_mark(&rt, reader),
-    );
-    assert_eq!(rt; found, Some(5));
-    Ok(())
-}
-
-// The first mark, unless bytes come before it.
-fn first_mark<R: Wait>(rt: &R, mut reader: PieceReader<u8>) -> Option<u8> {
-    let mut buf = [0; 2];
-    for _ in rt.forever() {
-        match reader.read(rt, &mut buf) {
-            Found::Bytes(_) => return None,
-            Found::Mark(mark) => return Some(mark),
-            Found::Nothing => thread::yield_now(),
-        }
-    }
-    unreachable!()
 }

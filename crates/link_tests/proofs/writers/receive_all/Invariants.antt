@@ -1,5 +1,5 @@
 use Rattle.std.proofs.Common.{◌≡◌}
-use Rattle.link_queue.proofs.tests.receive_all.Given as goal
+use Rattle.link_tests.proofs.writers.receive_all.Given as goal
 
 -- it stays the same link
 abbrev pub invariant-loop : goal.invariant-loop

@@ -1,5 +1,5 @@
 use Rattle.std.proofs.Common.{◌≡◌}
-use Rattle.link_queue.proofs.tests.talk.Given as goal
+use Rattle.link_tests.proofs.writers.talk.Given as goal
 
 -- it stays the same link
 abbrev pub invariant-loop-number : goal.invariant-loop-number

@@ -1,6 +1,6 @@
 ghost use Rattle.std.specs.Prelude.{◌≡◌};
 
-use super::*;
+use link_queue::{Passed, QueueLink, WriterEnd, open};
 use mrpc_base::{Came, Handed, Link, MemLink};
 use std::alloc::Global;
 use std::sync::Wait;
@@ -120,11 +120,28 @@ fn a_frame_is_passed_on(rt: HostRuntime) -> Result<(), Fail> {
     let inner = three_bytes(alloc, Vec::new(alloc), Vec::new(alloc))?;
     let (mut link, writer) = open(&rt, alloc, 1, inner)?;
     assert_eq!(rt; link.send(&[5, 6]), Handed::Done);
-    // The queue is full, and the marks have their places.
-    link.finish();
     let passed = link.close();
     let mut end = writer.run();
     end.meet(passed);
+    assert_eq!(rt; end.link().handed().len(), 1);
+    for frame in end.link().handed() {
+        assert_eq!(rt; frame.as_slice(), [5, 6].as_slice());
+    }
+    Ok(())
+}
+
+#[test]
+fn finish_and_close_find_their_places(rt: HostRuntime) -> Result<(), Fail> {
+    let alloc = rt.alloc();
+    let inner = three_bytes(alloc, Vec::new(alloc), Vec::new(alloc))?;
+    let (mut link, writer) = open(&rt, alloc, 1, inner)?;
+    // From here on the queue is full.
+    assert_eq!(rt; link.send(&[5, 6]), Handed::Done);
+    link.finish();
+    link.finish();
+    let _passed = link.close();
+    let end = writer.run();
+    assert!(rt; !end.failed());
     assert!(rt; !end.memory());
     let inner = end.into_link();
     assert_eq!(rt; inner.handed().len(), 1);
@@ -137,7 +154,9 @@ fn both_sides_are_busy(rt: HostRuntime) -> Result<(), Fail> {
     let alloc = rt.alloc();
     let inner = three_bytes(alloc, Vec::new(alloc), Vec::new(alloc))?;
     let (end, sent, came, last) = talk_over(&rt, alloc, inner)?;
-    assert_eq!(rt; (sent, came, last), (3, 3, Came::End));
+    assert_eq!(rt; sent, 3);
+    assert_eq!(rt; came, 3);
+    assert_eq!(rt; last, Came::End);
     assert_eq!(rt; end.link().handed().len(), 3);
     Ok(())
 }
@@ -148,8 +167,11 @@ fn each_send_fails(rt: HostRuntime) -> Result<(), Fail> {
     for k in 0..3usize {
         let inner = three_bytes(alloc, [k as u64 + 1].to_vec(alloc)?, Vec::new(alloc))?;
         let (end, sent, _, last) = talk_over(&rt, alloc, inner)?;
-        assert_eq!(rt; (sent, last), (3, Came::Failed));
-        assert_eq!(rt; (end.link().handed().len(), end.link().faults()), (k, 1));
+        assert_eq!(rt; sent, 3);
+        assert_eq!(rt; last, Came::Failed);
+        assert!(rt; end.failed());
+        assert_eq!(rt; end.link().handed().len(), k);
+        assert_eq!(rt; end.link().faults(), 1);
     }
     Ok(())
 }
@@ -160,7 +182,9 @@ fn each_receive_fails(rt: HostRuntime) -> Result<(), Fail> {
     for k in 0..4usize {
         let inner = three_bytes(alloc, Vec::new(alloc), [k as u64 + 1].to_vec(alloc)?)?;
         let (end, sent, came, last) = talk_over(&rt, alloc, inner)?;
-        assert_eq!(rt; (sent, came, last), (3, k, Came::Failed));
+        assert_eq!(rt; sent, 3);
+        assert_eq!(rt; came, k);
+        assert_eq!(rt; last, Came::Failed);
         assert_eq!(rt; end.link().faults(), 1);
     }
     Ok(())
@@ -170,7 +194,9 @@ fn each_receive_fails(rt: HostRuntime) -> Result<(), Fail> {
 fn memory_is_wanting(rt: HostRuntime) -> Result<(), Fail> {
     for in_receives in [false, true] {
         let (end, sent, came, last) = talk_over(&rt, rt.alloc(), Wanting { in_receives })?;
-        assert_eq!(rt; (sent, came, last), (3, 0, Came::Memory));
+        assert_eq!(rt; sent, 3);
+        assert_eq!(rt; came, 0);
+        assert_eq!(rt; last, Came::Memory);
         assert!(rt; end.memory());
     }
     Ok(())
