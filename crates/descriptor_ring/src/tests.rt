@@ -5,6 +5,7 @@ ghost use Rattle.descriptor_ring.specs.Rings.{IsOf};
 use super::*;
 use mrpc_base::{Stores, Words};
 use shared_heap::{Note, Reader, Writer};
+use std::alloc::{AllocError, Global};
 use std::sync::Wait;
 use std::test::Fail;
 use std::thread;
@@ -42,6 +43,42 @@ fn a_ring_of_two_numbers_is_closed_once_there_is_room(rt: HostRuntime) -> Result
     };
     receiver.meet(sent);
     assert!(rt; matches!(receiver.take(&rt), NumberTaken::Closed));
+    Ok(())
+}
+
+// Sends a descriptor, or tells how many items a full ring held.
+fn submit<R: Wait>(rt: &R, writer: &mut Writer, sender: &mut Sender) -> Option<u64>
+    requires one_heap { sender.old.heap ≡ writer.old.heap }
+    requires few { length sender.old.sent < 4294967294 }
+    ensures writer { writer.new ≡ writer.old }
+    ensures heap { sender.new.heap ≡ sender.old.heap }
+    ensures few { length sender.new.sent ≤ length sender.old.sent + 1 }
+{
+    let descriptor = submission(writer);
+    match sender.send(rt, descriptor) {
+        Ok(()) => None,
+        Err(full) => Some(full.lesson.held()),
+    }
+}
+
+#[test]
+fn a_full_ring_of_one_descriptor_refuses(rt: HostRuntime) -> Result<(), Fail> {
+    let (mut writer, mut reader) = shared_heap::open(rt.alloc(), 4)?;
+    let (mut sender, mut receiver) = open(rt.alloc(), 1, &reader)?;
+    writer.store(1, 9);
+    assert_eq!(rt; submit(&rt, &mut writer, &mut sender), None);
+    assert_eq!(rt; submit(&rt, &mut writer, &mut sender), Some(1));
+    let Taken::Item(descriptor) = receiver.take(&rt) else {
+        return Err(Fail::from("one was sent"));
+    };
+    meet(&mut reader, descriptor);
+    assert_eq!(rt; reader.load(1), 9);
+    assert_eq!(rt; submit(&rt, &mut writer, &mut sender), None);
+    assert!(rt; matches!(receiver.take(&rt), Taken::Item(_)));
+    let Taken::Empty(lesson) = receiver.take(&rt) else {
+        return Err(Fail::from("it was empty"));
+    };
+    assert_eq!(rt; lesson.held(), 0);
     Ok(())
 }
 
@@ -195,12 +232,110 @@ fn run<R: Threads + Wait + Sync>(
     (found, reader.load(2))
 }
 
+// The same over a new heap and a new ring.
+fn run_with<R: Threads + Wait + Sync>(
+    rt: &R,
+    alloc: Global,
+    cap: u64,
+) -> Result<(u64, u64, bool), AllocError>
+    requires { (1 ≤ cap) × (cap ≤ 1024) }
+{
+    let (writer, reader) = shared_heap::open(alloc, 4)?;
+    let (sender, receiver) = open(alloc, cap, &reader)?;
+    let (found, last) = run(rt, writer, sender, reader, receiver);
+    Ok((found.descriptors, last, found.fresh))
+}
+
 #[test]
 fn a_reader_meets_the_notes_of_descriptors(rt: HostRuntime) -> Result<(), Fail> {
-    let (writer, reader) = shared_heap::open(rt.alloc(), 4)?;
-    let (sender, receiver) = open(rt.alloc(), 2, &reader)?;
-    let (found, last) = run(&rt, writer, sender, reader, receiver);
-    assert!(rt; found.fresh);
-    assert_eq!(rt; (found.descriptors, last), (10, 1000));
+    let alloc = rt.alloc();
+    assert_eq!(rt; run_with(&rt, alloc, 1)?, (10, 1000, true));
+    assert_eq!(rt; run_with(&rt, alloc, 2)?, (10, 1000, true));
+    assert_eq!(rt; run_with(&rt, alloc, 1024)?, (10, 1000, true));
+    Ok(())
+}
+
+// Sends 0, 1, 2 and so on until the ring is full, and says how many it then holds.
+fn fill<R: Wait>(rt: &R, sender: &mut NumberSender) -> u64
+    requires { sender.old.sent ≡ [] }
+    ensures { sender.new.ring ≡ sender.old.ring }
+{
+    for number in 0..2000 {
+        if sender.send(rt, number).is_err() {
+            return number;
+        }
+    }
+    2000
+}
+
+// Closes a ring of numbers, however often it is full.
+fn close_numbers<R: Wait>(rt: &R, mut sender: NumberSender) -> NumbersSent
+    ensures { result.ring ≡ sender.ring }
+{
+    for _ in rt.forever() {
+        match sender.close(rt) {
+            Ok(sent) => return sent,
+            Err((back, _)) => sender = back,
+        }
+        thread::yield_now();
+    }
+    unreachable!()
+}
+
+// Takes numbers until the closing, and says how many of 0, 1, 2 and so on came in order.
+fn take_numbers<R: Wait>(rt: &R, receiver: &mut NumberReceiver) -> u64
+    requires taken { receiver.old.taken ≡ [] }
+    ensures closed { IsTrue receiver.new.closed }
+    ensures ring { receiver.new.ring ≡ receiver.old.ring }
+{
+    let mut next = 0;
+    for _ in rt.forever() {
+        match receiver.take(rt) {
+            NumberTaken::Item(number) => {
+                if number == next {
+                    next += 1;
+                }
+            }
+            NumberTaken::Closed => return next,
+            NumberTaken::Empty(_) => thread::yield_now(),
+        }
+    }
+    unreachable!()
+}
+
+// Fills a ring, and closes it in one thread while another takes.
+fn close_a_full_ring<R: Threads + Wait + Sync>(
+    rt: &R,
+    alloc: Global,
+    cap: u64,
+) -> Result<(u64, u64), AllocError>
+    requires { (1 ≤ cap) × (cap ≤ 1024) }
+{
+    let (mut sender, mut receiver) = open_numbers(alloc, cap)?;
+    let filled = fill(rt, &mut sender);
+    let (sent, (mut receiver, taken)) = join(
+        rt,
+        move || -> NumbersSent
+            requires { IsSync R.row }
+            ensures { result.ring ≡ sender.ring }
+        { close_numbers(rt, sender) },
+        move || -> (NumberReceiver, u64)
+            requires { IsSync R.row × (receiver.taken ≡ []) }
+            ensures { (result.0.ring ≡ receiver.ring) × IsTrue result.0.closed }
+        {
+            let taken = take_numbers(rt, &mut receiver);
+            (receiver, taken)
+        },
+    );
+    receiver.meet(sent);
+    Ok((filled, taken))
+}
+
+#[test]
+fn a_ring_that_is_closed_while_full_loses_nothing(rt: HostRuntime) -> Result<(), Fail> {
+    let alloc = rt.alloc();
+    assert_eq!(rt; close_a_full_ring(&rt, alloc, 1)?, (1, 1));
+    assert_eq!(rt; close_a_full_ring(&rt, alloc, 2)?, (2, 2));
+    assert_eq!(rt; close_a_full_ring(&rt, alloc, 1024)?, (1024, 1024));
     Ok(())
 }
