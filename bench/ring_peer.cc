@@ -1,18 +1,21 @@
-// Does what the program crate `ring_bench` does, for bench/ring: a thread stores words and sends a descriptor of each
-// through a ring, and another takes the descriptors and adds the words up. No locks; every atomic step is sequentially
-// consistent, and each end has its own count, as rings for one sender and one receiver do.
+// Does what the program crate `ring_bench` does, for bench/ring: a thread stores messages of one number and sends a
+// descriptor of each through a ring, and another takes the descriptors, copies each message into a tree of its own and
+// adds the numbers up. No locks; every atomic step is sequentially consistent, and each end has its own count, as rings
+// for one sender and one receiver do.
 #include <atomic>
 #include <cstdint>
 #include <cstdio>
 #include <cstdlib>
 #include <memory>
 #include <thread>
+#include <vector>
 
 namespace {
 
 constexpr uint64_t kCapacity = 64;
 constexpr uint64_t kMessages = 128;
-constexpr uint64_t kWords = 256;
+constexpr uint64_t kWords = 258;
+constexpr uint64_t kNodeWords = 2;
 
 struct Descriptor {
   uint8_t kind;
@@ -50,14 +53,37 @@ class Ring {
   alignas(128) Descriptor slots_[kCapacity];
 };
 
+struct Field {
+  uint32_t number;
+  uint64_t value;
+};
+
+// A message of its own: the fields that aren't 0.
+struct Tree {
+  std::vector<Field> fields;
+};
+
 struct Passed {
   uint64_t count = 0;
   uint64_t sum = 0;
 };
 
+// Copies the message at an address: its one field stands in the first of its two words.
+std::unique_ptr<Tree> Copy(const std::atomic<uint64_t>* words, uint64_t addr) {
+  if (addr < 1 || addr > kWords - kNodeWords) return nullptr;
+  auto tree = std::make_unique<Tree>();
+  uint64_t value = words[addr].load();
+  if (value != 0) tree->fields.push_back({1, value});
+  return tree;
+}
+
+uint64_t NumberIn(const Tree& tree) {
+  return tree.fields.size() == 1 ? tree.fields[0].value : 0;
+}
+
 void WriteAll(uint64_t count, std::atomic<uint64_t>* words, Ring* ring) {
   for (uint64_t number = 1; number <= count; ++number) {
-    uint64_t place = 2 + number % kMessages;
+    uint64_t place = 2 + kNodeWords * (number % kMessages);
     words[place].store(number);
     Descriptor descriptor{1, 0, 0, place, number};
     while (!ring->Send(descriptor)) std::this_thread::yield();
@@ -74,7 +100,8 @@ Passed ReadAll(std::atomic<uint64_t>* words, Ring* ring) {
       continue;
     }
     if (descriptor.kind == 0) return passed;
-    passed.sum += words[descriptor.addr].load();
+    auto tree = Copy(words, descriptor.addr);
+    if (tree) passed.sum += NumberIn(*tree);
     passed.count += 1;
   }
 }

@@ -1,89 +1,131 @@
 // A writer's thread and a reader's thread, with a ring between them.
-ghost use Rattle.std.specs.Prelude.{◌≡◌, ◌≤◌, ◌<◌, ◌+◌, [], IsTrue, length};
+ghost use Rattle.std.specs.Prelude.{◌≡◌, ◌≤◌, ◌<◌, ◌+◌, [], IsTrue, IfOk, length};
 ghost use Rattle.std.specs.Thread.{IsSync};
+ghost use Rattle.mrpc_table.specs.Valid.{IsValid};
 ghost use Rattle.descriptor_ring.specs.Rings.{IsOf};
 
-use descriptor_ring::{Descriptor, Full, Receiver, Sender, Taken};
-use mrpc_base::{Stores, Words};
+use descriptor_ring::{Descriptor, Full, Receiver, Sender, Sent, Taken};
+use graph_copy::CopyResult;
+use mrpc_base::Stores;
+use mrpc_table::{FieldValue, Memory, Table, Tree, Value};
 use shared_heap::{Reader, Writer};
-use std::alloc::{AllocError, Global};
+use std::alloc::Global;
 use std::sync::Wait;
 use std::thread;
 use std::thread::{Threads, join};
+use untouched_copy::copy_message;
 
 // How many descriptors the ring holds.
-const CAPACITY: u64 = 64;
+pub(crate) const CAPACITY: u64 = 64;
 
-// Messages lie in so many words in turn. They are more than a ring holds and two threads have at hand, so no word is
-// stored again before it was loaded.
+// Messages lie at so many places in turn, in two words each. They are more than a ring holds and two threads have at
+// hand, so no word is stored again before it was loaded.
 const MESSAGES: u64 = 128;
 
-const WORDS: u64 = 256;
+pub(crate) const WORDS: u64 = 258;
+
+// One word of a message is loaded, its number.
+const LIMIT: u64 = 1;
 
 /// What came through a ring.
 #[derive(Drop)]
 pub struct Passed {
-    /// How many descriptors.
-    pub count: u64,
-    /// The sum of their words, modulo 2^64.
+    /// How many descriptors were taken.
+    pub taken: u64,
+    /// How many of their messages were copied.
+    pub copied: u64,
+    /// The sum of the numbers in these messages, modulo 2^64.
     pub sum: u64,
 }
 
-/// Passes so many descriptors.
+/// Passes descriptors of so many messages of the first type of a table. A message for which no memory is found isn't
+/// copied.
 pub fn pass<R: Threads + Wait + Sync>(
     rt: &R,
     alloc: Global,
+    table: Table,
     count: u32,
-) -> Result<Passed, AllocError>
-    requires { count < 4294967294 }
+) -> Result<Passed, Memory>
+    requires few { count < 4294967294 }
+    requires valid { IsValid table }
+    requires known { 0 < length table.messages }
+
+    // Each descriptor that was sent was taken, once.
+    ensures taken { IfOk result (λ passed. passed.taken ≡ count) }
+    ensures copied { IfOk result (λ passed. passed.copied ≤ count) }
 {
     let (writer, reader) = shared_heap::open(alloc, WORDS)?;
     let (sender, receiver) = descriptor_ring::open(alloc, CAPACITY, &reader)?;
-    Ok(in_two_threads(rt, u64::from(count), writer, sender, reader, receiver))
+    Ok(in_two_threads(
+        rt,
+        u64::from(count),
+        (writer, sender),
+        (reader, receiver),
+        (alloc, table),
+    ))
 }
 
 fn in_two_threads<R: Threads + Wait + Sync>(
     rt: &R,
     count: u64,
-    writer: Writer,
-    sender: Sender,
-    reader: Reader,
-    receiver: Receiver,
+    writing: (Writer, Sender),
+    reading: (Reader, Receiver),
+    copying: (Global, Table),
 ) -> Passed
     requires count { count < 4294967294 }
-    requires words { writer.heap.words ≡ WORDS }
-    requires heaps { (sender.heap ≡ writer.heap) × (reader.heap ≡ writer.heap) × (receiver.heap ≡ writer.heap) }
-    requires first { (writer.stores ≡ []) × (sender.sent ≡ []) × (receiver.taken ≡ []) }
+    requires words { writing.0.heap.words ≡ WORDS }
+    requires one_heap { (writing.1.heap ≡ writing.0.heap) × (reading.0.heap ≡ writing.0.heap) }
+    requires their_heap { reading.1.heap ≡ reading.0.heap }
+    requires one_ring { reading.1.ring ≡ writing.1.ring }
+    requires first { (writing.0.stores ≡ []) × (writing.1.sent ≡ []) × (reading.1.taken ≡ []) }
+    requires valid { IsValid copying.1 }
+    requires known { 0 < length copying.1.messages }
+    ensures taken { result.taken ≡ count }
+    ensures copied { result.copied ≤ count }
 {
-    let ((), passed) = join(
+    let (writer, sender) = writing;
+    let (mut reader, mut receiver) = reading;
+    let (alloc, table) = copying;
+    let (sent, (mut receiver, passed)) = join(
         rt,
-        move ||
-            requires { IsSync R.row × (count < 4294967294) × (writer.heap.words ≡ WORDS) × (sender.heap ≡ writer.heap) × (writer.stores ≡ []) × (sender.sent ≡ []) }
+        move || -> Sent
+            requires { IsSync R.row × (count < 4294967294) × (writer.heap.words ≡ WORDS)
+                × (sender.heap ≡ writer.heap) × (writer.stores ≡ []) × (sender.sent ≡ []) }
+            ensures { (result.ring ≡ sender.ring) × (length result.items ≡ count) }
         { write_all(rt, count, writer, sender) },
-        move || -> Passed
-            requires { IsSync R.row × (reader.heap.words ≡ WORDS) × (receiver.heap ≡ reader.heap) × (receiver.taken ≡ []) }
-        { read_all(rt, reader, receiver) },
+        move || -> (Receiver, Passed)
+            requires { IsSync R.row × IsValid table × (0 < length table.messages) × (reader.heap.words ≡ WORDS)
+                × (receiver.heap ≡ reader.heap) × (receiver.taken ≡ []) }
+            ensures { (result.0.ring ≡ receiver.ring) × IsTrue result.0.closed
+                × (result.1.taken ≡ length result.0.taken) × (result.1.copied ≤ result.1.taken) }
+        {
+            let passed = read_all(rt, alloc, &table, &mut reader, &mut receiver);
+            (receiver, passed)
+        },
     );
+    receiver.meet(sent);
     passed
 }
 
-// Stores 1 to `count`, sends a descriptor of each, and closes the ring.
-fn write_all<R: Wait>(rt: &R, count: u64, mut writer: Writer, mut sender: Sender)
+// Stores messages with the numbers 1 to `count`, sends a descriptor of each, and closes the ring.
+fn write_all<R: Wait>(rt: &R, count: u64, mut writer: Writer, mut sender: Sender) -> Sent
     requires count { count < 4294967294 }
     requires words { writer.heap.words ≡ WORDS }
     requires one_heap { sender.heap ≡ writer.heap }
     requires first { (writer.stores ≡ []) × (sender.sent ≡ []) }
+    ensures ring { result.ring ≡ sender.ring }
+    ensures all { length result.items ≡ count }
 {
     for number in 1..count + 1 {
-        let place = 2 + number % MESSAGES;
+        let place = 2 + 2 * (number % MESSAGES);
         writer.store(place, number);
         let descriptor = message(&mut writer, place);
         send(rt, &mut sender, descriptor);
     }
-    close(rt, sender);
+    close(rt, sender)
 }
 
-fn message(writer: &mut Writer, addr: u64) -> Descriptor
+pub(crate) fn message(writer: &mut Writer, addr: u64) -> Descriptor
     ensures of_heap { IsOf writer.old.heap result }
     ensures same { writer.new ≡ writer.old }
 {
@@ -98,11 +140,12 @@ fn message(writer: &mut Writer, addr: u64) -> Descriptor
 }
 
 // Tries until the ring has room.
-fn send<R: Wait>(rt: &R, sender: &mut Sender, mut descriptor: Descriptor)
+pub(crate) fn send<R: Wait>(rt: &R, sender: &mut Sender, mut descriptor: Descriptor)
     requires of_heap { IsOf sender.old.heap descriptor }
     requires few { length sender.old.sent < 4294967294 }
     ensures sent { length sender.new.sent ≡ length sender.old.sent + 1 }
     ensures heap { sender.new.heap ≡ sender.old.heap }
+    ensures ring { sender.new.ring ≡ sender.old.ring }
 {
     for _ in rt.forever() {
         match sender.send(rt, descriptor) {
@@ -120,29 +163,51 @@ fn send<R: Wait>(rt: &R, sender: &mut Sender, mut descriptor: Descriptor)
 }
 
 // Tries until the ring has room.
-fn close<R: Wait>(rt: &R, mut sender: Sender) {
+pub(crate) fn close<R: Wait>(rt: &R, mut sender: Sender) -> Sent
+    ensures items { result.items ≡ sender.sent }
+    ensures ring { result.ring ≡ sender.ring }
+{
     for _ in rt.forever() {
         match sender.close(rt) {
-            Ok(_) => return,
+            Ok(sent) => return sent,
             Err((back, _)) => sender = back,
         }
         thread::yield_now();
     }
+    unreachable!()
 }
 
-// Takes descriptors until the closing, and loads the word of each.
-fn read_all<R: Wait>(rt: &R, mut reader: Reader, mut receiver: Receiver) -> Passed
-    requires words { reader.heap.words ≡ WORDS }
-    requires one_heap { receiver.heap ≡ reader.heap }
-    requires first { receiver.taken ≡ [] }
+// Takes descriptors until the closing, and copies the message of each.
+fn read_all<R: Wait>(
+    rt: &R,
+    alloc: Global,
+    table: &Table,
+    reader: &mut Reader,
+    receiver: &mut Receiver,
+) -> Passed
+    requires valid { IsValid table.now }
+    requires known { 0 < length table.now.messages }
+    requires words { reader.old.heap.words ≡ WORDS }
+    requires one_heap { receiver.old.heap ≡ reader.old.heap }
+    requires first { receiver.old.taken ≡ [] }
+    ensures ring { receiver.new.ring ≡ receiver.old.ring }
+    ensures closed { IsTrue receiver.new.closed }
+    ensures taken { result.taken ≡ length receiver.new.taken }
+    ensures copied { result.copied ≤ result.taken }
 {
-    let mut passed = Passed { count: 0, sum: 0 };
+    let mut passed = Passed {
+        taken: 0,
+        copied: 0,
+        sum: 0,
+    };
     for _ in rt.forever() {
         match receiver.take(rt) {
             Taken::Item(descriptor) => {
-                let word = load(&mut reader, descriptor);
-                passed.sum = passed.sum.wrapping_add(word);
-                passed.count += 1;
+                passed.taken += 1;
+                if let Ok(number) = number_of(alloc, table, reader, descriptor) {
+                    passed.sum = passed.sum.wrapping_add(number);
+                    passed.copied += 1;
+                }
             }
             Taken::Closed => return passed,
             Taken::Empty(_) => thread::yield_now(),
@@ -151,16 +216,30 @@ fn read_all<R: Wait>(rt: &R, mut reader: Reader, mut receiver: Receiver) -> Pass
     unreachable!()
 }
 
-// Meets the descriptor's note, and loads its word, or 0 where it lies outside the heap.
-fn load(reader: &mut Reader, descriptor: Descriptor) -> u64
-    requires { IsOf reader.old.heap descriptor }
+// Meets the descriptor's note, copies its message, and gives its number, or 0 where it has none.
+pub(crate) fn number_of(
+    alloc: Global,
+    table: &Table,
+    reader: &mut Reader,
+    descriptor: Descriptor,
+) -> Result<u64, Memory>
+    requires valid { IsValid table.now }
+    requires known { 0 < length table.now.messages }
+    requires words { reader.old.heap.words ≡ WORDS }
+    requires of_heap { IsOf reader.old.heap descriptor }
     ensures { reader.new.heap ≡ reader.old.heap }
 {
     let Descriptor { addr, note, .. } = descriptor;
     reader.meet(note);
-    if addr < reader.words() {
-        reader.load(addr)
-    } else {
-        0
+    match copy_message(alloc, reader, table, 0, addr, LIMIT)? {
+        CopyResult::Copied { tree, .. } => Ok(number_in(&tree)),
+        CopyResult::Malformed { .. } => Ok(0),
+    }
+}
+
+fn number_in(tree: &Tree) -> u64 {
+    match tree.fields.as_slice() {
+        [(_, FieldValue::One(Value::Number(number)))] => *number,
+        _ => 0,
     }
 }
