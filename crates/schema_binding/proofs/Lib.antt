@@ -1,0 +1,12 @@
+mod Agreeing
+mod Answering
+mod Compared
+mod Differences
+mod KindTexts
+mod Order
+mod Payloads
+mod Prints
+mod Reaching
+mod Rows
+mod Signatures
+mod Walks

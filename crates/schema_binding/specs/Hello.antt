@@ -1,0 +1,62 @@
+-- The payload of a hello (this project's own): the service's full name, a line feed, and the canonical text of the table.
+use Rattle.std.specs.Prelude.{◌≡◌, ◌≢◌, ◌⊎◌, ℕ, ◌+◌, List, ◌∷◌, ◌++◌, All}
+use Rattle.mrpc_table.specs.Names.{IsFullName}
+use Rattle.mrpc_table.specs.Text.{table_text}
+use Rattle.mrpc_table.specs.Valid.{IsValid}
+use Rattle.mrpc_table.specs.declared.table.Table.{Table}
+use Rattle.table_text.specs.Faults.{IsFirstFault}
+use Rattle.table_text.specs.declared.fault.TableReason.{TableReason}
+use Rattle.schema_binding.specs.declared.fault.HelloFault.{HelloFault}
+use Rattle.schema_binding.specs.declared.fault.HelloFault.TheVariants.{Bad, Memory}
+
+abbrev pub hello_payload : List ℕ → Table → List ℕ
+hello_payload service T = service ++ 10 ∷ table_text T
+
+-- the text is the canonical text of this valid table
+pub record IsTextOf (text : List ℕ) (T : Table) : Type 0 where
+  pub valid : IsValid T
+  pub whole : text ≡ table_text T
+
+-- the payload says this service and this table
+pub record IsHello (payload service : List ℕ) (T : Table) : Type 0 where
+  pub named : IsFullName service
+  pub valid : IsValid T
+  pub whole : payload ≡ hello_payload service T
+
+-- the bytes are no line feeds
+abbrev pub IsLine : List ℕ → Type 0
+IsLine bytes = All (λ byte. byte ≢ 10) bytes
+
+-- The first line at fault, counted from 1: the first one, which lacks its line feed or is no full name, or one of the
+-- lines of the table's text behind it, or the line after them.
+pub data IsBadAt (payload : List ℕ) (line : ℕ) : Type 0 where
+  no_line_feed : IsLine payload → line ≡ 1 → IsBadAt payload line
+  no_full_name : (first text : List ℕ) → payload ≡ first ++ 10 ∷ text → IsLine first → (IsFullName first → ⊥) → line ≡ 1 → IsBadAt payload line
+  no_table : (service text : List ℕ) (at : ℕ) (reason : TableReason) → payload ≡ service ++ 10 ∷ text → IsFullName service
+      → IsFirstFault text at reason → line ≡ at + 1 → IsBadAt payload line
+
+-- what a fault says of a payload; want of memory says nothing
+abbrev pub IsFaultOf : List ℕ → HelloFault → Type 0
+IsFaultOf payload (Bad line) = IsBadAt payload line
+IsFaultOf payload Memory = Unit {0}
+
+-- what it says of the text behind the service
+abbrev pub IsFaultBehind : List ℕ → HelloFault → Type 0
+IsFaultBehind text (Bad line) = (at : ℕ) × (reason : TableReason) × IsFirstFault text at reason × (line ≡ at + 1)
+IsFaultBehind text Memory = Unit {0}
+
+-- a payload says one service and one table
+abbrev pub SaysOnce : Type 0
+SaysOnce = (payload service other : List ℕ) (T U : Table) → IsHello payload service T → IsHello payload other U → (service ≡ other) × (T ≡ U)
+
+-- or has one first line at fault
+abbrev pub IsBadOnce : Type 0
+IsBadOnce = (payload : List ℕ) (line other : ℕ) → IsBadAt payload line → IsBadAt payload other → line ≡ other
+
+-- and never both
+abbrev pub NeverBoth : Type 0
+NeverBoth = (payload service : List ℕ) (T : Table) (line : ℕ) → IsHello payload service T → IsBadAt payload line → ⊥
+
+-- nor neither
+abbrev pub SaysOrIsBad : Type 0
+SaysOrIsBad = (payload : List ℕ) → ((service : List ℕ) × (T : Table) × IsHello payload service T) ⊎ ((line : ℕ) × IsBadAt payload line)

@@ -1,0 +1,5 @@
+pub mod Agreement
+pub mod Hello
+pub mod Places
+pub mod Reach
+pub mod Refusals

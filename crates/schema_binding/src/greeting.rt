@@ -1,0 +1,76 @@
+//! The hello: what a connection begins with.
+
+ghost use Rattle.std.specs.Prelude.{◌≡◌, ℕ, List, length, IfOk, IfErr, MatchResult};
+ghost use Rattle.mrpc_table.specs.Names.{IsFullName};
+ghost use Rattle.mrpc_table.specs.Valid.{IsValid};
+ghost use Rattle.mrpc_table.specs.declared.table.Table.{Table as TheTable};
+ghost use Rattle.frame_transport.specs.Bytes.{frame_bytes};
+ghost use Rattle.schema_binding.specs.Hello.{hello_payload, IsHello, IsFaultOf, IsTextOf, IsFaultBehind};
+ghost use Rattle.schema_binding.specs.declared.fault.HelloFault.TheVariants.{Memory as NoMemory};
+
+use crate::fault::HelloFault;
+use frame_transport::hello_frame;
+use mrpc_table::{Bytes, Memory, Name, Table, cut, is_full_name};
+use std::alloc::Global;
+use table_text::{TableFault, one_fault, read_table, table_text};
+
+/// The frame of a hello (this project's own), of kind 3 and version 2, from the sender's connection. Its payload is the
+/// service's full name, a line feed and the canonical text of the table: at most 255 + 1 + 65536 bytes, which is less
+/// than the 262144 that a payload may have.
+pub fn hello(alloc: Global, conn: u32, table: &Table, service: &Name) -> Result<Bytes, Memory>
+    requires service { IsFullName service.now }
+    requires valid { IsValid table.now }
+    ensures { IfOk result (λ bytes. bytes ≡ frame_bytes 3 2 0 conn 0 (hello_payload service.now table.now)) }
+{
+    let payload = payload(alloc, table, service)?;
+    hello_frame(alloc, conn, payload.as_slice())
+}
+
+fn payload(alloc: Global, table: &Table, service: &Name) -> Result<Bytes, Memory>
+    requires service { IsFullName service.now }
+    requires valid { IsValid table.now }
+    ensures { IfOk result (λ bytes. bytes ≡ hello_payload service.now table.now) }
+{
+    let text = table_text(alloc, table)?;
+    let mut payload = Bytes::with_room(alloc, service.len() + 1 + text.len())?;
+    payload.append(service.as_slice())?;
+    payload.append(b"\n")?;
+    payload.append(text.as_slice())?;
+    Ok(payload)
+}
+
+/// The service and the table that the payload of a hello says, of version 1 or 2. A payload that isn't a full name, a
+/// line feed and the canonical text of a table is refused with its first line at fault, the service's being 1.
+pub fn on_hello(alloc: Global, payload: &[u8]) -> Result<(Name, Table), HelloFault>
+    // What is read is what the payload says.
+    ensures read { IfOk result (λ said. IsHello payload.now said.0 said.1) }
+    // The payload of a hello gives its service and its table, unless memory runs out.
+    ensures only { (service : List ℕ) (table : TheTable) → IsHello payload.now service table
+        → MatchResult result (λ said. said ≡ (service, table)) (λ fault. fault ≡ NoMemory) }
+    // A fault is that of the first line at fault.
+    ensures fault { IfErr result (IsFaultOf payload.now) }
+{
+    let Some((service, text)) = cut(payload, b'\n') else {
+        return Err(HelloFault::Bad { line: 1 });
+    };
+    if !is_full_name(service) {
+        return Err(HelloFault::Bad { line: 1 });
+    }
+    let table = table_behind(alloc, text)?;
+    Ok((Name::from_slice(alloc, service)?, table))
+}
+
+// The table of the text behind the service.
+fn table_behind(alloc: Global, text: &[u8]) -> Result<Table, HelloFault>
+    ensures read { IfOk result (IsTextOf text.now) }
+    ensures only { (table : TheTable) → IsTextOf text.now table
+        → MatchResult result (λ read. read ≡ table) (λ fault. fault ≡ NoMemory) }
+    ensures fault { IfErr result (IsFaultBehind text.now) }
+{
+    one_fault();
+    match read_table(alloc, text) {
+        Ok(table) => Ok(table),
+        Err(TableFault::At { line, .. }) => Err(HelloFault::Bad { line: line + 1 }),
+        Err(TableFault::Memory) => Err(HelloFault::Memory),
+    }
+}

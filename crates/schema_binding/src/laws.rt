@@ -1,0 +1,25 @@
+//! What holds of all payloads and of all tables.
+
+ghost use Rattle.schema_binding.specs.Agreement.{NeverAgreeAndRefuse, RefuseOnce, AgreeOrRefuse};
+ghost use Rattle.schema_binding.specs.Hello.{SaysOnce, IsBadOnce, NeverBoth, SaysOrIsBad};
+
+use table_text::{one_fault, one_text, table_or_fault};
+
+/// A payload says one service and one table, or has one first line at fault, and never both. The call does nothing.
+pub fn one_hello()
+    ensures once { SaysOnce }
+    ensures bad_once { IsBadOnce }
+    ensures never_both { NeverBoth }
+    ensures never_neither { SaysOrIsBad }
+{
+    one_text();
+    one_fault();
+    table_or_fault();
+}
+
+/// Two valid tables agree on a service, or there is one reason why they don't, and never both. The call does nothing.
+pub fn one_agreement()
+    ensures never_both { NeverAgreeAndRefuse }
+    ensures once { RefuseOnce }
+    ensures never_neither { AgreeOrRefuse }
+{}
