@@ -50,6 +50,9 @@ impl<W: Sink> Link for ByteLink<'_, W> {
 
     ghost faults = { λ link. W.faults (sink_of link) };
 
+    // It writes into the same sink.
+    ghost since = { λ old new. sink_name new ≡ sink_name old };
+
     fn send(&mut self, frame: &[u8]) -> Handed
         // The frame is out whole, or a write failed and a front of it is out, and not all of it.
         ensures done { result ≡ Handed.Done → Appends (W.written (sink_of self.old)) (W.written (sink_of self.new)) frame.now }

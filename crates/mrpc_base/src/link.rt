@@ -49,12 +49,16 @@ pub trait Link {
     /// How many sends and receives have failed; it stands still at 2^64 - 1.
     ghost faults: { Self → ℕ };
 
+    /// That the second is the first, later on: whatever a link was once, each call leaves it so.
+    ghost since: { Self → Self → Type 0 };
+
     /// Hands a frame over.
     fn send(&mut self, frame: &[u8]) -> Handed
         ensures appended { result ≡ Handed.Done → handed self.new ≡ handed self.old ++ frame.now ∷ [] }
         ensures kept { result ≢ Handed.Done → handed self.new ≡ handed self.old }
         ensures same_given { given self.new ≡ given self.old }
         ensures same_ended { ended self.new ≡ ended self.old }
+        ensures same_link { (first : Self) → since first self.old → since first self.new }
 
         ensures cause { HasCause (result ≡ Handed.Failed) (faults self.old) (faults self.new) };
 
@@ -68,6 +72,7 @@ pub trait Link {
         ensures ends { result ≡ Came.End → IsTrue (ended self.new) }
         ensures same_ended { result ≢ Came.End → ended self.new ≡ ended self.old }
         ensures same_handed { handed self.new ≡ handed self.old }
+        ensures same_link { (first : Self) → since first self.old → since first self.new }
 
         ensures idle { result ≡ Came.Idle → nothing_ready self.old self.new }
         ensures end { result ≡ Came.End → peer_finished self.old self.new }
@@ -79,5 +84,6 @@ pub trait Link {
         ensures same_handed { handed self.new ≡ handed self.old }
         ensures same_given { given self.new ≡ given self.old }
         ensures same_ended { ended self.new ≡ ended self.old }
-        ensures same_faults { faults self.new ≡ faults self.old };
+        ensures same_faults { faults self.new ≡ faults self.old }
+        ensures same_link { (first : Self) → since first self.old → since first self.new };
 }

@@ -150,6 +150,9 @@ impl Link for MemLink {
 
     ghost faults = { λ l. l.faults };
 
+    // What it was made with stays.
+    ghost since = { λ old new. (new.lengths ≡ old.lengths) × (new.failing_sends ≡ old.failing_sends) × (new.failing_receives ≡ old.failing_receives) };
+
     fn send(&mut self, frame: &[u8]) -> Handed
         // A send fails exactly where its number is listed, or the sending side was ended.
         ensures fails { (result ≡ Handed.Failed) ↔ (Contains self.old.failing_sends self.new.sends ⊎ IsTrue self.old.finished) }
