@@ -70,7 +70,7 @@ impl Engine {
     ghost use Rattle.engine_core.specs.Policies.{IsAccess, IsPolicy, KnowsTenantOf, first_level, is_same_kind, level_at, level_under};
     ghost use Rattle.engine_core.specs.Chains.{Entry, new_entry, upgraded};
     ghost use Rattle.engine_core.specs.Answers.{Answers, hold, level_left, past_after};
-    ghost use Rattle.engine_core.specs.Marks.{IsTrueFor, StandingCall, is_allowed, other_marks, past_of};
+    ghost use Rattle.engine_core.specs.Marks.{IsAllowing, IsSilent, IsTrueFor, StandingCall, is_allowed, other_marks, past_of};
     ghost use Rattle.engine_core.specs.Steps.{Steps};
     ghost use Rattle.engine_core.specs.Turns.{ComesOut, IsElsewhere, TellsDraw, form_after, is_draw, is_redacted_by, noted_in};
 
@@ -153,8 +153,10 @@ impl Engine {
         requires room { length (other_marks self.old.entry.attach call.old.marks) ≤ 7 }
         requires known { KnowsTenantOf (Q.knows tickets.old) self.old.entry.policy }
 
-        // Where the marks are true, the turn is that of an entry of which they say what was noted.
-        ensures comes { IsTrueFor self.old.entry call.old
+        // Where this policy allows a call of which a mark says that it did, the turn is that of an entry of which
+        // the marks say what was noted.
+        ensures comes { (is_allowed call.old.marks self.old.entry.attach self.old.entry.version ≡ true
+            → IsAllowing self.old.entry.policy call.old.call)
             → ComesOut self.old.entry.policy self.old.level now call.old.call
             (past_of call.old.marks self.old.entry.attach) result }
 
@@ -175,7 +177,7 @@ impl Engine {
 
         // What was noted stays, and the note of this turn joins it. A call that an access policy allowed
         // has its mark, and a redaction takes all such marks away. The marks stay true.
-        ensures noted { IsTrueFor self.old.entry call.old
+        ensures noted { IsSilent self.old.entry.policy (past_of call.old.marks self.old.entry.attach)
             → past_of call.new.marks self.old.entry.attach
             ≡ past_after (noted_in result) (past_of call.old.marks self.old.entry.attach) }
         ensures others { (a : ℕ) → a ≢ self.old.entry.attach → past_of call.new.marks a ≡ past_of call.old.marks a }

@@ -2,7 +2,7 @@ use Rattle.engine_core.proofs.Turning.{level-step, form-step, comes-step, allowe
 use Rattle.engine_core.proofs.engine.Engine.work.Goals as goal
 
 pub returns-clause-comes : goal.returns-clause-comes
-returns-clause-comes g c = λ h. comes-step _ _ _ _ _ _ _ _ _ c.turn.ensures.step h.allowing
+returns-clause-comes g c = comes-step _ _ _ _ _ _ _ _ _ c.turn.ensures.step
 
 pub returns-clause-allowed : goal.returns-clause-allowed
 returns-clause-allowed g c = allowed-step _ _ _ _ _ _ _ _ _ c.turn.ensures.step
@@ -20,7 +20,7 @@ pub returns-clause-fits : goal.returns-clause-fits
 returns-clause-fits g c = fits-step _ _ _ _ _ _ _ _ _ c.turn.ensures.step
 
 pub returns-clause-noted : goal.returns-clause-noted
-returns-clause-noted g c = λ h. noted-step _ _ _ _ _ _ _ _ _ c.turn.ensures.step h.silent
+returns-clause-noted g c = noted-step _ _ _ _ _ _ _ _ _ c.turn.ensures.step
 
 pub returns-clause-others : goal.returns-clause-others
 returns-clause-others g c = others-step _ _ _ _ _ _ _ _ _ c.turn.ensures.step
