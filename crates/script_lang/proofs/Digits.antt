@@ -6,12 +6,11 @@ use Rattle.std.specs.Char.{is_ascii_digit, digit_value}
 use Rattle.std.specs.Str.Parse.{AllDigits, digits_value}
 use Rattle.std.proofs.Math.Nat.{pow-le-pow_right}
 use Rattle.std.proofs.lemmas.List.{length-take}
-use Rattle.std.proofs.lemmas.Bool.{and_from, and_parts, leb-true, lt-ltb}
+use Rattle.std.proofs.lemmas.Bool.{and_from, and_parts, leb-true}
 use Rattle.std.proofs.lemmas.Grind.{common_steps}
 use Rattle.std.proofs.lemmas.Int.Digits.{digits_value-lt, digits_value_more}
 use Rattle.mrpc_table.specs.Lines.{in_64_bits}
 use Rattle.mrpc_table.specs.declared.words.Decimal.{Decimal}
-use Rattle.mrpc_table.specs.declared.words.Decimal.TheVariants.{Small}
 
 pub all_more : (p : ℕ → Bool) (xs : List ℕ) (i : ℕ) → i < length xs → list_all p (take i xs) ≡ true → p (get_or xs i 0) ≡ true → list_all p (take (i + 1) xs) ≡ true
 all_more p [] i within so_far here = absurd (omega arith)
@@ -33,7 +32,7 @@ pub number_more : (text : List ℕ) (i : ℕ) (next : Decimal) → i < length te
 number_more text i next within digit e =
     e ∙ ap (λ (d : ℕ). in_64_bits (digits_value 10 (take i text) * 10 + d)) (sym (digit_is (get_or text i 0) digit)) ∙ ap in_64_bits (sym (digits_value_more 10 text i within))
 
-all_digits : (ds : List ℕ) → list_all is_ascii_digit ds ≡ true → AllDigits 10 ds
+pub all_digits : (ds : List ℕ) → list_all is_ascii_digit ds ≡ true → AllDigits 10 ds
 all_digits [] all = tt
 all_digits (c ∷ cs) all =
     let parts = and_parts (is_ascii_digit c) (list_all is_ascii_digit cs) all in
@@ -54,6 +53,3 @@ pub word_more : (text : List ℕ) (i next : ℕ) → i < length text → is_asci
     → next ≡ digits_value 10 (take i text) * 10 + (get_or text i 0 - 48) → next ≡ digits_value 10 (take (i + 1) text)
 word_more text i next within digit e =
     e ∙ ap (λ (d : ℕ). digits_value 10 (take i text) * 10 + d) (sym (digit_is (get_or text i 0) digit)) ∙ sym (digits_value_more 10 text i within)
-
-pub in_bits : (number value : ℕ) → number ≡ value → number < 2 ^ 64 → Small number ≡ in_64_bits value
-in_bits number value e small = rw (sym e, lt-ltb number (2 ^ 64) small) refl

@@ -101,7 +101,7 @@ plain_words w [] (Some n) v e = rw (v, e) refl
 plain_words w (x ∷ xs) None v e = rw (v, e) refl
 plain_words w (x ∷ xs) (Some n) v e = rw (v, e) refl
 
-plain_in : (c : ℕ) (w : List ℕ) → (c ≡ 45 → ⊥) → (c ≡ 48 → begins_with 120 w ≡ true → ⊥) → value_in (c ∷ w) ≡ number_in (number_of (c ∷ w))
+pub plain_in : (c : ℕ) (w : List ℕ) → (c ≡ 45 → ⊥) → (c ≡ 48 → begins_with 120 w ≡ true → ⊥) → value_in (c ∷ w) ≡ number_in (number_of (c ∷ w))
 plain_in c w other not_x =
     let minus : (c == 45) ≡ false = ne_eqb c 45 other in
     let x : (c == 48 && begins_with 120 w) ≡ false = false_from_ne_true (c == 48 && begins_with 120 w) (λ both. let parts = and_parts (c == 48) (begins_with 120 w) both in not_x (eqb-true c 48 parts.0) parts.1) in

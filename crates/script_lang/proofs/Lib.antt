@@ -12,6 +12,6 @@ mod OneHead
 mod OneRun
 mod Rows
 mod Steps
-mod StoreLines
+mod UsualLines
 mod Verdicts
 mod WholeTexts

@@ -6,3 +6,4 @@ pub mod Reading
 pub mod Reason
 pub mod Stops
 pub mod Texts
+pub mod Usual

@@ -26,9 +26,6 @@ const CONN: &[u8] = b"conn";
 
 const CLOSE: &[u8] = b"close";
 
-/// The first word of nearly every line of a long script, and the space behind it.
-const STORE_IN_FRONT: &[u8] = b"store ";
-
 /// Those of the forms that aren't built yet.
 const TENANT: &[u8] = b"tenant";
 
@@ -200,7 +197,6 @@ impl Body {
         })
     }
 
-    #[inline(always)]
     #[tactic(auto, unfolding(crate::specs::Reading::store_said))]
     fn store(&self, rest: Rest<'_>) -> Result<Line, ScriptReason>
         ensures { result ≡ store_said self.now (words_in rest.entry) }
@@ -322,9 +318,6 @@ impl Body {
     pub(crate) fn said(&self, text: &[u8]) -> Result<Said, ScriptReason>
         ensures { result ≡ said_by self.now text.now }
     {
-        if let Some(rest) = text.strip_prefix(STORE_IN_FRONT) {
-            return Ok(Said::Line(self.store(Some(rest))?));
-        }
         match text {
             [] | [b'#', ..] => Ok(Said::Nothing),
             _ => self.said_in_line(text),

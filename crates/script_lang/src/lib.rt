@@ -6,6 +6,7 @@ mod body;
 mod fault;
 mod head;
 mod laws;
+mod next_line;
 mod reading;
 mod script;
 mod word;

@@ -1,7 +1,6 @@
 //! Reading a script from its text.
 
-ghost use Rattle.std.specs.Prelude.{◌≡◌, ◌+◌, ◌<◌, ◌≤◌, ℕ, List, [], ◌∷◌, length, IfOk, IfErr, IfSome, MatchResult, MatchOption};
-ghost use Rattle.mrpc_table.specs.Lines.{pieces_of};
+ghost use Rattle.std.specs.Prelude.{◌≡◌, ◌≤◌, length, IfOk, IfErr, MatchResult};
 ghost use Rattle.mrpc_table.specs.Text.{table_text};
 ghost use Rattle.mrpc_table.specs.Valid.{IsValid};
 ghost use Rattle.table_text.specs.TableText.{IsEndless};
@@ -16,7 +15,6 @@ use crate::fault::{ScriptFault, ScriptReason};
 use crate::head::{Head, read_head};
 use crate::laws::one_answer;
 use crate::script::{Lines, Script};
-use memchr::memchr;
 use mrpc_table::{Memory, Table};
 use std::alloc::Global;
 use table_text::{TableFault, one_fault, read_table, split_table};
@@ -129,8 +127,8 @@ fn read_lines(alloc: Global, text: &[u8]) -> Result<Lines, Stop>
 {
     let mut body = Body::new(alloc);
     let mut rest = text;
-    while let Some((line, behind)) = cut_line(rest) {
-        match body.said(line) {
+    while let Some((said, behind)) = body.next(rest) {
+        match said {
             Ok(said) => body.add(said)?,
             Err(reason) => return Err(stopped_at(rest, reason)),
         }
@@ -143,16 +141,6 @@ fn read_lines(alloc: Global, text: &[u8]) -> Result<Lines, Stop>
         return Err(stopped_at(rest, ScriptReason::Close));
     }
     Ok(body.lines)
-}
-
-/// The first line of a text, without its line feed, and what stands behind it; none where no line ends in the text.
-/// (As `cut` does it for words, which are short; the search for a line feed looks at many bytes at once.)
-fn cut_line(text: &[u8]) -> Option<(&[u8], &[u8])>
-    ensures parts { MatchOption result (pieces_of text.now ≡ text.now ∷ []) (λ p. pieces_of text.now ≡ p.0.now ∷ pieces_of p.1.now) }
-    ensures long { IfSome result (λ p. length p.0.now + 1 + length p.1.now ≡ length text.now) }
-{
-    let at = memchr(b'\n', text)?;
-    Some((&text[..at], &text[at + 1..]))
 }
 
 fn stopped_at(rest: &[u8], reason: ScriptReason) -> Stop

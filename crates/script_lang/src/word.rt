@@ -1,12 +1,13 @@
 //! The words of a line, from the left. What reads a number is inlined, since a script may have a million of them.
 
-ghost use Rattle.std.specs.Prelude.{◌≡◌, ◌+◌, ◌-◌, ◌*◌, ◌<◌, ◌≤◌, ℕ, false, true, length, take, slice_index, Some, None, IfOk, if◌then◌else◌};
+ghost use Rattle.std.specs.Prelude.{◌≡◌, ◌+◌, ◌-◌, ◌*◌, ◌<◌, ◌≤◌, ℕ, false, true, length, take, slice_index, Some, None, IfOk, IfSome, if◌then◌else◌};
 ghost use Rattle.std.specs.List.{list_all};
 ghost use Rattle.std.specs.Char.{is_ascii_digit, digit_value};
 ghost use Rattle.std.specs.Str.Parse.{digits_value};
 ghost use Rattle.mrpc_table.specs.Lines.{in_64_bits};
 ghost use Rattle.script_lang.specs.Forms.{is_hexadecimal};
 ghost use Rattle.script_lang.specs.Reading.{seen_by, words_in, is_padded, words_behind, first_number, no_more, last_number, negated, hexadecimal_in, last_value, within};
+ghost use Rattle.script_lang.specs.Usual.{IsUsualNumber};
 
 use crate::fault::ScriptReason;
 use mrpc_table::Decimal;
@@ -122,6 +123,22 @@ pub(crate) fn number(rest: Rest<'_>) -> Result<(Decimal, Rest<'_>), ScriptReason
     }
     let rest = behind(&text[count..])?;
     Ok((number, rest))
+}
+
+/// The number that the digits in front of a byte spell, and what stands behind that byte; none where they have another
+/// form or are many.
+#[inline(always)]
+pub(crate) fn usual_number(text: &[u8], end: u8) -> Option<(u64, &[u8])>
+    ensures { IfSome result (λ r. IsUsualNumber text.now end r.0 r.1.now) }
+{
+    let (number, count) = short_leading(&text[..text.len().min(SURE_DIGITS)]);
+    if is_padded(&text[..count]) {
+        return None;
+    }
+    match &text[count..] {
+        [byte, behind @ ..] if *byte == end => Some((number, behind)),
+        _ => None,
+    }
 }
 
 /// Nothing is left.

@@ -2,7 +2,7 @@ use Rattle.std.proofs.Common.{◌+◌, ◌∷◌, List, ℕ, take, sym, ap, ◌�
 use Rattle.std.proofs.lemmas.List.{take_rest}
 use Rattle.mrpc_table.specs.Lines.{pieces_of}
 use Rattle.script_lang.proofs.Cuts.{found, nowhere}
-use Rattle.script_lang.proofs.reading.cut_line.Goals as goal
+use Rattle.script_lang.proofs.next_line.cut_line.Goals as goal
 
 pub returns-in_err-at-clause-parts : goal.returns-in_err-at-clause-parts
 returns-in_err-at-clause-parts c = rw c.from_residual.ensures (nowhere c.args.text.now c.in_err-at.ensures)

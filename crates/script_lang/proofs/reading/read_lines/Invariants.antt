@@ -4,11 +4,11 @@ use Rattle.script_lang.specs.Stops.{ReadsTo}
 use Rattle.script_lang.proofs.Verdicts.{seen, IsKept}
 use Rattle.script_lang.proofs.reading.read_lines.Given as goal
 
-abbrev pub invariant-loop-line : goal.invariant-loop-line
-invariant-loop-line l = record {
+abbrev pub invariant-loop-said : goal.invariant-loop-said
+invariant-loop-said l = record {
   reads : ReadsTo l.text (seen l.body) l.rest;
   kept : IsKept l.body;
 }
 
-abbrev pub decreases-loop-line : goal.decreases-loop-line
-decreases-loop-line l = length l.rest
+abbrev pub decreases-loop-said : goal.decreases-loop-said
+decreases-loop-said l = length l.rest
