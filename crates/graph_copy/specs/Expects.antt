@@ -45,7 +45,7 @@ run_next None bytes = []
 run_next (Some r) bytes = (run_word r.kind r.left bytes, r.place) ∷ []
 
 abbrev pub expected : Table → Walk → Expected
-expected T w = run_next w.run w.bytes.items ++ stack_words T w.frames.items
+expected T w = run_next w.run w.bytes.items ++ stack_words T w.frames
 
 -- the word that is loaded next
 abbrev pub next_word : Table → List ℕ → Next → Use × ℕ

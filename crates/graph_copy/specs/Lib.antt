@@ -7,3 +7,4 @@ pub mod Makes
 pub mod Opens
 pub mod Shapes
 pub mod Stops
+pub mod Tops

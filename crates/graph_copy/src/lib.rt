@@ -16,6 +16,7 @@ mod judge;
 mod look_up;
 mod order;
 mod role;
+mod stack;
 mod take;
 mod walk;
 

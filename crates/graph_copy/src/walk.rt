@@ -9,6 +9,7 @@ ghost use Rattle.graph_copy.specs.Opens.{Opens};
 
 use crate::look_up::{fields_of, next_slot, oneofs_of};
 use crate::role::{Role, element_words, plain_role, slot_role};
+use crate::stack::Stack;
 use mrpc_table::{Kind, Memory, Table};
 use std::alloc::Global;
 
@@ -86,7 +87,7 @@ pub struct Walk {
     pub run: Option<RunWord>,
     /// The bytes of the run so far.
     pub bytes: Vec<u8>,
-    pub frames: Vec<Frame>,
+    pub frames: Stack,
 }
 
 impl Walk {
@@ -100,14 +101,14 @@ impl Walk {
             size,
             run: None,
             bytes: Vec::new(alloc),
-            frames: Vec::new(alloc),
+            frames: Stack::new(alloc),
         }
     }
 
     /// The words of a frame are expected before those of the others.
     pub fn push(&mut self, frame: Frame) -> Result<(), Memory>
         ensures frames { OnOk result ((T : Table)
-            → stack_words T self.new.frames.items ≡ frame_words T frame ++ stack_words T self.old.frames.items) }
+            → stack_words T self.new.frames ≡ frame_words T frame ++ stack_words T self.old.frames) }
         ensures size { self.new.size ≡ self.old.size }
         ensures run { self.new.run ≡ self.old.run }
         ensures bytes { self.new.bytes ≡ self.old.bytes }
@@ -136,12 +137,14 @@ impl Walk {
         ensures no_run { self.new.run ≡ None }
     {
         let oneofs = u64::from(oneofs_of(table, message));
-        self.push(Frame::Oneofs {
-            message,
-            oneof: 0,
-            depth,
-            place: place + (words - 3 * oneofs),
-        })?;
+        if oneofs > 0 {
+            self.push(Frame::Oneofs {
+                message,
+                oneof: 0,
+                depth,
+                place: place + (words - 3 * oneofs),
+            })?;
+        }
         self.push(Frame::Slots {
             message,
             field: 0,
@@ -180,7 +183,7 @@ impl Walk {
         requires fits { AllFit self.old.size (frame_words table.now frame) }
         requires size { self.old.size ≤ 65536 }
         ensures found { IfOk result
-            (Opens table.now (frame_words table.now frame) self.old.frames.items self.new.frames.items) }
+            (Opens table.now (frame_words table.now frame) self.old.frames self.new.frames) }
         ensures size { self.new.size ≡ self.old.size }
         ensures run { self.new.run ≡ self.old.run }
         ensures bytes { self.new.bytes ≡ self.old.bytes }
@@ -228,7 +231,7 @@ impl Walk {
         requires size { self.old.size ≤ 65536 }
         ensures found { IfOk result
             (Opens table.now (frame_words table.now (Frame.Slots message from depth place))
-            self.old.frames.items self.new.frames.items) }
+            self.old.frames self.new.frames) }
         ensures size { self.new.size ≡ self.old.size }
         ensures run { self.new.run ≡ self.old.run }
         ensures bytes { self.new.bytes ≡ self.old.bytes }
@@ -263,7 +266,7 @@ impl Walk {
         requires size { self.old.size ≤ 65536 }
         ensures found { IfOk result
             (Opens table.now (frame_words table.now (Frame.Oneofs message oneof depth place))
-            self.old.frames.items self.new.frames.items) }
+            self.old.frames self.new.frames) }
         ensures size { self.new.size ≡ self.old.size }
         ensures run { self.new.run ≡ self.old.run }
         ensures bytes { self.new.bytes ≡ self.old.bytes }
@@ -295,7 +298,7 @@ impl Walk {
         requires fits { AllFit self.old.size (elements_from left kind depth place) }
         requires size { self.old.size ≤ 65536 }
         ensures found { IfOk result (λ found. (T : Table)
-            → Opens T (elements_from left kind depth place) self.old.frames.items self.new.frames.items found) }
+            → Opens T (elements_from left kind depth place) self.old.frames self.new.frames found) }
         ensures size { self.new.size ≡ self.old.size }
         ensures run { self.new.run ≡ self.old.run }
         ensures bytes { self.new.bytes ≡ self.old.bytes }
@@ -323,7 +326,7 @@ impl Walk {
         requires fits { AllFit self.old.size (entries_from left key kind depth place) }
         requires size { self.old.size ≤ 65536 }
         ensures found { IfOk result (λ found. (T : Table)
-            → Opens T (entries_from left key kind depth place) self.old.frames.items self.new.frames.items found) }
+            → Opens T (entries_from left key kind depth place) self.old.frames self.new.frames found) }
         ensures size { self.new.size ≡ self.old.size }
         ensures run { self.new.run ≡ self.old.run }
         ensures bytes { self.new.bytes ≡ self.old.bytes }

@@ -1,0 +1,61 @@
+//! A stack of frames whose last one stands apart, so that a message without parts takes no memory for it.
+
+ghost use Rattle.std.specs.Prelude.{◌≡◌, [], ◌∷◌, ◌++◌, OnOk, IfNone, IfSome};
+
+use crate::walk::Frame;
+use mrpc_table::Memory;
+use std::alloc::Global;
+use std::marker::Model;
+
+/// Some frames. Contracts see them as a list, of which the last one is taken first.
+#[derive(Drop)]
+pub struct Stack {
+    below: Vec<Frame>,
+    top: Option<Frame>,
+}
+
+impl Model for Stack {
+    ghost use Rattle.std.specs.Prelude.{List, ◌++◌};
+    ghost use Rattle.graph_copy.specs.declared.walk.Frame.{Frame as TheFrame};
+    ghost use Rattle.graph_copy.specs.Tops.{top_alone};
+
+    ghost Value = { List TheFrame };
+
+    ghost view = { λ s. s.below.items ++ top_alone s.top };
+}
+
+impl Stack {
+    /// No frames. It takes no memory.
+    pub fn new(alloc: Global) -> Stack
+        ensures { result ≡ [] }
+    {
+        Stack {
+            below: Vec::new(alloc),
+            top: None,
+        }
+    }
+
+    /// Puts a frame behind the others.
+    pub fn push(&mut self, frame: Frame) -> Result<(), Memory>
+        ensures { OnOk result (self.new ≡ self.old ++ frame ∷ []) }
+    {
+        if let Some(top) = self.top {
+            self.below.push(top)?;
+        }
+        self.top = Some(frame);
+        Ok(())
+    }
+
+    /// Takes the last frame.
+    pub fn pop(&mut self) -> Option<Frame>
+        ensures some { IfSome result (λ frame. self.old ≡ self.new ++ frame ∷ []) }
+        ensures none { IfNone result (self.old ≡ []) }
+        ensures same { IfNone result (self.new ≡ []) }
+    {
+        if let Some(top) = self.top {
+            self.top = None;
+            return Some(top);
+        }
+        self.below.pop()
+    }
+}
