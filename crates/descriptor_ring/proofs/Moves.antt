@@ -1,6 +1,7 @@
 -- Each move keeps the rule of a ring.
-use Rattle.std.proofs.Common.{◌≡◌, ◌≢◌, ℕ, zero, suc, ◌<◌, ◌≤◌, Bool, true, false, true≢false, List, [], ◌∷◌, ◌++◌, All, length, set, refl, sym, ap, ◌∙◌, subst, arith, append_assoc, append-nil, length-append}
+use Rattle.std.proofs.Common.{◌≡◌, ◌≢◌, ◌⊎◌, inl, inr, ⊎_elim, ℕ, zero, suc, ◌<◌, ◌≤◌, Bool, true, false, true≢false, List, [], ◌∷◌, ◌++◌, All, length, set, refl, sym, ap, ◌∙◌, subst, arith, append_assoc, append-nil, length-append}
 use mathlib.Core.Option.{some, some-injective, some-ne-none}
+use mathlib.Core.List.{IsPrefix}
 use lib.ListN.{get_elem?}
 use Rattle.std.proofs.lemmas.List.Elements.{All-nil, All-head, All-tail, All-push}
 use Rattle.crossbeam_queue.specs.Fifo.{Pushes, Pops, Forks, Merges, Learns}
@@ -9,7 +10,8 @@ use Rattle.descriptor_ring.specs.declared.line.Slip.{Slip}
 use Rattle.descriptor_ring.specs.declared.line.Slip.TheVariants.{Item, Closing}
 use Rattle.descriptor_ring.specs.declared.line.View.{View}
 use Rattle.descriptor_ring.specs.Heaps.{no_heap}
-use Rattle.descriptor_ring.specs.Line.{slips, queued, first, sender, receiver, nobody, both, put, got, Put, Fits, Got, Knows, IsLine}
+use Rattle.descriptor_ring.specs.Line.{slips, queued, first, sender, receiver, nobody, knowing, longer, told_sent, told_taken, both, Agree, IsInOrder, put, got, Put, Fits, Got, Knows, IsLine}
+use Rattle.descriptor_ring.specs.Rings.{Held}
 use Rattle.descriptor_ring.proofs.Passes.{each_set, each_snoc_at, other_pass}
 
 off : false ≡ true → ⊥
@@ -28,6 +30,46 @@ module _ {T : Type 0} where
   length-slips [] = refl
   length-slips (y ∷ ys) = ap suc (length-slips ys)
 
+  slips-none : (xs : List T) (closed : Bool) → length (slips xs closed) ≡ 0 → (xs ≡ []) × (closed ≡ false)
+  slips-none [] false e = (refl, refl)
+  slips-none [] true e = absurd (omega (arith, e))
+  slips-none (y ∷ ys) closed e = absurd (omega (arith, e))
+
+  front_refl : (xs : List T) → IsPrefix xs xs
+  front_refl xs = ([], append-nil xs)
+
+  front_nil : (xs : List T) → IsPrefix [] xs
+  front_nil xs = (xs, refl)
+
+  front_trans : (xs ys zs : List T) → IsPrefix xs ys → IsPrefix ys zs → IsPrefix xs zs
+  front_trans xs ys zs p q = (p.0 ++ q.0, sym (append_assoc xs p.0 q.0) ∙ ap (λ l. l ++ q.0) p.1 ∙ q.1)
+
+  -- two fronts of one list agree
+  agree : (xs ys all : List T) → IsPrefix xs all → IsPrefix ys all → Agree xs ys
+  agree [] ys all p q = inl (ys, refl)
+  agree (x ∷ xs) [] all p q = inr (x ∷ xs, refl)
+  agree (x ∷ xs) (y ∷ ys) [] p q = absurd (cc (p.1))
+  agree (x ∷ xs) (y ∷ ys) (z ∷ zs) p q =
+      let heads : x ≡ y = cc (p.1, q.1) in
+      ⊎_elim (λ (r : IsPrefix xs ys). inl (r.0, cc (heads, r.1))) (λ (r : IsPrefix ys xs). inr (r.0, cc (heads, r.1)))
+      (agree xs ys zs (p.0, cc (p.1)) (q.0, cc (q.1)))
+
+  -- the longer of two fronts is a front
+  longer_front : (xs ys all : List T) → IsPrefix xs all → IsPrefix ys all → IsPrefix (longer xs ys) all
+  longer_front [] ys all p q = q
+  longer_front (x ∷ xs) [] all p q = p
+  longer_front (x ∷ xs) (y ∷ ys) [] p q = absurd (cc (p.1))
+  longer_front (x ∷ xs) (y ∷ ys) (z ∷ zs) p q =
+      let r : IsPrefix (longer xs ys) zs = longer_front xs ys zs (p.0, cc (p.1)) (q.0, cc (q.1)) in
+      (r.0, cc (p.1, r.1))
+
+  -- none is longer than the whole
+  longer_whole : (xs ys : List T) → IsPrefix ys xs → longer xs ys ≡ xs
+  longer_whole [] [] p = refl
+  longer_whole [] (y ∷ ys) p = absurd (cc (p.1))
+  longer_whole (x ∷ xs) [] p = refl
+  longer_whole (x ∷ xs) (y ∷ ys) p = ap (λ l. x ∷ l) (longer_whole xs ys (p.0, cc (p.1)))
+
   -- what a queue holds begins with the first item that waits, or is the closing alone
   data Front (x : Slip T) (items : List (Slip T)) (waiting : List T) (closed ended : Bool) : Type 0 where
     item : (y : T) (ys : List T) → waiting ≡ y ∷ ys → x ≡ Item y → items ≡ slips ys closed → ended ≡ false → Front x items waiting closed ended
@@ -43,9 +85,17 @@ module _ {T : Type 0} (fits : HeapId → T → Type 0) (most : ℕ) where
   abbrev Line : List (Slip T) → List (View T) → Type 0
   Line = IsLine fits most
 
-  -- a pass that may do nothing
-  idle : (s r : ℕ) (heap : HeapId) (sent : List T) (closed : Bool) (taken : List T) (ended : Bool) (pass : ℕ) (v : View T) → v.sends ≡ false → v.takes ≡ false → Knows fits most s r heap sent closed taken ended pass v
-  idle s r heap sent closed taken ended pass v no_send no_take = record { sends = λ p. absurd (off (sym no_send ∙ p)); takes = λ p. absurd (off (sym no_take ∙ p)) }
+  -- a pass that may do nothing, and knows fronts of what was sent and taken
+  idle : (s r : ℕ) (heap : HeapId) (sent : List T) (closed : Bool) (taken : List T) (ended : Bool) (pass : ℕ) (v : View T)
+      → v.sends ≡ false → v.takes ≡ false → v.closed ≡ false → IsPrefix v.sent sent → IsPrefix v.taken taken
+      → Knows fits most s r heap sent closed taken ended pass v
+  idle s r heap sent closed taken ended pass v no_send no_take unclosed some_sent some_taken = record {
+    sends = λ p. absurd (off (sym no_send ∙ p));
+    takes = λ p. absurd (off (sym no_take ∙ p));
+    some_sent = some_sent;
+    some_taken = some_taken;
+    some_closed = λ p. absurd (off (sym unclosed ∙ p));
+  }
 
   pub begins : Line [] (first ∷ [])
   begins = record {
@@ -66,7 +116,13 @@ module _ {T : Type 0} (fits : HeapId → T → Type 0) (most : ℕ) where
   }
     where
       one : (pass : ℕ) (v : View T) → get_elem? (first ∷ []) pass ≡ some v → Knows fits most 0 0 no_heap [] false [] false pass v
-      one zero v e = subst (Knows fits most 0 0 no_heap [] false [] false 0) (some-injective _ _ e) record { sends = λ _. (refl, refl, refl, refl); takes = λ _. (refl, refl, refl, refl) }
+      one zero v e = subst (Knows fits most 0 0 no_heap [] false [] false 0) (some-injective _ _ e) record {
+        sends = λ _. (refl, refl, refl, refl);
+        takes = λ _. (refl, refl, refl, refl);
+        some_sent = ([], refl);
+        some_taken = ([], refl);
+        some_closed = λ p. absurd (off p);
+      }
       one (suc pass) v e = absurd (some-ne-none v (sym e))
 
   -- while the sender has not closed, the receiver has not ended
@@ -84,38 +140,52 @@ module _ {T : Type 0} (fits : HeapId → T → Type 0) (most : ℕ) where
         let closed : h.closed ≡ false = sym (mine.sends may).3 ∙ unclosed in
         h.holds ∙ ap (queued h.waiting h.closed) (open_yet h.closed h.ended h.waiting h.last closed) ∙ ap (slips h.waiting) closed
 
-    -- after the sender has put an item or the closing
-    after_put : v.sends ≡ true → (sent : List T) (closed : Bool) (x : Slip T) → (put v x).sends ≡ true → (put v x).heap ≡ v.heap → (put v x).sent ≡ sent → (put v x).closed ≡ closed
-        → (put v x).takes ≡ v.takes → (put v x).taken ≡ v.taken → (put v x).ended ≡ v.ended
-        → (j : ℕ) (u : View T) → get_elem? (set views pass (put v x)) j ≡ some u → Knows fits most h.sender h.receiver h.heap sent closed h.taken h.ended j u
-    after_put may sent closed x sends heap is_sent is_closed takes taken ended =
-        each_set (Knows fits most h.sender h.receiver h.heap sent closed h.taken h.ended) views pass (put v x)
-        record {
-          sends = λ _. ((mine.sends may).0, heap ∙ (mine.sends may).1, is_sent, is_closed);
-          takes = λ p. let t = mine.takes (sym takes ∙ p) in (t.0, heap ∙ t.1, taken ∙ t.2, ended ∙ t.3);
-        }
-        (λ j u apart e. record { sends = λ p. absurd (apart (((h.passes j u e).sends p).0 ∙ sym (mine.sends may).0)); takes = (h.passes j u e).takes })
+    -- after the sender has put an item or the closing, and knows of it
+    after_put : v.sends ≡ true → h.closed ≡ false → h.ended ≡ false → (sent : List T) (closed : Bool) (w : View T) → IsPrefix h.sent sent
+        → Knows fits most h.sender h.receiver h.heap sent closed h.taken false pass w
+        → (j : ℕ) (u : View T) → get_elem? (set views pass w) j ≡ some u → Knows fits most h.sender h.receiver h.heap sent closed h.taken false j u
+    after_put may unclosed on sent closed w longer this =
+        each_set (Knows fits most h.sender h.receiver h.heap sent closed h.taken false) views pass w this
+        (λ j u apart e. let k = h.passes j u e in record {
+          sends = λ p. absurd (apart ((k.sends p).0 ∙ sym (mine.sends may).0));
+          takes = λ p. let t = k.takes p in (t.0, t.1, t.2, t.3 ∙ on);
+          some_sent = front_trans u.sent h.sent sent k.some_sent longer;
+          some_taken = k.some_taken;
+          some_closed = λ p. absurd (off (sym unclosed ∙ (k.some_closed p).0));
+        })
 
-    -- after the receiver has got an item or the closing
-    after_got : v.takes ≡ true → (taken : List T) (ended : Bool) (x : Slip T) → (got v x).takes ≡ true → (got v x).heap ≡ v.heap → (got v x).taken ≡ taken → (got v x).ended ≡ ended
-        → (got v x).sends ≡ v.sends → (got v x).sent ≡ v.sent → (got v x).closed ≡ v.closed
-        → (j : ℕ) (u : View T) → get_elem? (set views pass (got v x)) j ≡ some u → Knows fits most h.sender h.receiver h.heap h.sent h.closed taken ended j u
-    after_got may taken ended x takes heap is_taken is_ended sends sent closed =
-        each_set (Knows fits most h.sender h.receiver h.heap h.sent h.closed taken ended) views pass (got v x)
-        record {
-          sends = λ p. let t = mine.sends (sym sends ∙ p) in (t.0, heap ∙ t.1, sent ∙ t.2, closed ∙ t.3);
-          takes = λ _. ((mine.takes may).0, heap ∙ (mine.takes may).1, is_taken, is_ended);
-        }
-        (λ j u apart e. record { sends = (h.passes j u e).sends; takes = λ p. absurd (apart (((h.passes j u e).takes p).0 ∙ sym (mine.takes may).0)) })
+    -- after the receiver has got an item or the closing, and knows of it
+    after_got : v.takes ≡ true → (taken : List T) (ended : Bool) (w : View T) → IsPrefix h.taken taken
+        → Knows fits most h.sender h.receiver h.heap h.sent h.closed taken ended pass w
+        → (j : ℕ) (u : View T) → get_elem? (set views pass w) j ≡ some u → Knows fits most h.sender h.receiver h.heap h.sent h.closed taken ended j u
+    after_got may taken ended w longer this =
+        each_set (Knows fits most h.sender h.receiver h.heap h.sent h.closed taken ended) views pass w this
+        (λ j u apart e. let k = h.passes j u e in record {
+          sends = k.sends;
+          takes = λ p. absurd (apart ((k.takes p).0 ∙ sym (mine.takes may).0));
+          some_sent = k.some_sent;
+          some_taken = front_trans u.taken h.taken taken k.some_taken longer;
+          some_closed = k.some_closed;
+        })
 
   pub puts_item : (n pass : ℕ) (v : View T) (x : T) → v.sends ≡ true → v.closed ≡ false → fits v.heap x → length v.sent < most → Pushes Line n pass v (Item x) (Put v (Item x))
   puts_item n pass v x may unclosed fit few items views room h at =
       let m = mine pass v items views h at in
       let s = m.sends may in
       let now : List T = h.sent ++ x ∷ [] in
+      let w : View T = put v (Item x) in
+      let is_sent : w.sent ≡ now = ap (λ l. l ++ x ∷ []) s.2 in
       let closed : h.closed ≡ false = sym s.3 ∙ unclosed in
-      let ended : h.ended ≡ false = open_yet h.closed h.ended h.waiting h.last closed in (
-        put v (Item x),
+      let on : h.ended ≡ false = open_yet h.closed h.ended h.waiting h.last closed in
+      let order : now ≡ h.taken ++ (h.waiting ++ x ∷ []) = ap (λ l. l ++ x ∷ []) h.in_order ∙ append_assoc h.taken h.waiting (x ∷ []) in
+      let knows : Knows fits most h.sender h.receiver h.heap now false h.taken false pass w = record {
+        sends = λ _. (s.0, s.1, is_sent, unclosed);
+        takes = λ p. let t = m.takes p in (t.0, t.1, t.2, t.3 ∙ on);
+        some_sent = subst (λ l. IsPrefix l now) (sym is_sent) (front_refl now);
+        some_taken = m.some_taken;
+        some_closed = λ p. absurd (off (sym unclosed ∙ p));
+      } in (
+        w,
         record {
           heap = h.heap;
           sent = now;
@@ -125,24 +195,34 @@ module _ {T : Type 0} (fits : HeapId → T → Type 0) (most : ℕ) where
           waiting = h.waiting ++ x ∷ [];
           sender = h.sender;
           receiver = h.receiver;
-          in_order = ap (λ l. l ++ x ∷ []) h.in_order ∙ append_assoc h.taken h.waiting (x ∷ []);
+          in_order = order;
           holds = ap (λ l. l ++ Item x ∷ []) (held pass v items views h at may unclosed) ∙ slips-push h.waiting x;
           last = λ e. absurd (off e);
           fit = All-push (fits h.heap) h.waiting x h.fit (subst (λ z. fits z x) s.1 fit);
           few = omega (arith, few, ap length s.2, length-append h.sent (x ∷ []));
-          passes = subst (λ e. (j : ℕ) (u : View T) → get_elem? (set views pass (put v (Item x))) j ≡ some u → Knows fits most h.sender h.receiver h.heap now false h.taken e j u) ended
-              (after_put pass v items views h at may now false (Item x) may refl (ap (λ l. l ++ x ∷ []) s.2) unclosed refl refl refl);
+          passes = after_put pass v items views h at may closed on now false w (x ∷ [], refl) knows;
         },
-        refl,
+        (
+          refl,
+          subst (IsPrefix v.taken) (sym is_sent) (front_trans v.taken h.taken now m.some_taken (h.waiting ++ x ∷ [], sym order)),
+        ),
       )
 
   pub puts_closing : (n pass : ℕ) (v : View T) → v.sends ≡ true → v.closed ≡ false → Pushes Line n pass v Closing (Put v Closing)
   puts_closing n pass v may unclosed items views room h at =
       let m = mine pass v items views h at in
       let s = m.sends may in
+      let w : View T = put v Closing in
       let closed : h.closed ≡ false = sym s.3 ∙ unclosed in
-      let ended : h.ended ≡ false = open_yet h.closed h.ended h.waiting h.last closed in (
-        put v Closing,
+      let on : h.ended ≡ false = open_yet h.closed h.ended h.waiting h.last closed in
+      let knows : Knows fits most h.sender h.receiver h.heap h.sent true h.taken false pass w = record {
+        sends = λ _. (s.0, s.1, s.2, refl);
+        takes = λ p. let t = m.takes p in (t.0, t.1, t.2, t.3 ∙ on);
+        some_sent = m.some_sent;
+        some_taken = m.some_taken;
+        some_closed = λ _. (refl, s.2);
+      } in (
+        w,
         record {
           heap = h.heap;
           sent = h.sent;
@@ -157,17 +237,65 @@ module _ {T : Type 0} (fits : HeapId → T → Type 0) (most : ℕ) where
           last = λ e. absurd (off e);
           fit = h.fit;
           few = h.few;
-          passes = subst (λ e. (j : ℕ) (u : View T) → get_elem? (set views pass (put v Closing)) j ≡ some u → Knows fits most h.sender h.receiver h.heap h.sent true h.taken e j u) ended
-              (after_put pass v items views h at may h.sent true Closing may refl s.2 refl refl refl refl);
+          passes = after_put pass v items views h at may closed on h.sent true w (front_refl h.sent) knows;
         },
-        refl,
+        (
+          refl,
+          subst (IsPrefix v.taken) (sym s.2) (front_trans v.taken h.taken h.sent m.some_taken (h.waiting, sym h.in_order)),
+        ),
       )
 
-  -- a full ring holds no more than was sent
-  pub learns_full : (pass : ℕ) (v : View T) → v.sends ≡ true → v.closed ≡ false → Learns Line pass v (λ items. length items ≤ length v.sent)
+  -- a full ring holds the last of what was sent
+  pub learns_full : (pass : ℕ) (v : View T) → v.sends ≡ true → v.closed ≡ false
+      → Learns Line pass v (λ items. ((n : ℕ) → length items ≡ n → Held v.sent v.taken n) × (length items ≤ length v.sent))
   learns_full pass v may unclosed items views h at =
-      let s = (mine pass v items views h at).sends may in
-      omega (arith, ap length (held pass v items views h at may unclosed), length-slips h.waiting, ap length s.2, ap length h.in_order, length-append h.taken h.waiting)
+      let m = mine pass v items views h at in
+      let order : v.sent ≡ h.taken ++ h.waiting = (m.sends may).2 ∙ h.in_order in
+      let counted : length h.waiting ≡ length items =
+      sym (length-slips h.waiting) ∙ sym (ap length (held pass v items views h at may unclosed)) in (
+        (λ n is. record { taken = h.taken; waiting = h.waiting; in_order = order; told_of = m.some_taken; counted = counted ∙ is }),
+        omega (arith, counted, ap length order, length-append h.taken h.waiting),
+      )
+
+  -- what is known to have been sent, and was not taken, is in the ring
+  pub learns_empty : (pass : ℕ) (v : View T) → v.takes ≡ true → v.ended ≡ false
+      → Learns Line pass v (λ items. length items ≡ 0 → IsPrefix v.sent v.taken × (v.closed ≡ false))
+  learns_empty pass v may on items views h at none =
+      let m = mine pass v items views h at in
+      let t = m.takes may in
+      let holds : items ≡ slips h.waiting h.closed = h.holds ∙ ap (queued h.waiting h.closed) (sym t.3 ∙ on) in
+      let nothing = slips-none h.waiting h.closed (sym (ap length holds) ∙ none) in
+      let all : h.sent ≡ v.taken = h.in_order ∙ ap (λ l. h.taken ++ l) nothing.0 ∙ append-nil h.taken ∙ sym t.2 in
+      (subst (IsPrefix v.sent) all m.some_sent, unclosed v.closed (λ p. (m.some_closed p).0) nothing.1)
+    where
+      unclosed : (closed : Bool) → (closed ≡ true → h.closed ≡ true) → h.closed ≡ false → closed ≡ false
+      unclosed false known off_yet = refl
+      unclosed true known off_yet = absurd (off (sym off_yet ∙ known refl))
+
+  -- what a receiver knows is in order
+  in_order_of : (v : View T) (sent : List T) (closed : Bool) (taken waiting : List T) (ended : Bool)
+      → sent ≡ taken ++ waiting → (ended ≡ true → (closed ≡ true) × (waiting ≡ [])) → v.taken ≡ taken → v.ended ≡ ended
+      → IsPrefix v.sent sent → (v.closed ≡ true → (closed ≡ true) × (v.sent ≡ sent)) → IsInOrder v
+  in_order_of v sent closed taken waiting ended order last is_taken is_ended some_sent some_closed =
+      let begins : IsPrefix v.taken sent = (waiting, ap (λ l. l ++ waiting) is_taken ∙ sym order) in
+      record {
+        agree = agree v.sent v.taken sent some_sent begins;
+        all = λ p.
+            let none = (last (sym is_ended ∙ p)).1 in
+            subst (IsPrefix v.sent) (order ∙ ap (λ l. taken ++ l) none ∙ append-nil taken ∙ sym is_taken) some_sent;
+        no_more = λ p. subst (IsPrefix v.taken) (sym (some_closed p).1) begins;
+      }
+
+  pub learns_in_order : (pass : ℕ) (v : View T) → v.takes ≡ true → Learns Line pass v (λ items. IsInOrder v)
+  learns_in_order pass v may items views h at =
+      let m = mine pass v items views h at in
+      let t = m.takes may in
+      in_order_of v h.sent h.closed h.taken h.waiting h.ended h.in_order h.last t.2 t.3 m.some_sent m.some_closed
+
+  pub learns_behind : (pass : ℕ) (v : View T) → v.sends ≡ true → Learns Line pass v (λ items. IsPrefix v.taken v.sent)
+  learns_behind pass v may items views h at =
+      let m = mine pass v items views h at in
+      subst (IsPrefix v.taken) (sym (m.sends may).2) (front_trans v.taken h.taken h.sent m.some_taken (h.waiting, sym h.in_order))
 
   pub gets_it : (pass : ℕ) (v : View T) → v.takes ≡ true → v.ended ≡ false → Pops Line pass v (Got fits most v)
   gets_it pass v may on x items views h at = by_front (front x items h.waiting h.closed h.ended h.holds)
@@ -181,7 +309,8 @@ module _ {T : Type 0} (fits : HeapId → T → Type 0) (most : ℕ) where
           let now : List T = h.taken ++ y ∷ [] in
           let order : h.sent ≡ now ++ ys = h.in_order ∙ ap (λ l. h.taken ++ l) waits ∙ sym (append_assoc h.taken (y ∷ []) ys) in
           let fit : All (fits h.heap) (y ∷ ys) = subst (All (fits h.heap)) waits h.fit in
-          let w : View T = got v (Item y) in (
+          let w : View T = got v (Item y) in
+          let is_taken : w.taken ≡ now = ap (λ l. l ++ y ∷ []) t.2 in (
             w,
             record {
               heap = h.heap;
@@ -197,12 +326,19 @@ module _ {T : Type 0} (fits : HeapId → T → Type 0) (most : ℕ) where
               last = λ e. absurd (off e);
               fit = All-tail (fits h.heap) y ys fit;
               few = h.few;
-              passes = after_got pass v (x ∷ items) views h at may now false (Item y) may refl (ap (λ l. l ++ y ∷ []) t.2) on refl refl refl;
+              passes = after_got pass v (x ∷ items) views h at may now false w (y ∷ [], refl) record {
+                sends = m.sends;
+                takes = λ _. (t.0, t.1, is_taken, on);
+                some_sent = m.some_sent;
+                some_taken = subst (λ l. IsPrefix l now) (sym is_taken) (front_refl now);
+                some_closed = m.some_closed;
+              };
             },
             (
               ap (got v) (sym is),
               subst (Fits fits most v.heap) (sym is) (subst (λ z. fits z y) (sym t.1) (All-head (fits h.heap) y ys fit)),
-              omega (arith, h.few, ap length order, length-append now ys, ap length t.2, length-append v.taken (y ∷ []), length-append h.taken (y ∷ [])),
+              omega (arith, h.few, ap length order, length-append now ys, ap length is_taken),
+              in_order_of w h.sent h.closed now ys false order (λ e. absurd (off e)) is_taken on m.some_sent m.some_closed,
             ),
           )
       by_front (closing waits shut is rest) =
@@ -223,12 +359,19 @@ module _ {T : Type 0} (fits : HeapId → T → Type 0) (most : ℕ) where
               last = λ e. (shut, waits);
               fit = h.fit;
               few = h.few;
-              passes = after_got pass v (x ∷ items) views h at may h.taken true Closing may refl t.2 refl refl refl refl;
+              passes = after_got pass v (x ∷ items) views h at may h.taken true w (front_refl h.taken) record {
+                sends = m.sends;
+                takes = λ _. (t.0, t.1, t.2, refl);
+                some_sent = m.some_sent;
+                some_taken = m.some_taken;
+                some_closed = m.some_closed;
+              };
             },
             (
               ap (got v) (sym is),
               subst (Fits fits most v.heap) (sym is) tt,
               omega (arith, h.few, ap length h.in_order, length-append h.taken h.waiting, ap length t.2),
+              in_order_of w h.sent h.closed h.taken h.waiting true h.in_order (λ e. (shut, waits)) t.2 refl m.some_sent m.some_closed,
             ),
           )
 
@@ -257,20 +400,37 @@ module _ {T : Type 0} (fits : HeapId → T → Type 0) (most : ℕ) where
         fit = All-nil (fits heap);
         few = omega arith;
         passes = each_snoc_at (Knows fits most pass n heap [] false [] false) vs right
-            record { sends = λ p. absurd (off p); takes = λ _. (refl, refl, refl, refl) }
+            record {
+              sends = λ p. absurd (off p);
+              takes = λ _. (refl, refl, refl, refl);
+              some_sent = ([], refl);
+              some_taken = ([], refl);
+              some_closed = λ p. absurd (off p);
+            }
             (each_set (Knows fits most pass n heap [] false [] false) views pass left
-            record { sends = λ _. (refl, refl, refl, refl); takes = λ p. absurd (off p) }
-            (λ j u apart e. record {
-              sends = λ p. absurd (apart (((h.passes j u e).sends p).0 ∙ sym s.0));
-              takes = λ p. absurd (apart (((h.passes j u e).takes p).0 ∙ sym t.0));
+            record {
+              sends = λ _. (refl, refl, refl, refl);
+              takes = λ p. absurd (off p);
+              some_sent = ([], refl);
+              some_taken = ([], refl);
+              some_closed = λ p. absurd (off p);
+            }
+            (λ j u apart e. let k = h.passes j u e in record {
+              sends = λ p. absurd (apart ((k.sends p).0 ∙ sym s.0));
+              takes = λ p. absurd (apart ((k.takes p).0 ∙ sym t.0));
+              some_sent = subst (IsPrefix u.sent) (sym s.2) k.some_sent;
+              some_taken = subst (IsPrefix u.taken) (sym t.2) k.some_taken;
+              some_closed = λ p. absurd (off (s.3 ∙ (k.some_closed p).0));
             }));
       }
 
   pub merges_it : (pass : ℕ) (v : View T) (other : ℕ) (u : View T) → v.takes ≡ true → u.sends ≡ true → Merges Line pass v other u (both v u) nobody
   merges_it pass v other u may sends items views h at apart there =
       let joined : View T = both v u in
-      let t = (mine pass v items views h at).takes may in
-      let s = (h.passes other u (other_pass views pass other joined u apart there)).sends sends in
+      let m = mine pass v items views h at in
+      let o = h.passes other u (other_pass views pass other joined u apart there) in
+      let t = m.takes may in
+      let s = o.sends sends in
       let F = Knows fits most pass h.receiver h.heap h.sent h.closed h.taken h.ended in
       record {
         heap = h.heap;
@@ -286,10 +446,104 @@ module _ {T : Type 0} (fits : HeapId → T → Type 0) (most : ℕ) where
         last = h.last;
         fit = h.fit;
         few = h.few;
-        passes = each_set F (set views pass joined) other nobody record { sends = λ p. absurd (off p); takes = λ p. absurd (off p) }
-            (λ j w away e. each_set (λ k (x : View T). k ≢ other → F k x) views pass joined (λ _. record { sends = λ _. (refl, t.1, s.2, s.3); takes = λ _. t })
-            (λ k x _ e' off_other. record { sends = λ p. absurd (off_other (((h.passes k x e').sends p).0 ∙ sym s.0)); takes = (h.passes k x e').takes }) j w e away);
+        passes = each_set F (set views pass joined) other nobody
+            (idle pass h.receiver h.heap h.sent h.closed h.taken h.ended other nobody refl refl refl (front_nil h.sent) (front_nil h.taken))
+            (λ j w away e. each_set (λ k (x : View T). k ≢ other → F k x) views pass joined
+            (λ _. record {
+              sends = λ _. (refl, t.1, s.2, s.3);
+              takes = λ _. t;
+              some_sent = o.some_sent;
+              some_taken = m.some_taken;
+              some_closed = o.some_closed;
+            })
+            (λ k x _ e' off_other. let f = h.passes k x e' in record {
+              sends = λ p. absurd (off_other ((f.sends p).0 ∙ sym s.0));
+              takes = f.takes;
+              some_sent = f.some_sent;
+              some_taken = f.some_taken;
+              some_closed = f.some_closed;
+            }) j w e away);
       }
+
+  -- any pass may tell what it knows
+  pub tells_it : (pass : ℕ) (v : View T) → Forks Line pass v v (knowing v)
+  tells_it pass v items views h at =
+      let m = mine pass v items views h at in
+      let F = Knows fits most h.sender h.receiver h.heap h.sent h.closed h.taken h.ended in
+      let n : ℕ = length (set views pass v) in
+      record {
+        heap = h.heap;
+        sent = h.sent;
+        closed = h.closed;
+        taken = h.taken;
+        ended = h.ended;
+        waiting = h.waiting;
+        sender = h.sender;
+        receiver = h.receiver;
+        in_order = h.in_order;
+        holds = h.holds;
+        last = h.last;
+        fit = h.fit;
+        few = h.few;
+        passes = each_snoc_at F (set views pass v) (knowing v)
+            (idle h.sender h.receiver h.heap h.sent h.closed h.taken h.ended n (knowing v) refl refl refl m.some_sent m.some_taken)
+            (each_set F views pass v m (λ j u apart e. h.passes j u e));
+      }
+
+  -- a pass may come to know more, where another is spent
+  grows : (pass : ℕ) (v : View T) (other : ℕ) (u joined : View T)
+      → ((items : List (Slip T)) (views : List (View T)) (h : Line items views)
+      → Knows fits most h.sender h.receiver h.heap h.sent h.closed h.taken h.ended pass v
+      → Knows fits most h.sender h.receiver h.heap h.sent h.closed h.taken h.ended other u
+      → Knows fits most h.sender h.receiver h.heap h.sent h.closed h.taken h.ended pass joined)
+      → Merges Line pass v other u joined nobody
+  grows pass v other u joined more items views h at apart there =
+      let m = mine pass v items views h at in
+      let o = h.passes other u (other_pass views pass other joined u apart there) in
+      let F = Knows fits most h.sender h.receiver h.heap h.sent h.closed h.taken h.ended in
+      record {
+        heap = h.heap;
+        sent = h.sent;
+        closed = h.closed;
+        taken = h.taken;
+        ended = h.ended;
+        waiting = h.waiting;
+        sender = h.sender;
+        receiver = h.receiver;
+        in_order = h.in_order;
+        holds = h.holds;
+        last = h.last;
+        fit = h.fit;
+        few = h.few;
+        passes = each_set F (set views pass joined) other nobody
+            (idle h.sender h.receiver h.heap h.sent h.closed h.taken h.ended other nobody refl refl refl (front_nil h.sent) (front_nil h.taken))
+            (λ j w away e. each_set F views pass joined (more items views h m o) (λ k x _ e'. h.passes k x e') j w e);
+      }
+
+  -- any pass may be told what another knows
+  pub hears_sent : (pass : ℕ) (v : View T) (other : ℕ) (u : View T) → Merges Line pass v other u (told_sent v u) nobody
+  hears_sent pass v other u = grows pass v other u (told_sent v u) (λ items views h m o.
+      let whole : v.sent ≡ h.sent → longer v.sent u.sent ≡ h.sent = λ is.
+      longer_whole v.sent u.sent (subst (IsPrefix u.sent) (sym is) o.some_sent) ∙ is in
+      record {
+        sends = λ p. let s = m.sends p in (s.0, s.1, whole s.2, s.3);
+        takes = m.takes;
+        some_sent = longer_front v.sent u.sent h.sent m.some_sent o.some_sent;
+        some_taken = m.some_taken;
+        some_closed = λ p. let c = m.some_closed p in (c.0, whole c.1);
+      })
+
+  pub hears_taken : (pass : ℕ) (v : View T) (other : ℕ) (u : View T) → Merges Line pass v other u (told_taken v u) nobody
+  hears_taken pass v other u = grows pass v other u (told_taken v u) (λ items views h m o.
+      record {
+        sends = m.sends;
+        takes = λ p.
+            let t = m.takes p in
+            (t.0, t.1, longer_whole v.taken u.taken (subst (IsPrefix u.taken) (sym t.2) o.some_taken) ∙ t.2, t.3);
+        some_sent = m.some_sent;
+        some_taken = longer_front v.taken u.taken h.taken m.some_taken o.some_taken;
+        some_closed = m.some_closed;
+      })
 
   pub learns_total : (pass : ℕ) (v : View T) → v.sends ≡ true → v.takes ≡ true → v.ended ≡ true → Learns Line pass v (λ items. v.taken ≡ v.sent)
   learns_total pass v sends takes ended items views h at =

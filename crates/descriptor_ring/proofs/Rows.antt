@@ -1,13 +1,15 @@
 -- The rule of a ring on two items.
-use Rattle.std.proofs.Common.{◌≡◌, ℕ, zero, suc, ◌≤◌, true, false, List, [], ◌∷◌, refl, sym, arith, subst}
+use Rattle.std.proofs.Common.{◌≡◌, ℕ, zero, suc, ◌≤◌, true, false, true≢false, List, [], ◌∷◌, inl, inr, refl, sym, ap, arith, subst, ◌++◌, length, length-append}
 use mathlib.Core.Option.{some, some-injective, some-ne-none}
+use mathlib.Core.List.{IsPrefix}
 use lib.ListN.{get_elem?}
 use Rattle.std.proofs.lemmas.List.Elements.{All-nil, All-cons}
 use Rattle.shared_heap.specs.Fresh.{HeapId}
 use Rattle.descriptor_ring.specs.declared.line.Slip.TheVariants.{Item, Closing}
 use Rattle.descriptor_ring.specs.declared.line.View.{View}
 use Rattle.descriptor_ring.specs.Heaps.{no_heap}
-use Rattle.descriptor_ring.specs.Line.{slips, queued, sender, receiver, put, got, Knows, IsLine}
+use Rattle.descriptor_ring.specs.Line.{slips, queued, view_of, sender, receiver, knowing, longer, told_sent, told_taken, Agree, put, got, Knows, IsLine}
+use Rattle.descriptor_ring.specs.Rings.{Held}
 
 both_then_the_closing : slips {T = ℕ} (7 ∷ 8 ∷ []) true ≡ Item 7 ∷ Item 8 ∷ Closing ∷ []
 both_then_the_closing = refl
@@ -21,13 +23,56 @@ sent_behind = refl
 taken_behind : got {T = ℕ} (receiver no_heap (7 ∷ []) false) (Item 8) ≡ receiver no_heap (7 ∷ 8 ∷ []) false
 taken_behind = refl
 
+-- the longer of two fronts, whichever comes first
+longer_of_both : longer {T = ℕ} (7 ∷ []) (7 ∷ 8 ∷ []) ≡ 7 ∷ 8 ∷ []
+longer_of_both = refl
+
+longer_of_one : longer {T = ℕ} (7 ∷ 8 ∷ []) (7 ∷ []) ≡ 7 ∷ 8 ∷ []
+longer_of_one = refl
+
+-- a receiver that took 7 and is told by a sender that sent 7 and 8
+receiver_is_told : told_sent {T = ℕ} (receiver no_heap (7 ∷ []) false) (knowing (sender no_heap (7 ∷ 8 ∷ []) false))
+    ≡ view_of no_heap false (7 ∷ 8 ∷ []) false true (7 ∷ []) false
+receiver_is_told = refl
+
+-- and the sender, told by the receiver
+sender_is_told : told_taken {T = ℕ} (sender no_heap (7 ∷ 8 ∷ []) false) (knowing (receiver no_heap (7 ∷ []) false))
+    ≡ view_of no_heap true (7 ∷ 8 ∷ []) false false (7 ∷ []) false
+sender_is_told = refl
+
+-- of two lists one begins the other, or they are in no order
+begins : Agree {T = ℕ} (7 ∷ []) (7 ∷ 8 ∷ [])
+begins = inl (8 ∷ [], refl)
+
+neither_begins : Agree {T = ℕ} (7 ∷ []) (8 ∷ 7 ∷ []) → ⊥
+neither_begins (inl p) = cc (p.1)
+neither_begins (inr p) = cc (p.1)
+
+-- a full ring of one, after 7 and 8 were sent and the sender was told that 7 was taken
+one_held : Held {T = ℕ} (7 ∷ 8 ∷ []) (7 ∷ []) 1
+one_held = record { taken = 7 ∷ []; waiting = 8 ∷ []; in_order = refl; told_of = ([], refl); counted = refl }
+
+-- it holds no two then, and a ring to which nothing was sent none
+not_both_held : Held {T = ℕ} (7 ∷ 8 ∷ []) (7 ∷ []) 2 → ⊥
+not_both_held h = too_long h.taken h.waiting h.in_order h.told_of h.counted
+  where
+    too_long : (taken waiting : List ℕ) → 7 ∷ 8 ∷ [] ≡ taken ++ waiting → IsPrefix (7 ∷ []) taken → length waiting ≡ 2 → ⊥
+    too_long taken waiting order told counted =
+        omega (arith, ap length order, length-append taken waiting, counted, ap length told.1, length-append (7 ∷ []) told.0)
+
+none_held : Held {T = ℕ} [] [] 1 → ⊥
+none_held h = omega (arith, ap length h.in_order, length-append h.taken h.waiting, h.counted)
+
 abbrev small : HeapId → ℕ → Type 0
 small heap n = n ≤ 9
 
 abbrev two : List (View ℕ)
-two = sender no_heap (7 ∷ 8 ∷ []) true ∷ receiver no_heap (7 ∷ []) false ∷ []
+two =
+    view_of no_heap true (7 ∷ 8 ∷ []) true false (7 ∷ []) false
+    ∷ view_of no_heap false (7 ∷ 8 ∷ []) false true (7 ∷ []) false
+    ∷ []
 
--- both were sent and the closing, and the first was taken
+-- both were sent and the closing, and the first was taken; each end was told of the other
 one_waits : IsLine small 2 (Item 8 ∷ Closing ∷ []) two
 one_waits = record {
   heap = no_heap;
@@ -47,6 +92,27 @@ one_waits = record {
 }
   where
     each : (pass : ℕ) (v : View ℕ) → get_elem? two pass ≡ some v → Knows small 2 0 1 no_heap (7 ∷ 8 ∷ []) true (7 ∷ []) false pass v
-    each zero v e = subst (Knows small 2 0 1 no_heap (7 ∷ 8 ∷ []) true (7 ∷ []) false 0) (some-injective _ _ e) record { sends = λ _. (refl, refl, refl, refl); takes = λ t. absurd (cc) }
-    each (suc zero) v e = subst (Knows small 2 0 1 no_heap (7 ∷ 8 ∷ []) true (7 ∷ []) false 1) (some-injective _ _ e) record { sends = λ s. absurd (cc); takes = λ _. (refl, refl, refl, refl) }
+    each zero v e =
+        subst (Knows small 2 0 1 no_heap (7 ∷ 8 ∷ []) true (7 ∷ []) false 0) (some-injective _ _ e) record {
+          sends = λ _. (refl, refl, refl, refl);
+          takes = λ t. absurd (cc);
+          some_sent = ([], refl);
+          some_taken = ([], refl);
+          some_closed = λ _. (refl, refl);
+        }
+    each (suc zero) v e =
+        subst (Knows small 2 0 1 no_heap (7 ∷ 8 ∷ []) true (7 ∷ []) false 1) (some-injective _ _ e) record {
+          sends = λ s. absurd (cc);
+          takes = λ _. (refl, refl, refl, refl);
+          some_sent = ([], refl);
+          some_taken = ([], refl);
+          some_closed = λ c. absurd (true≢false (sym c));
+        }
     each (suc (suc pass)) v e = absurd (some-ne-none v (sym e))
+
+-- nobody is told of what was not sent
+none_told : (line : IsLine small 2 [] (view_of no_heap true (7 ∷ []) false false [] false ∷ view_of no_heap false (9 ∷ []) false true (7 ∷ []) false ∷ [])) → ⊥
+none_told line =
+    let s = (line.passes 0 (view_of no_heap true (7 ∷ []) false false [] false) refl).sends refl in
+    let t = (line.passes 1 (view_of no_heap false (9 ∷ []) false true (7 ∷ []) false) refl).some_sent in
+    cc (s.2, t.1)

@@ -1,17 +1,21 @@
 -- What the fields of a ring's ends keep.
 use Rattle.std.specs.Prelude.{◌≡◌, ℕ, ◌≤◌, Bool, true, false, length}
+use mathlib.Core.List.{IsPrefix}
 use Rattle.descriptor_ring.specs.declared.line.View.{View}
-use Rattle.descriptor_ring.specs.Line.{sender}
+use Rattle.descriptor_ring.specs.Line.{IsInOrder}
 
--- the view of a sender that has not closed
-abbrev pub IsSender : {T : Type 0} → View T → Type 0
-IsSender v = v ≡ sender v.heap v.sent false
+-- the view of a sender that has not closed, and knows of nothing that was taken and that it did not send
+pub record IsSender {T : Type 0} (v : View T) : Type 0 where
+  pub sends : v.sends ≡ true
+  pub unclosed : v.closed ≡ false
+  pub told : IsPrefix v.taken v.sent
 
 -- the view of a receiver, which took no more than the most items
 pub record IsReceiver {T : Type 0} (most : ℕ) (closed : Bool) (v : View T) : Type 0 where
   pub takes : v.takes ≡ true
   pub ended : v.ended ≡ closed
   pub few : length v.taken ≤ most
+  pub in_order : IsInOrder v
 
 -- the pass of a sender that has closed
 pub record HasClosed {T : Type 0} (v : View T) : Type 0 where

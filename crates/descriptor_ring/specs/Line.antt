@@ -1,6 +1,7 @@
 -- The rule of a ring, over what its queue holds and what each pass knows: what was sent is what was taken and then what waits.
-use Rattle.std.specs.Prelude.{◌≡◌, ℕ, ◌≤◌, Bool, true, false, List, [], ◌∷◌, ◌++◌, All, length}
+use Rattle.std.specs.Prelude.{◌≡◌, ◌⊎◌, ℕ, ◌≤◌, Bool, true, false, List, [], ◌∷◌, ◌++◌, All, length}
 use mathlib.Core.Option.{some}
+use mathlib.Core.List.{IsPrefix}
 use lib.ListN.{get_elem?}
 use Rattle.shared_heap.specs.Fresh.{HeapId}
 use Rattle.descriptor_ring.specs.declared.line.Slip.{Slip}
@@ -36,6 +37,23 @@ module _ {T : Type 0} where
   abbrev pub nobody : View T
   nobody = view_of no_heap false [] false false [] false
 
+  -- a pass that may do nothing, and knows what another does of what was sent and taken
+  abbrev pub knowing : View T → View T
+  knowing v = view_of no_heap false v.sent false false v.taken false
+
+  -- of two lists of which one begins the other, the longer
+  abbrev pub longer : List T → List T → List T
+  longer [] ys = ys
+  longer (x ∷ xs) [] = x ∷ xs
+  longer (x ∷ xs) (y ∷ ys) = x ∷ longer xs ys
+
+  -- a view that was told what another pass knows of what was sent, or of what was taken
+  abbrev pub told_sent : View T → View T → View T
+  told_sent v u = view_of v.heap v.sends (longer v.sent u.sent) v.closed v.takes v.taken v.ended
+
+  abbrev pub told_taken : View T → View T → View T
+  told_taken v u = view_of v.heap v.sends v.sent v.closed v.takes (longer v.taken u.taken) v.ended
+
   -- the receiver's pass, with what the sender's knew
   abbrev pub both : View T → View T → View T
   both v u = view_of v.heap u.sends u.sent u.closed v.takes v.taken v.ended
@@ -49,8 +67,20 @@ module _ {T : Type 0} where
   got v (Item x) = view_of v.heap v.sends v.sent v.closed v.takes (v.taken ++ x ∷ []) v.ended
   got v Closing = view_of v.heap v.sends v.sent v.closed v.takes v.taken true
 
+  -- of two lists one begins the other
+  abbrev pub Agree : List T → List T → Type 0
+  Agree xs ys = IsPrefix xs ys ⊎ IsPrefix ys xs
+
+  -- what a receiver took, and what it knows was sent: it took all of that before the closing, and where it knows of the
+  -- closing it took nothing else
+  pub record IsInOrder (v : View T) : Type 0 where
+    pub agree : Agree v.sent v.taken
+    pub all : v.ended ≡ true → IsPrefix v.sent v.taken
+    pub no_more : v.closed ≡ true → IsPrefix v.taken v.sent
+
+  -- a push, after which what the pass knows was taken still begins what it sent
   abbrev pub Put : View T → Slip T → View T → Type 0
-  Put v x w = w ≡ put v x
+  Put v x w = (w ≡ put v x) × IsPrefix w.taken w.sent
 
 module _ {T : Type 0} (fits : HeapId → T → Type 0) (most : ℕ) where
   -- an item fits the ring's heap
@@ -60,12 +90,16 @@ module _ {T : Type 0} (fits : HeapId → T → Type 0) (most : ℕ) where
 
   -- a pop gives an item that fits the heap, and no more than the most items come
   abbrev pub Got : View T → Slip T → View T → Type 0
-  Got v x w = (w ≡ got v x) × Fits v.heap x × (length w.taken ≤ most)
+  Got v x w = (w ≡ got v x) × Fits v.heap x × (length w.taken ≤ most) × IsInOrder w
 
-  -- one pass at most sends, and one takes; the sender knows all that was sent, the receiver all that was taken
+  -- one pass at most sends, and one takes; the sender knows all that was sent, the receiver all that was taken, and any
+  -- other a front of either; who knows of the closing knows all that was sent
   pub record Knows (sender receiver : ℕ) (heap : HeapId) (sent : List T) (closed : Bool) (taken : List T) (ended : Bool) (pass : ℕ) (v : View T) : Type 0 where
     pub sends : v.sends ≡ true → (pass ≡ sender) × (v.heap ≡ heap) × (v.sent ≡ sent) × (v.closed ≡ closed)
     pub takes : v.takes ≡ true → (pass ≡ receiver) × (v.heap ≡ heap) × (v.taken ≡ taken) × (v.ended ≡ ended)
+    pub some_sent : IsPrefix v.sent sent
+    pub some_taken : IsPrefix v.taken taken
+    pub some_closed : v.closed ≡ true → (closed ≡ true) × (v.sent ≡ sent)
 
   pub record IsLine (items : List (Slip T)) (views : List (View T)) : Type 0 where
     pub heap : HeapId

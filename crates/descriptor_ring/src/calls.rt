@@ -1,11 +1,17 @@
 // The moves of a ring's two ends.
 ghost use Rattle.std.specs.Prelude.{◌≡◌, ◌<◌, ◌≤◌, true, false, [], length, OnOk, IfErr, IfSome, IfNone};
 ghost use Rattle.std.specs.Bool.{OnFalse, OnTrue};
+ghost use mathlib.Core.List.{IsPrefix};
 ghost use Rattle.crossbeam_queue.specs.Passes.{view as known, IsPassOf, IsSamePass, ruled_capacity};
 ghost use Rattle.descriptor_ring.specs.declared.line.Slip.TheVariants.{Item, Closing};
-ghost use Rattle.descriptor_ring.specs.Line.{first, sender, receiver, put, got, Fits};
+ghost use Rattle.descriptor_ring.specs.Line.{first, sender, receiver, knowing, told_sent, told_taken, both, put, got};
+ghost use Rattle.descriptor_ring.specs.Line.{Fits, IsInOrder};
+ghost use Rattle.descriptor_ring.specs.Rings.{Held};
 
-use crate::line::{Ends, Gets, Goods, Line, LinePass, Meets, Named, Puts, Slip, Total};
+use crate::line::{
+    Behind, Ends, Gets, Goods, HearsSent, HearsTaken, Line, LinePass, Meets, Named, Ordered, Puts,
+    Slip, Tells, Total,
+};
 use std::sync::Wait;
 
 // The item comes back where the ring was full.
@@ -23,7 +29,10 @@ pub(crate) fn send<T: Goods, R: Wait>(
 
     ensures line { IsSamePass pass.old pass.new }
     ensures sent { OnOk result (known pass.new ≡ put (known pass.old) (Item item)) }
-    ensures full { IfErr result (λ back. (back ≡ item) × (known pass.new ≡ known pass.old) × (ruled_capacity line.now ≤ length (known pass.old).sent)) }
+    ensures told { OnOk result (IsPrefix (known pass.new).taken (known pass.new).sent) }
+    ensures back { IfErr result (λ back. (back ≡ item) × (known pass.new ≡ known pass.old)) }
+    ensures full { IfErr result (λ back. Held (known pass.old).sent (known pass.old).taken (ruled_capacity line.now)) }
+    ensures many { IfErr result (λ back. ruled_capacity line.now ≤ length (known pass.old).sent) }
 {
     match line.push_as::<Puts, R>(rt, pass, Slip::Item(item)) {
         Ok(()) => Ok(()),
@@ -40,7 +49,9 @@ pub(crate) fn close<T: Goods, R: Wait>(rt: &R, line: &Line<T>, pass: &mut LinePa
 
     ensures line { IsSamePass pass.old pass.new }
     ensures closed { OnTrue result (known pass.new ≡ put (known pass.old) Closing) }
-    ensures full { OnFalse result ((known pass.new ≡ known pass.old) × (ruled_capacity line.now ≤ length (known pass.old).sent)) }
+    ensures back { OnFalse result (known pass.new ≡ known pass.old) }
+    ensures full { OnFalse result (Held (known pass.old).sent (known pass.old).taken (ruled_capacity line.now)) }
+    ensures many { OnFalse result (ruled_capacity line.now ≤ length (known pass.old).sent) }
 {
     match line.push_as::<Puts, R>(rt, pass, Slip::Closing) {
         Ok(()) => true,
@@ -62,9 +73,66 @@ pub(crate) fn take<T: Goods, R: Wait>(
     ensures taken { IfSome result (λ slip. known pass.new ≡ got (known pass.old) slip) }
     ensures fits { IfSome result (λ slip. Fits T.fits T.most (known pass.old).heap slip) }
     ensures few { IfSome result (λ slip. length (known pass.new).taken ≤ T.most) }
-    ensures empty { IfNone result (known pass.new ≡ known pass.old) }
+    ensures in_order { IfSome result (λ slip. IsInOrder (known pass.new)) }
+    ensures none { IfNone result (known pass.new ≡ known pass.old) }
+    ensures empty { IfNone result (IsPrefix (known pass.old).sent (known pass.old).taken) }
+    ensures unclosed { IfNone result ((known pass.old).closed ≡ false) }
 {
     line.pop_as::<Gets, R>(rt, pass)
+}
+
+// A pass that knows what this one does.
+pub(crate) fn tell<T: Goods>(line: &Line<T>, pass: &mut LinePass<T>) -> LinePass<T>
+    requires line { IsPassOf line.now pass.old }
+
+    ensures line { IsSamePass pass.old pass.new × IsPassOf line.now result }
+    ensures same { known pass.new ≡ known pass.old }
+    ensures told { known result ≡ knowing (known pass.old) }
+{
+    line.another::<Tells>(pass)
+}
+
+// The receiver is told what another pass knows of what was sent.
+pub(crate) fn hear_sent<T: Goods>(line: &Line<T>, pass: &mut LinePass<T>, other: LinePass<T>)
+    requires line { IsPassOf line.now pass.old }
+    requires other { IsPassOf line.now other }
+    requires takes { (known pass.old).takes ≡ true }
+
+    ensures line { IsSamePass pass.old pass.new }
+    ensures told { known pass.new ≡ told_sent (known pass.old) (known other) }
+    ensures in_order { IsInOrder (known pass.new) }
+{
+    line.absorb::<HearsSent>(pass, other);
+    line.learn_as::<Ordered>(pass);
+}
+
+// The sender is told what another pass knows of what was taken.
+pub(crate) fn hear_taken<T: Goods>(line: &Line<T>, pass: &mut LinePass<T>, other: LinePass<T>)
+    requires line { IsPassOf line.now pass.old }
+    requires other { IsPassOf line.now other }
+    requires sends { (known pass.old).sends ≡ true }
+
+    ensures line { IsSamePass pass.old pass.new }
+    ensures told { known pass.new ≡ told_taken (known pass.old) (known other) }
+    ensures in_order { IsPrefix (known pass.new).taken (known pass.new).sent }
+{
+    line.absorb::<HearsTaken>(pass, other);
+    line.learn_as::<Behind>(pass);
+}
+
+// The receiver takes in the sender's pass, and knows all that was sent.
+pub(crate) fn hear_all<T: Goods>(line: &Line<T>, pass: &mut LinePass<T>, other: LinePass<T>)
+    requires line { IsPassOf line.now pass.old }
+    requires other { IsPassOf line.now other }
+    requires takes { (known pass.old).takes ≡ true }
+    requires sends { (known other).sends ≡ true }
+
+    ensures line { IsSamePass pass.old pass.new }
+    ensures told { known pass.new ≡ both (known pass.old) (known other) }
+    ensures in_order { IsInOrder (known pass.new) }
+{
+    line.absorb::<Meets>(pass, other);
+    line.learn_as::<Ordered>(pass);
 }
 
 // What was taken is what was sent, once the receiver has the closing and the sender's pass.
@@ -76,13 +144,11 @@ pub(crate) fn meet<T: Goods>(line: &Line<T>, pass: &mut LinePass<T>, other: Line
     requires sends { (known other).sends ≡ true }
 
     ensures line { IsSamePass pass.old pass.new }
-    ensures takes { (known pass.new).takes ≡ true }
-    ensures taken { (known pass.new).taken ≡ (known pass.old).taken }
-    ensures ended { (known pass.new).ended ≡ true }
-    ensures heap { (known pass.new).heap ≡ (known pass.old).heap }
+    ensures told { known pass.new ≡ both (known pass.old) (known other) }
+    ensures in_order { IsInOrder (known pass.new) }
     ensures all { (known pass.old).taken ≡ (known other).sent }
 {
-    line.absorb::<Meets>(pass, other);
+    hear_all(line, pass, other);
     line.learn_as::<Total>(pass);
 }
 

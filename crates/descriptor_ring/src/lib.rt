@@ -5,7 +5,9 @@
 //!
 //! What the layer above may use: descriptors come out in the order in which they were sent, and each has a note of the
 //! ring's heap that knows as many stores as the descriptor says. After the closing, what was taken is what was sent.
-//! A ring that was full at a call's own step held as many of the items that were sent as it has room for.
+//! An end can tell the other how far the ring has come. A ring that refused an item held as many of those that were
+//! sent as it has room for, behind all that the sender was told were taken; a take finds nothing only where all was
+//! taken that the receiver was told was sent.
 #![tactic(auto)]
 
 mod calls;
@@ -13,6 +15,7 @@ mod descriptor;
 mod lesson;
 mod line;
 mod numbers;
+mod progress;
 mod ring;
 
 pub use descriptor::{Descriptor, Full, Taken};
@@ -20,6 +23,7 @@ pub use lesson::Lesson;
 pub use numbers::{
     NumberFull, NumberReceiver, NumberSender, NumberTaken, NumbersSent, open_numbers,
 };
+pub use progress::Progress;
 pub use ring::{Receiver, Sender, Sent, open};
 
 #[cfg(test)]

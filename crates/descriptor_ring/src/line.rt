@@ -29,7 +29,8 @@ impl Model for HeapName {
     ghost view = { λ _. no_heap };
 }
 
-// What a pass may do, of which heap the ring is, the items that it sent and took, and whether it sent and took the closing.
+// What a pass may do, of which heap the ring is, and the items that it knows were sent and taken, and whether the
+// closing was. The sender's pass knows all that was sent, the receiver's all that was taken, any other a front of both.
 pub struct View<T> {
     pub heap: HeapName,
     pub sends: bool,
@@ -69,11 +70,12 @@ impl<T: Goods> Outcome<Slip<T>, View<T>> for Puts {
     ghost then = { Put };
 }
 
-// The ring holds no more than was sent.
+// The ring holds the last of what was sent, behind all that the pass knows was taken.
 impl<T: Goods> Lesson<Slip<T>, View<T>> for Puts {
-    ghost use Rattle.std.specs.Prelude.{◌≤◌, length};
+    ghost use Rattle.std.specs.Prelude.{◌≡◌, ◌≤◌, ℕ, length};
+    ghost use Rattle.descriptor_ring.specs.Rings.{Held};
 
-    ghost fact = { λ v items. length items ≤ length v.sent };
+    ghost fact = { λ v items. ((n : ℕ) → length items ≡ n → Held v.sent v.taken n) × (length items ≤ length v.sent) };
 }
 
 // A pop of an item or of the closing.
@@ -85,8 +87,12 @@ impl<T: Goods> Outcome<Slip<T>, View<T>> for Gets {
     ghost then = { Got T.fits T.most };
 }
 
+// Of an empty ring all was taken that the pass knows was sent, and the closing was not sent as far as it knows.
 impl<T: Goods> Lesson<Slip<T>, View<T>> for Gets {
-    ghost fact = { λ v items. Unit {0} };
+    ghost use Rattle.std.specs.Prelude.{◌≡◌, false, length};
+    ghost use mathlib.Core.List.{IsPrefix};
+
+    ghost fact = { λ v items. length items ≡ 0 → IsPrefix v.sent v.taken × (v.closed ≡ false) };
 }
 
 // Once the closing was taken, and the ends are joined, all that was sent was taken.
@@ -96,6 +102,24 @@ impl<T: Goods> Lesson<Slip<T>, View<T>> for Total {
     ghost use Rattle.std.specs.Prelude.{◌≡◌};
 
     ghost fact = { λ v items. v.taken ≡ v.sent };
+}
+
+// What was taken and what the pass knows was sent are in order.
+pub struct Ordered;
+
+impl<T: Goods> Lesson<Slip<T>, View<T>> for Ordered {
+    ghost use Rattle.descriptor_ring.specs.Line.{IsInOrder};
+
+    ghost fact = { λ v items. IsInOrder v };
+}
+
+// What the pass knows was taken begins what it sent.
+pub struct Behind;
+
+impl<T: Goods> Lesson<Slip<T>, View<T>> for Behind {
+    ghost use mathlib.Core.List.{IsPrefix};
+
+    ghost fact = { λ v items. IsPrefix v.taken v.sent };
 }
 
 // Which heap a ring is opened for. The call that opens it picks the heap.
@@ -123,6 +147,39 @@ impl<T, N: Named> Split<View<T>> for Ends<N> {
     ghost left = { λ v. sender N.heap [] false };
 
     ghost right = { λ v. receiver N.heap [] false };
+}
+
+// A new pass that may do nothing, and knows what this one does.
+pub struct Tells;
+
+impl<T> Split<View<T>> for Tells {
+    ghost use Rattle.descriptor_ring.specs.Line.{knowing};
+
+    ghost left = { λ v. v };
+
+    ghost right = { knowing };
+}
+
+// A pass is told what another knows of what was sent.
+pub struct HearsSent;
+
+impl<T> Join<View<T>> for HearsSent {
+    ghost use Rattle.descriptor_ring.specs.Line.{told_sent, nobody};
+
+    ghost both = { told_sent };
+
+    ghost spent = { nobody };
+}
+
+// A pass is told what another knows of what was taken.
+pub struct HearsTaken;
+
+impl<T> Join<View<T>> for HearsTaken {
+    ghost use Rattle.descriptor_ring.specs.Line.{told_taken, nobody};
+
+    ghost both = { told_taken };
+
+    ghost spent = { nobody };
 }
 
 // The receiver's pass takes in the sender's.

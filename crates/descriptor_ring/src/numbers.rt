@@ -1,9 +1,14 @@
-ghost use Rattle.std.specs.Prelude.{◌≡◌, ◌<◌, ◌≤◌, ◌^◌, ◌↔◌, ◌++◌, ◌∷◌, [], false, length, IfOk, IfErr, OnOk, IsTrue};
+ghost use Rattle.std.specs.Prelude.{◌≡◌, ◌<◌, ◌≤◌, ◌^◌, ◌↔◌, ◌++◌, ◌∷◌, [], true, false, length};
+ghost use Rattle.std.specs.Prelude.{IfOk, IfErr, OnOk, IsTrue};
 ghost use Rattle.descriptor_ring.specs.NumberAnswers.{OnItem, OnEmpty, OnNone};
+ghost use Rattle.descriptor_ring.specs.Rings.{Held};
+ghost use Rattle.descriptor_ring.specs.Line.{longer, Agree};
+ghost use mathlib.Core.List.{IsPrefix};
 
 use crate::calls;
 use crate::lesson::Lesson;
 use crate::line::{Goods, Line, LinePass, Slip};
+use crate::progress::Progress;
 use std::alloc::{AllocError, Global};
 use std::marker::{Brand, Model};
 use std::sync::{Arc, Wait};
@@ -36,7 +41,7 @@ impl Goods for u64 {
 }
 
 /// The sending end of a ring of numbers. Contracts see it as a `NumberSending`: which ring it is, how many numbers the
-/// ring holds, and the numbers that were sent.
+/// ring holds, the numbers that were sent, and those that it was told were taken.
 #[derive(Drop)]
 pub struct NumberSender {
     line: Arc<Line<u64>, Global>,
@@ -51,13 +56,18 @@ impl Model for NumberSender {
 
     ghost Value = { NumberSending };
 
-    ghost view = { λ s. record { ring = s.pass.table_id; capacity = ruled_capacity (arc_value s.line); sent = (known s.pass).sent } };
+    ghost view = { λ s. record {
+      ring = s.pass.table_id;
+      capacity = ruled_capacity (arc_value s.line);
+      sent = (known s.pass).sent;
+      told = (known s.pass).taken;
+    } };
 
     ghost invariant = { λ s. IsPassOf (arc_value s.line) s.pass × IsSender (known s.pass) };
 }
 
 /// The receiving end of a ring of numbers. Contracts see it as a `NumberReceiving`: which ring it is, the numbers that
-/// were taken, and whether the closing was.
+/// were taken, whether the closing was, and what it was told was sent.
 #[derive(Drop)]
 pub struct NumberReceiver {
     line: Arc<Line<u64>, Global>,
@@ -74,7 +84,13 @@ impl Model for NumberReceiver {
 
     ghost Value = { NumberReceiving };
 
-    ghost view = { λ r. record { ring = r.pass.table_id; taken = (known r.pass).taken; closed = r.closed } };
+    ghost view = { λ r. record {
+      ring = r.pass.table_id;
+      taken = (known r.pass).taken;
+      closed = r.closed;
+      told = (known r.pass).sent;
+      told_closed = (known r.pass).closed;
+    } };
 
     ghost invariant = { λ r. IsPassOf (arc_value r.line) r.pass × IsReceiver (2 ^ 61) r.closed (known r.pass) };
 }
@@ -108,6 +124,7 @@ pub fn open_numbers(alloc: Global, cap: u64) -> Result<(NumberSender, NumberRece
     ensures capacity { IfOk result (λ ends. ends.0.capacity ≡ cap) }
     ensures sent { IfOk result (λ ends. ends.0.sent ≡ []) }
     ensures taken { IfOk result (λ ends. (ends.1.taken ≡ []) × (ends.1.closed ≡ false)) }
+    ensures told { IfOk result (λ ends. (ends.0.told ≡ []) × (ends.1.told ≡ []) × (ends.1.told_closed ≡ false)) }
 {
     let (line, first) = Line::ruled(alloc, cap as usize)?;
     let line = Arc::new(alloc, line)?;
@@ -127,18 +144,20 @@ pub fn open_numbers(alloc: Global, cap: u64) -> Result<(NumberSender, NumberRece
 
 impl NumberSender {
     /// Sends a number. It comes back where the ring was full at the call's own step, and then the ring held the last
-    /// `capacity` numbers that were sent.
+    /// `capacity` numbers that were sent, behind those that the sender was told were taken.
     pub fn send<R: Wait>(&mut self, rt: &R, item: u64) -> Result<(), NumberFull>
         requires { length self.old.sent < 2 ^ 61 }
 
         ensures sent { OnOk result (self.new.sent ≡ self.old.sent ++ item ∷ []) }
         ensures back { IfErr result (λ full. full.item ≡ item) }
         ensures full { IfErr result (λ full. full.lesson ≡ self.old.capacity) }
+        ensures held { IfErr result (λ full. Held self.old.sent self.old.told full.lesson) }
         ensures many { IfErr result (λ full. full.lesson ≤ length self.old.sent) }
         ensures kept { IfErr result (λ full. self.new.sent ≡ self.old.sent) }
 
         ensures ring { self.new.ring ≡ self.old.ring }
         ensures capacity { self.new.capacity ≡ self.old.capacity }
+        ensures told { self.new.told ≡ self.old.told }
     {
         match calls::send(rt, &self.line, &mut self.pass, item) {
             Ok(()) => Ok(()),
@@ -149,12 +168,40 @@ impl NumberSender {
         }
     }
 
+    /// How far the ring has come, as far as this end knows. It waits for nobody and takes no memory.
+    pub fn progress(&mut self) -> Progress<u64>
+        ensures sent { result.sent ≡ self.old.sent }
+        ensures taken { result.taken ≡ self.old.told }
+        ensures ring { result.ring ≡ self.old.ring }
+        ensures same { self.new ≡ self.old }
+    {
+        Progress {
+            pass: calls::tell(&self.line, &mut self.pass),
+        }
+    }
+
+    /// Learns what was taken, as far as the end knew that made `progress`. It waits for nobody and takes no memory.
+    pub fn hear(&mut self, progress: Progress<u64>)
+        requires { progress.ring ≡ self.old.ring }
+
+        ensures told { self.new.told ≡ longer self.old.told progress.taken }
+        ensures in_order { IsPrefix self.new.told self.new.sent }
+
+        ensures sent { self.new.sent ≡ self.old.sent }
+        ensures ring { self.new.ring ≡ self.old.ring }
+        ensures capacity { self.new.capacity ≡ self.old.capacity }
+    {
+        let Progress { pass } = progress;
+        calls::hear_taken(&self.line, &mut self.pass, pass);
+    }
+
     /// Sends the closing behind all numbers. The sender comes back where the ring was full at the call's own step.
     pub fn close<R: Wait>(self, rt: &R) -> Result<NumbersSent, (NumberSender, Lesson)>
         ensures sent { IfOk result (λ sent. sent.items ≡ self.sent) }
         ensures ring { IfOk result (λ sent. sent.ring ≡ self.ring) }
         ensures back { IfErr result (λ refused. refused.0 ≡ self) }
         ensures full { IfErr result (λ refused. refused.1 ≡ self.capacity) }
+        ensures held { IfErr result (λ refused. Held self.sent self.told refused.1) }
         ensures many { IfErr result (λ refused. refused.1 ≤ length self.sent) }
     {
         let NumberSender { line, mut pass } = self;
@@ -177,8 +224,15 @@ impl NumberReceiver {
         ensures closed { (result ≡ NumberTaken.Closed) ↔ IsTrue self.new.closed }
         ensures stays_closed { IsTrue self.old.closed → IsTrue self.new.closed }
         ensures empty { OnEmpty result (λ lesson. lesson ≡ 0) }
+        // It finds nothing only where the ring was empty at the call's own step: it took all that it was told was sent.
+        ensures all { OnNone result (IsPrefix self.old.told self.old.taken) }
+        ensures unclosed { OnEmpty result (λ lesson. self.old.told_closed ≡ false) }
+        // What is taken and what it was told was sent are in one order, and behind what it was told it takes nothing.
+        ensures in_order { Agree self.new.told self.new.taken }
+        ensures no_more { IsTrue self.old.told_closed → IsPrefix self.new.taken self.new.told }
 
         ensures ring { self.new.ring ≡ self.old.ring }
+        ensures told { (self.new.told ≡ self.old.told) × (self.new.told_closed ≡ self.old.told_closed) }
     {
         if self.closed {
             return NumberTaken::Closed;
@@ -193,13 +247,60 @@ impl NumberReceiver {
         }
     }
 
+    /// How far the ring has come, as far as this end knows. It waits for nobody and takes no memory.
+    pub fn progress(&mut self) -> Progress<u64>
+        ensures sent { result.sent ≡ self.old.told }
+        ensures taken { result.taken ≡ self.old.taken }
+        ensures ring { result.ring ≡ self.old.ring }
+        ensures same { self.new ≡ self.old }
+    {
+        Progress {
+            pass: calls::tell(&self.line, &mut self.pass),
+        }
+    }
+
+    /// Learns what was sent, as far as the end knew that made `progress`. It waits for nobody and takes no memory.
+    pub fn hear(&mut self, progress: Progress<u64>)
+        requires { progress.ring ≡ self.old.ring }
+
+        ensures told { self.new.told ≡ longer self.old.told progress.sent }
+        ensures told_closed { self.new.told_closed ≡ self.old.told_closed }
+        ensures in_order { Agree self.new.told self.new.taken }
+
+        ensures taken { self.new.taken ≡ self.old.taken }
+        ensures closed { self.new.closed ≡ self.old.closed }
+        ensures ring { self.new.ring ≡ self.old.ring }
+    {
+        let Progress { pass } = progress;
+        calls::hear_sent(&self.line, &mut self.pass, pass);
+    }
+
+    /// Learns all that was sent, of a sender that has closed, while some of it may still wait.
+    pub fn hear_all(&mut self, sent: NumbersSent)
+        requires { sent.ring ≡ self.old.ring }
+
+        ensures told { (self.new.told ≡ sent.items) × (self.new.told_closed ≡ true) }
+        ensures in_order { IsPrefix self.new.taken self.new.told }
+
+        ensures taken { self.new.taken ≡ self.old.taken }
+        ensures closed { self.new.closed ≡ self.old.closed }
+        ensures ring { self.new.ring ≡ self.old.ring }
+    {
+        let NumbersSent { pass } = sent;
+        calls::hear_all(&self.line, &mut self.pass, pass);
+    }
+
     /// Compares what was taken with what the sender sent: it is the same.
     pub fn meet(&mut self, sent: NumbersSent)
         requires one_ring { sent.ring ≡ self.old.ring }
         requires closed { IsTrue self.old.closed }
 
         ensures all { self.old.taken ≡ sent.items }
-        ensures same { self.new ≡ self.old }
+        ensures told { (self.new.told ≡ sent.items) × (self.new.told_closed ≡ true) }
+
+        ensures taken { self.new.taken ≡ self.old.taken }
+        ensures closed { self.new.closed ≡ self.old.closed }
+        ensures ring { self.new.ring ≡ self.old.ring }
     {
         let NumbersSent { pass } = sent;
         calls::meet(&self.line, &mut self.pass, pass);

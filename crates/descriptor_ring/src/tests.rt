@@ -17,11 +17,18 @@ fn a_full_ring_of_one_number_refuses(rt: HostRuntime) -> Result<(), Fail> {
     assert!(rt; sender.send(&rt, 7).is_ok());
     let full = sender.send(&rt, 8).err().ok_or("it was full")?;
     assert_eq!(rt; (full.item, full.lesson.held()), (8, 1));
+    receiver.hear(sender.progress());
     assert!(rt; matches!(receiver.take(&rt), NumberTaken::Item(7)));
+    sender.hear(receiver.progress());
     let NumberTaken::Empty(lesson) = receiver.take(&rt) else {
         return Err(Fail::from("it was empty"));
     };
     assert_eq!(rt; lesson.held(), 0);
+    let Ok(sent) = sender.close(&rt) else {
+        return Err(Fail::from("there was room"));
+    };
+    receiver.hear_all(sent);
+    assert!(rt; matches!(receiver.take(&rt), NumberTaken::Closed));
     Ok(())
 }
 
@@ -52,6 +59,7 @@ fn submit<R: Wait>(rt: &R, writer: &mut Writer, sender: &mut Sender) -> Option<u
     requires few { length sender.old.sent < 4294967294 }
     ensures writer { writer.new ≡ writer.old }
     ensures heap { sender.new.heap ≡ sender.old.heap }
+    ensures ring { sender.new.ring ≡ sender.old.ring }
     ensures few { length sender.new.sent ≤ length sender.old.sent + 1 }
 {
     let descriptor = submission(writer);
@@ -68,9 +76,11 @@ fn a_full_ring_of_one_descriptor_refuses(rt: HostRuntime) -> Result<(), Fail> {
     writer.store(1, 9);
     assert_eq!(rt; submit(&rt, &mut writer, &mut sender), None);
     assert_eq!(rt; submit(&rt, &mut writer, &mut sender), Some(1));
+    receiver.hear(sender.progress());
     let Taken::Item(descriptor) = receiver.take(&rt) else {
         return Err(Fail::from("one was sent"));
     };
+    sender.hear(receiver.progress());
     meet(&mut reader, descriptor);
     assert_eq!(rt; reader.load(1), 9);
     assert_eq!(rt; submit(&rt, &mut writer, &mut sender), None);
@@ -79,6 +89,11 @@ fn a_full_ring_of_one_descriptor_refuses(rt: HostRuntime) -> Result<(), Fail> {
         return Err(Fail::from("it was empty"));
     };
     assert_eq!(rt; lesson.held(), 0);
+    let Ok(sent) = sender.close(&rt) else {
+        return Err(Fail::from("there was room"));
+    };
+    receiver.hear_all(sent);
+    assert!(rt; matches!(receiver.take(&rt), Taken::Closed));
     Ok(())
 }
 
@@ -313,6 +328,7 @@ fn close_a_full_ring<R: Threads + Wait + Sync>(
 {
     let (mut sender, mut receiver) = open_numbers(alloc, cap)?;
     let filled = fill(rt, &mut sender);
+    let told = sender.progress();
     let (sent, (mut receiver, taken)) = join(
         rt,
         move || -> NumbersSent
@@ -320,9 +336,10 @@ fn close_a_full_ring<R: Threads + Wait + Sync>(
             ensures { result.ring ≡ sender.ring }
         { close_numbers(rt, sender) },
         move || -> (NumberReceiver, u64)
-            requires { IsSync R.row × (receiver.taken ≡ []) }
+            requires { IsSync R.row × (receiver.taken ≡ []) × (told.ring ≡ receiver.ring) }
             ensures { (result.0.ring ≡ receiver.ring) × IsTrue result.0.closed }
         {
+            receiver.hear(told);
             let taken = take_numbers(rt, &mut receiver);
             (receiver, taken)
         },

@@ -1,12 +1,7 @@
-use Rattle.descriptor_ring.proofs.Moves.{merges_it, learns_total}
+use Rattle.descriptor_ring.proofs.Moves.{learns_total}
 use Rattle.descriptor_ring.proofs.calls.meet.Goals as goal
-
-pub absorb-requires-clause-rule : goal.absorb-requires-clause-rule
-absorb-requires-clause-rule g c =
-    let r = c.requires in
-    merges_it g.T.Goods.fits g.T.Goods.most _ _ _ _ r.takes r.sends
 
 pub learn_as-requires-clause-rule : goal.learn_as-requires-clause-rule
 learn_as-requires-clause-rule g c =
     let r = c.requires in
-    rw c.absorb.ensures.rule (learns_total g.T.Goods.fits g.T.Goods.most _ _ r.sends r.takes r.ended)
+    rw c.hear_all.ensures.told (learns_total g.T.Goods.fits g.T.Goods.most _ _ r.sends r.takes r.ended)
