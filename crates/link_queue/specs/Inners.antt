@@ -6,4 +6,4 @@ use Rattle.link_queue.specs.Known.{since}
 
 -- the frames that were handed to the inner link since the writer has it
 abbrev pub passed_on : {L : Type 0} {g : Ghosts L} → Inner L g → List (List ℕ)
-passed_on {g = g} inner = since (g.handed inner.start.value) (g.handed inner.link)
+passed_on {g = g} inner = since (g.handed inner.link.start) (g.handed inner.link.now)

@@ -5,6 +5,11 @@ use Rattle.std.specs.Prelude.{◌≡◌, ℕ, List, ◌++◌, Option, Some, drop
 abbrev pub TellsMore : Option (List ℕ) → Option (List ℕ) → List ℕ → Type 0
 TellsMore old new bytes = (known : List ℕ) → old ≡ Some known → new ≡ Some (known ++ bytes)
 
+-- a link as a writer got it, and as it is now
+pub record Later (L : Type 0) : Type 0 where
+  pub start : L
+  pub now : L
+
 -- the frames that were handed over since, where `old` were before and `new` are now
 abbrev pub since : List (List ℕ) → List (List ℕ) → List (List ℕ)
 since old new = drop (length old) new

@@ -10,7 +10,7 @@ use Rattle.link_queue.specs.Inners.{passed_on}
 
 -- the inner link as the writer got it
 abbrev pub writer_start : {R L : Type 0} {g : Ghosts L} → QueueWriter R L g → L
-writer_start w = w.inner.start.value
+writer_start w = w.inner.link.start
 
 -- the queue to the writer, and the queue back
 abbrev pub writer_forward : {R L : Type 0} {g : Ghosts L} → QueueWriter R L g → TableId
@@ -22,10 +22,10 @@ writer_backward w = producer_queue w.out
 module _ {L : Type 0} {g : Ghosts L} where
   -- the inner link as the writer got it, and as it left it
   abbrev pub start_of : WriterEnd L g → L
-  start_of w = w.inner.start.value
+  start_of w = w.inner.link.start
 
   abbrev pub link_of : WriterEnd L g → L
-  link_of w = w.inner.link
+  link_of w = w.inner.link.now
 
   -- the frames that the inner link was handed since, and the bytes that it gave since
   abbrev pub handed_since : WriterEnd L g → List (List ℕ)

@@ -4,24 +4,23 @@ ghost use Rattle.mrpc_base.specs.Faults.{raised};
 ghost use Rattle.link_queue.specs.declared.marks.Health.TheVariants.{Failed};
 ghost use Rattle.link_queue.specs.Known.{TellsMore, since};
 
+use crate::kept::Kept;
 use crate::marks::Health;
-use crate::was::Was;
 use mrpc_base::{Came, Handed, Link};
 use one_way_queue::GivenBytes;
 
-// The link, as it was and as it is, the bytes that came since, and what it answered.
+// The link, the bytes that came since it was handed over, and what it answered.
 #[derive(Drop)]
 pub(crate) struct Inner<L: Link> {
-    pub link: L,
-    pub start: Was<L>,
+    pub link: Kept<L>,
     pub came: GivenBytes,
     pub health: Health,
     pub ended: bool,
-    ghost handed: { L.handed link ≡ L.handed start.value ++ since (L.handed start.value) (L.handed link) },
-    ghost given: { TellsMore (L.given start.value) (L.given link) came.bytes },
-    ghost failed: { health ≡ Failed → raised (L.faults start.value) ≤ L.faults link },
-    ghost works: { health ≢ Failed → L.faults link ≡ L.faults start.value },
-    ghost has_ended: { ended ≡ true → L.ended link ≡ true },
+    ghost handed: { L.handed link.now ≡ L.handed link.start ++ since (L.handed link.start) (L.handed link.now) },
+    ghost given: { TellsMore (L.given link.start) (L.given link.now) came.bytes },
+    ghost failed: { health ≡ Failed → raised (L.faults link.start) ≤ L.faults link.now },
+    ghost works: { health ≢ Failed → L.faults link.now ≡ L.faults link.start },
+    ghost has_ended: { ended ≡ true → L.ended link.now ≡ true },
 }
 
 impl<L: Link> Inner<L> {
@@ -29,17 +28,15 @@ impl<L: Link> Inner<L> {
     ghost use Rattle.link_queue.specs.Inners.{passed_on};
 
     pub(crate) fn new(link: L) -> Inner<L>
-        ensures link { result.link ≡ link }
-        ensures start { result.start.value ≡ link }
+        ensures link { result.link.now ≡ link }
+        ensures start { result.link.start ≡ link }
         ensures passed { passed_on result ≡ [] }
         ensures came { result.came.bytes ≡ [] }
         ensures health { result.health ≡ Health.Working }
         ensures ended { result.ended ≡ false }
     {
-        let start = Was::of(&link);
         Inner {
-            link,
-            start,
+            link: Kept::new(link),
             came: GivenBytes::new(),
             health: Health::Working,
             ended: false,
@@ -51,7 +48,7 @@ impl<L: Link> Inner<L> {
         requires { self.old.health ≡ Health.Working }
         ensures passed { self.new.health ≡ Health.Working → passed_on self.new ≡ passed_on self.old ++ frame.now ∷ [] }
         ensures kept { self.new.health ≢ Health.Working → passed_on self.new ≡ passed_on self.old }
-        ensures start { self.new.start.value ≡ self.old.start.value }
+        ensures start { self.new.link.start ≡ self.old.link.start }
         ensures came { self.new.came.bytes ≡ self.old.came.bytes }
         ensures ended { self.new.ended ≡ self.old.ended }
     {
@@ -65,7 +62,7 @@ impl<L: Link> Inner<L> {
     // Ends the sending side.
     pub(crate) fn finish(&mut self)
         ensures passed { passed_on self.new ≡ passed_on self.old }
-        ensures start { self.new.start.value ≡ self.old.start.value }
+        ensures start { self.new.link.start ≡ self.old.link.start }
         ensures came { self.new.came.bytes ≡ self.old.came.bytes }
         ensures ended { self.new.ended ≡ self.old.ended }
         ensures health { self.new.health ≡ self.old.health }
@@ -81,7 +78,7 @@ impl<L: Link> Inner<L> {
         ensures came { self.new.came.bytes ≡ self.old.came.bytes ++ take result buf.new }
         ensures ended { 0 < result → self.new.ended ≡ self.old.ended }
         ensures passed { passed_on self.new ≡ passed_on self.old }
-        ensures start { self.new.start.value ≡ self.old.start.value }
+        ensures start { self.new.link.start ≡ self.old.link.start }
     {
         match self.link.receive(buf) {
             Came::Bytes(count) => {

@@ -9,6 +9,7 @@
 #![tactic(auto)]
 
 mod inner;
+mod kept;
 mod marks;
 mod opening;
 mod queue_link;

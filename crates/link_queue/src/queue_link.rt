@@ -184,6 +184,9 @@ impl<'r, R: Wait> Link for QueueLink<'r, R> {
 
     ghost faults = { λ l. l.faults };
 
+    // It has the same two queues, of as many frames at most.
+    ghost since = { λ old new. (new.forward ≡ old.forward) × (new.backward ≡ old.backward) × (new.most ≡ old.most) };
+
     fn send(&mut self, frame: &[u8]) -> Handed
         // A send fails only once it has learnt that the inner link failed.
         ensures fails { (result ≡ Handed.Failed) ↔ (self.old.health ≡ Health.Failed) }

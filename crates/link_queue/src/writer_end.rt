@@ -34,25 +34,27 @@ impl<L: Link> WriterEnd<L> {
     ) -> WriterEnd<L>
         requires passes { PassesOn (taken_of orders) (passed_on inner) true inner.health }
         requires brings { HasBroughtBack (put_of out) inner.came.bytes inner.ended inner.health }
-        ensures start { start_of result ≡ inner.start.value }
+        ensures start { start_of result ≡ inner.link.start }
         ensures forward { end_forward result ≡ consumer_queue orders }
         ensures backward { end_backward result ≡ producer_queue out }
     {
         WriterEnd { inner, orders, out }
     }
 
-    /// The inner link.
+    /// The inner link, which is the one that the writer was made for, later on.
     pub fn link(&self) -> &L
-        ensures { result.now ≡ link_of self.now }
+        ensures link { result.now ≡ link_of self.now }
+        ensures same_link { (first : L) → L.since first (start_of self.now) → L.since first result.now }
     {
-        &self.inner.link
+        self.inner.link.get()
     }
 
-    /// The inner link, taken out.
+    /// The inner link, taken out. It is the one that the writer was made for, later on.
     pub fn into_link(self) -> L
-        ensures { result ≡ link_of self }
+        ensures link { result ≡ link_of self }
+        ensures same_link { (first : L) → L.since first (start_of self) → L.since first result }
     {
-        self.inner.link
+        self.inner.link.into_link()
     }
 
     /// Whether the inner link failed: then its count of faults rose, or stands at its last value, and else it stayed.

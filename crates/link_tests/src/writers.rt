@@ -29,6 +29,8 @@ impl Link for Wanting {
 
     ghost faults = { λ _. 0 };
 
+    ghost since = { λ old new. new.in_receives ≡ old.in_receives };
+
     fn send(&mut self, _frame: &[u8]) -> Handed {
         Handed::Memory
     }

@@ -164,6 +164,9 @@ impl<'r, R: Wait> Link for PairLink<'r, R> {
 
     ghost faults = { λ l. l.faults };
 
+    // It has the same two queues, and the same calls are to fail.
+    ghost since = { λ old new. (new.outward ≡ old.outward) × (new.inward ≡ old.inward) × (new.failing_sends ≡ old.failing_sends) × (new.failing_receives ≡ old.failing_receives) };
+
     fn send(&mut self, frame: &[u8]) -> Handed
         // A send fails exactly where its number is listed, or the sending side was ended.
         ensures fails { (result ≡ Handed.Failed) ↔ (Contains self.old.failing_sends self.new.sends ⊎ IsTrue self.old.finished) }

@@ -8,4 +8,4 @@ pub returns-clause-rose : goal.returns-clause-rose
 returns-clause-rose g c =
     let inner = c.args.self.now.inner in
     let fails : (IsTrue c.eq.result → inner.health ≡ Failed) = search rules in
-    λ yes. raised_rose (g.L.Link.faults inner.start.value) (g.L.Link.faults inner.link) (inner.failed (fails yes))
+    λ yes. raised_rose (g.L.Link.faults inner.link.start) (g.L.Link.faults inner.link.now) (inner.failed (fails yes))

@@ -63,4 +63,4 @@ returns-clause-failed g c = λ failed.
 pub returns-clause-rose : goal.returns-clause-rose
 returns-clause-rose g c = λ fails.
     let w = c.args.self.now in
-    raised_rose (g.L.Link.faults w.inner.start.value) (g.L.Link.faults w.inner.link) (w.inner.failed fails)
+    raised_rose (g.L.Link.faults w.inner.link.start) (g.L.Link.faults w.inner.link.now) (w.inner.failed fails)

@@ -1,0 +1,38 @@
+-- Each call leaves the two queues and the lists of the calls that are to fail.
+use Rattle.std.proofs.Common.{ap, refl, Some, ◌∙◌}
+use Rattle.mem_fabric.proofs.pair_link.PairLinkLink.TheImpl.Goals as goal
+
+pub send-tells : goal.send-tells
+send-tells g c =
+    let same = c.ensures.same in record {
+      appended = c.ensures.appended;
+      kept = c.ensures.kept;
+      same_given = ap (λ l. Some l.given) same;
+      same_ended = ap (λ l. l.ended) same;
+      same_link = λ first h. (ap (λ l. l.outward) same ∙ h.0, ap (λ l. l.inward) same ∙ h.1, ap (λ l. l.failing_sends) same ∙ h.2, ap (λ l. l.failing_receives) same ∙ h.3);
+      cause = c.ensures.cause;
+    }
+
+pub receive-tells : goal.receive-tells
+receive-tells g c =
+    let same = c.ensures.same in record {
+      count = c.ensures.count;
+      appended = c.ensures.appended;
+      kept = c.ensures.kept;
+      ends = c.ensures.ends;
+      same_ended = c.ensures.same_ended;
+      same_handed = ap (λ l. l.handed) same;
+      same_link = λ first h. (ap (λ l. l.outward) same ∙ h.0, ap (λ l. l.inward) same ∙ h.1, ap (λ l. l.failing_sends) same ∙ h.2, ap (λ l. l.failing_receives) same ∙ h.3);
+      idle = c.ensures.idle;
+      end = c.ensures.end;
+      cause = c.ensures.cause;
+    }
+
+pub finish-tells : goal.finish-tells
+finish-tells g c = rw c.ensures (record {
+  same_handed = refl;
+  same_given = refl;
+  same_ended = refl;
+  same_faults = refl;
+  same_link = λ first h. h;
+})
