@@ -115,4 +115,5 @@ module _ {T : Type 0} (fits : HeapId → T → Type 0) (most : ℕ) where
     pub last : ended ≡ true → (closed ≡ true) × (waiting ≡ [])
     pub fit : All (fits heap) waiting
     pub few : length sent ≤ most
-    pub passes : (pass : ℕ) (v : View T) → get_elem? views pass ≡ some v → Knows sender receiver heap sent closed taken ended pass v
+    pub passes : (pass : ℕ) (v : View T) → get_elem? views pass ≡ some v
+        → Knows sender receiver heap sent closed taken ended pass v

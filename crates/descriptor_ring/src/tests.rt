@@ -231,7 +231,8 @@ fn run<R: Threads + Wait + Sync>(
     let ((note, sent), (found, mut reader, mut receiver)) = join(
         rt,
         move || -> (Note, Sent)
-            requires { IsSync R.row × (writer.heap.words ≡ 4) × (sender.heap ≡ writer.heap) × (writer.stores ≡ []) × (sender.sent ≡ []) }
+            requires { IsSync R.row × (writer.heap.words ≡ 4) × (sender.heap ≡ writer.heap) × (writer.stores ≡ [])
+                × (sender.sent ≡ []) }
             ensures { (result.0.heap ≡ writer.heap) × (result.1.ring ≡ sender.ring) }
         { write_all(rt, writer, sender) },
         move || -> (Found, Reader, Receiver)

@@ -11,7 +11,8 @@ abbrev pub since : List (ℕ × ℕ) → List (ℕ × ℕ) → List (ℕ × ℕ)
 since before now = drop (length before) now
 
 -- Room was made, and then these loads, one after the other, each with the change that a load makes; nothing else.
-pub record OnlyLoads {W : Type 0} (after_room : W → W → Type 0) (after_load : W → ℕ → ℕ → W → Type 0) (old : W) (own : List (ℕ × ℕ)) (new : W) : Type 0 where
+pub record OnlyLoads {W : Type 0} (after_room : W → W → Type 0) (after_load : W → ℕ → ℕ → W → Type 0)
+    (old : W) (own : List (ℕ × ℕ)) (new : W) : Type 0 where
   pub roomed : W
   pub room : after_room old roomed
   pub loads : AfterLoads after_load roomed own new

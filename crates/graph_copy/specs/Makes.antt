@@ -22,7 +22,8 @@ Takes T es before after Made =
 -- the same of one word
 abbrev pub TakesWord : Table → Use × ℕ → List (ℕ × ℕ) → List (ℕ × ℕ) → (Word → Type 0) → Type 0
 TakesWord T e before after Made =
-    (H v : ℕ) (content : Placed) (rest : List (ℕ × ℕ)) → v < 2 ^ 64 → IsFine T H e.0 v → AreSound T H (behind T e.0 e.1 v) content
+    (H v : ℕ) (content : Placed) (rest : List (ℕ × ℕ)) → v < 2 ^ 64 → IsFine T H e.0 v
+    → AreSound T H (behind T e.0 e.1 v) content
     → before ≡ (e.1, v) ∷ loads content ++ rest → Made (word e.1 v content) × (after ≡ rest)
 
 -- the same of what stands behind a word that was taken
@@ -39,7 +40,9 @@ pub record SlotsTaken (T : Table) (H : ℕ) (fs slots : List Field) (others : Ex
   pub after_is : after ≡ loads left ++ rest
   pub made : insert_all found (slots_tree T fs slots P) ≡ insert_all more (slots_tree T fs [] left)
 
-abbrev pub TakesSlots : Table → List Field → List Field → ℕ → ℕ → List (ℕ × ℕ) → List (ℕ × ℕ) → List (ℕ × FieldValue) → List (ℕ × FieldValue) → Type 0
+abbrev pub TakesSlots : Table → List Field → List Field → ℕ → ℕ → List (ℕ × ℕ) → List (ℕ × ℕ) → List (ℕ × FieldValue)
+    → List (ℕ × FieldValue) → Type 0
 TakesSlots T fs slots depth place before after found more =
-    (H : ℕ) (others : Expected) (P : Placed) (rest : List (ℕ × ℕ)) → AreSound T H (slots_from slots depth place ++ others) P
+    (H : ℕ) (others : Expected) (P : Placed) (rest : List (ℕ × ℕ))
+    → AreSound T H (slots_from slots depth place ++ others) P
     → before ≡ loads P ++ rest → SlotsTaken T H fs slots others P rest after found more

@@ -43,9 +43,11 @@ impl<R: Files + Drop> FileSink<R> {
 
         ensures count { OnTook result (λ n. (0 < n) × (n ≤ length piece.now)) }
         ensures appended { OnTook result (λ n. Appends (contents_of R.File.contents self.old.file) (contents_of R.File.contents self.new.file) (take n piece.now)) }
-        ensures kept { result ≡ Put.Failed → Keeps (contents_of R.File.contents self.old.file) (contents_of R.File.contents self.new.file) }
+        ensures kept { result ≡ Put.Failed
+            → Keeps (contents_of R.File.contents self.old.file) (contents_of R.File.contents self.new.file) }
         ensures made { OnTook result (λ _. IsSome self.new.file) }
-        ensures first { IsNone self.old.file → OnTook result (λ n. HoldsFirst R.File.contents self.new.file (take n piece.now)) }
+        ensures first { IsNone self.old.file
+            → OnTook result (λ n. HoldsFirst R.File.contents self.new.file (take n piece.now)) }
         ensures faults { self.new.faults ≡ self.old.faults }
     {
         if let Some(file) = &mut self.file {
@@ -73,10 +75,12 @@ impl<R: Files + Drop> Sink for FileSink<R> {
         // What was written.
         ensures count { OnTook result (λ n. (0 < n) × (n ≤ length piece.now)) }
         ensures appended { OnTook result (λ n. Appends (contents_of R.File.contents self.old.file) (contents_of R.File.contents self.new.file) (take n piece.now)) }
-        ensures kept { result ≡ Put.Failed → Keeps (contents_of R.File.contents self.old.file) (contents_of R.File.contents self.new.file) }
+        ensures kept { result ≡ Put.Failed
+            → Keeps (contents_of R.File.contents self.old.file) (contents_of R.File.contents self.new.file) }
         ensures made { OnTook result (λ _. IsSome self.new.file) }
         // The file that was made at the first write holds what was taken of it, too.
-        ensures first { IsNone self.old.file → OnTook result (λ n. HoldsFirst R.File.contents self.new.file (take n piece.now)) }
+        ensures first { IsNone self.old.file
+            → OnTook result (λ n. HoldsFirst R.File.contents self.new.file (take n piece.now)) }
 
         // What is counted.
         ensures faults { result ≡ Put.Failed → self.new.faults ≡ raised self.old.faults }

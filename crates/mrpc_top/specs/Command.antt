@@ -93,8 +93,11 @@ Decodes left out out' = (text : List ℕ) × IsInput left text × DecodesText te
 -- A text was decoded up to its first fault, whose line was written: a fault of the table's text, or of the frames,
 -- behind the lines of those in front of it.
 pub data CutsText (text : List ℕ) (out out' : Option (List ℕ)) : Type 0 where
-  in_text : (line : ℕ) (word : List ℕ) → IsTextFault text line word → Appends out out' (fault_line line word) → CutsText text out out'
-  in_stream : (table : Table) (stream lines : List ℕ) (place : ℕ) (word : List ℕ) → Holds text table stream → IsCutAt table 0 stream lines place word → Appends out out' (lines ++ fault_line place word) → CutsText text out out'
+  in_text : (line : ℕ) (word : List ℕ) → IsTextFault text line word → Appends out out' (fault_line line word)
+      → CutsText text out out'
+  in_stream : (table : Table) (stream lines : List ℕ) (place : ℕ) (word : List ℕ) → Holds text table stream
+      → IsCutAt table 0 stream lines place word → Appends out out' (lines ++ fault_line place word)
+      → CutsText text out out'
 
 -- an input has a fault: it is too long, or its text has a first fault; the fault's line was written
 abbrev pub IsCutShort : Option (List ℕ) → Option (List ℕ) → Option (List ℕ) → Option (List ℕ) → Type 0
@@ -106,4 +109,5 @@ IsCutShort left left' out out' =
 pub data HasDecodeFault (text : List ℕ) : Type 0 where
   too_long : input_limit < length text → HasDecodeFault text
   fault_in_text : (line : ℕ) (word : List ℕ) → IsTextFault text line word → HasDecodeFault text
-  fault_in_stream : (table : Table) (stream lines : List ℕ) (place : ℕ) (word : List ℕ) → Holds text table stream → IsCutAt table 0 stream lines place word → HasDecodeFault text
+  fault_in_stream : (table : Table) (stream lines : List ℕ) (place : ℕ) (word : List ℕ) → Holds text table stream
+      → IsCutAt table 0 stream lines place word → HasDecodeFault text

@@ -48,7 +48,8 @@ pub data IsTextFault (text : List ℕ) (line : ℕ) (word : List ℕ) : Type 0 w
       (rest : List ℕ) → text ≡ first_line ++ rest → ((more : List ℕ) → rest ≢ second_line ++ more)
       → line ≡ 2 → word ≡ codes "Word"
       → IsTextFault text line word
-  in_table : (table : List ℕ) → IsTableBehind head text table → IsFaultOfTable table line word → IsTextFault text line word
+  in_table : (table : List ℕ) → IsTableBehind head text table → IsFaultOfTable table line word
+      → IsTextFault text line word
   no_end :
       (T : Table) → IsValid T → IsEndless head text (table_text T)
       → line ≡ count_by (λ byte. byte == 10) text + 1 → word ≡ codes "Word"

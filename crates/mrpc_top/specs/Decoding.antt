@@ -37,18 +37,23 @@ call_line f bytes = line (codes "frame" ∷ decimal f.kind ∷ decimal f.method 
 -- the line of a frame
 pub data IsLineOf (T : Table) (f : Frame) (text : List ℕ) : Type 0 where
   line_of_hello : f.kind ≡ hello → text ≡ hello_line f → IsLineOf T f text
-  line_of_call : (t : Node) → f.kind ≢ hello → f.method < length T.methods → Means T (message_in T f) f.payload t → text ≡ call_line f (encoding T (message_in T f) t) → IsLineOf T f text
+  line_of_call : (t : Node) → f.kind ≢ hello → f.method < length T.methods → Means T (message_in T f) f.payload t
+      → text ≡ call_line f (encoding T (message_in T f) t) → IsLineOf T f text
 
 -- the text is the lines of the frames, in order
 abbrev pub AreLinesOf : Table → List Frame → List ℕ → Type 0
 AreLinesOf T [] text = text ≡ []
-AreLinesOf T (f ∷ fs) text = (first : List ℕ) × (rest : List ℕ) × IsLineOf T f first × AreLinesOf T fs rest × (text ≡ first ++ rest)
+AreLinesOf T (f ∷ fs) text = (first : List ℕ) × (rest : List ℕ) × IsLineOf T f first × AreLinesOf T fs rest
+    × (text ≡ first ++ rest)
 
 -- The fault of a frame, as it is printed: its place in the stream and a word. A method that the table lacks is at
 -- fault at the method's first byte, and counts before the payload.
 pub data IsFaultIn (T : Table) (f : Frame) (place : ℕ) (word : List ℕ) : Type 0 where
-  no_method : f.kind ≢ hello → length T.methods ≤ f.method → place ≡ f.place + 6 → word ≡ codes "NoMethod" → IsFaultIn T f place word
-  in_payload : (reason : DecodeReason) (at : ℕ) → f.kind ≢ hello → f.method < length T.methods → IsFirstFault T (message_in T f) f.payload reason at → place ≡ f.place + 16 + at → word ≡ reason_word reason → IsFaultIn T f place word
+  no_method : f.kind ≢ hello → length T.methods ≤ f.method → place ≡ f.place + 6 → word ≡ codes "NoMethod"
+      → IsFaultIn T f place word
+  in_payload : (reason : DecodeReason) (at : ℕ) → f.kind ≢ hello → f.method < length T.methods
+      → IsFirstFault T (message_in T f) f.payload reason at → place ≡ f.place + 16 + at → word ≡ reason_word reason
+      → IsFaultIn T f place word
 
 -- the fault of a header, as it is printed
 abbrev pub IsFaultOfHeader : FeedFault → ℕ → List ℕ → Type 0
@@ -73,6 +78,11 @@ pub record IsDecoded (T : Table) (stream text : List ℕ) : Type 0 where
 -- The stream, whose first byte has the place `start`, has this first fault, and the text is the lines of the frames in
 -- front of it: a frame is at fault, or the header behind the whole frames, or the stream ends inside a frame.
 pub data IsCutAt (T : Table) (start : ℕ) (stream text : List ℕ) (place : ℕ) (word : List ℕ) : Type 0 where
-  in_frame : (before : List Frame) (f : Frame) → StandInFront start stream (before ++ f ∷ []) → AreLinesOf T before text → IsFaultIn T f place word → IsCutAt T start stream text place word
-  in_header : (frames : List Frame) (rest : List ℕ) (fault : FeedFault) → Splits start stream frames rest → AreLinesOf T frames text → IsFaultAt (start + length (joined frames)) rest fault → IsFaultOfHeader fault place word → IsCutAt T start stream text place word
-  in_short_frame : (frames : List Frame) (rest : List ℕ) → Splits start stream frames rest → AreLinesOf T frames text → HasFault (start + length (joined frames)) rest None → rest ≢ [] → place ≡ start + length (joined frames) → word ≡ codes "Short" → IsCutAt T start stream text place word
+  in_frame : (before : List Frame) (f : Frame) → StandInFront start stream (before ++ f ∷ [])
+      → AreLinesOf T before text → IsFaultIn T f place word → IsCutAt T start stream text place word
+  in_header : (frames : List Frame) (rest : List ℕ) (fault : FeedFault) → Splits start stream frames rest
+      → AreLinesOf T frames text → IsFaultAt (start + length (joined frames)) rest fault
+      → IsFaultOfHeader fault place word → IsCutAt T start stream text place word
+  in_short_frame : (frames : List Frame) (rest : List ℕ) → Splits start stream frames rest → AreLinesOf T frames text
+      → HasFault (start + length (joined frames)) rest None → rest ≢ [] → place ≡ start + length (joined frames)
+      → word ≡ codes "Short" → IsCutAt T start stream text place word

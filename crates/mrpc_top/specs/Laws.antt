@@ -18,8 +18,10 @@ use Rattle.frame_transport.specs.declared.fault.FeedFault.{FeedFault}
 pub record TextLaw : Type 0 where
   pub one_behind : (head text table rest other more : List ℕ) → HasTableBehind head text table rest
       → HasTableBehind head text other more → (other ≡ table) × (more ≡ rest)
-  pub one_first : (text : List ℕ) (m n : ℕ) (r q : TableReason) → IsTextFault text m r → IsTextFault text n q → (m ≡ n) × (r ≡ q)
-  pub none_first : (t : Table) (line : ℕ) (reason : TableReason) → IsValid t → IsTextFault (table_text t) line reason → ⊥
+  pub one_first : (text : List ℕ) (m n : ℕ) (r q : TableReason) → IsTextFault text m r → IsTextFault text n q
+      → (m ≡ n) × (r ≡ q)
+  pub none_first : (t : Table) (line : ℕ) (reason : TableReason) → IsValid t → IsTextFault (table_text t) line reason
+      → ⊥
   pub one_each : HaveOneTextEach
 
 -- a stream splits in one way, and ends in one
@@ -27,20 +29,26 @@ pub record FrameLaw : Type 0 where
   pub splits_once : SplitsOnce
   pub fault_stays : FaultStays
   pub ends_once : EndsOnce
-  pub one_frame : (f g : Frame) (more others : List ℕ) → IsFrame f → IsFrame g → bytes_of f ++ more ≡ bytes_of g ++ others
+  pub one_frame : (f g : Frame) (more others : List ℕ) → IsFrame f → IsFrame g
+      → bytes_of f ++ more ≡ bytes_of g ++ others
       → f.place ≡ g.place → (f ≡ g) × (more ≡ others)
   pub size_of_one : (f : Frame) → length (bytes_of f) ≡ 16 + length f.payload
   pub nothing : IsPartial []
   pub short : (place : ℕ) (bytes : List ℕ) → length bytes < 4 → (fault : FeedFault) → IsFaultAt place bytes fault → ⊥
   pub places : (place : ℕ) (frames others : List Frame) → StandFrom place frames
       → StandFrom (place + length (joined frames)) others → StandFrom place (frames ++ others)
-  pub size_of_all : (frames others : List Frame) → length (joined (frames ++ others)) ≡ length (joined frames) + length (joined others)
-  pub splits : (place : ℕ) (frames others : List Frame) (stream rest : List ℕ) → All IsFrame frames → StandFrom place frames
-      → Splits (place + length (joined frames)) stream others rest → Splits place (joined frames ++ stream) (frames ++ others) rest
+  pub size_of_all : (frames others : List Frame)
+      → length (joined (frames ++ others)) ≡ length (joined frames) + length (joined others)
+  pub splits : (place : ℕ) (frames others : List Frame) (stream rest : List ℕ) → All IsFrame frames
+      → StandFrom place frames → Splits (place + length (joined frames)) stream others rest
+      → Splits place (joined frames ++ stream) (frames ++ others) rest
 
 -- bytes mean one message at most, have one first fault at most, and never both
 pub record MeaningLaw : Type 0 where
-  pub one_meaning : (T : Table) (msg : ℕ) (bytes : List ℕ) (t u : Node) → Means T msg bytes t → Means T msg bytes u → t ≡ u
-  pub one_fault : (T : Table) (msg : ℕ) (bytes : List ℕ) (reason other : DecodeReason) (place at : ℕ) → IsFirstFault T msg bytes reason place → IsFirstFault T msg bytes other at → (reason ≡ other) × (place ≡ at)
-  pub not_both : (T : Table) (msg : ℕ) (bytes : List ℕ) (t : Node) (reason : DecodeReason) (place : ℕ) → Means T msg bytes t → IsFirstFault T msg bytes reason place → ⊥
+  pub one_meaning : (T : Table) (msg : ℕ) (bytes : List ℕ) (t u : Node) → Means T msg bytes t → Means T msg bytes u
+      → t ≡ u
+  pub one_fault : (T : Table) (msg : ℕ) (bytes : List ℕ) (reason other : DecodeReason) (place at : ℕ)
+      → IsFirstFault T msg bytes reason place → IsFirstFault T msg bytes other at → (reason ≡ other) × (place ≡ at)
+  pub not_both : (T : Table) (msg : ℕ) (bytes : List ℕ) (t : Node) (reason : DecodeReason) (place : ℕ)
+      → Means T msg bytes t → IsFirstFault T msg bytes reason place → ⊥
   pub frames : FrameLaw

@@ -74,18 +74,24 @@ pub fn run_command<S: Source, K: Sink, W: Sink>(
 
     // At the end of a replay: the input is a script's text; a history follows it, legal and spelled by
     // its loads; its audit, the calls that stand and its frames were written, and nothing failed.
-    ensures done { result ≡ DONE → IsReplay words.now.items → Runs (S.left input.old) (K.written out.old) (K.written out.new) (W.written wire.old) (W.written wire.new) }
+    ensures done { result ≡ DONE → IsReplay words.now.items
+        → Runs (S.left input.old) (K.written out.old) (K.written out.new) (W.written wire.old) (W.written wire.new) }
     // At the end of a decoding: the input is a table's text and whole frames; their lines were written.
-    ensures decoded { result ≡ DONE → IsDecode words.now.items → Decodes (S.left input.old) (K.written out.old) (K.written out.new) }
+    ensures decoded { result ≡ DONE → IsDecode words.now.items
+        → Decodes (S.left input.old) (K.written out.old) (K.written out.new) }
 
     // A faulty input: its first fault was written, and nothing else but the lines of frames in front of it.
-    ensures faulty { result ≡ FAULTY_INPUT → IsReplay words.now.items → IsRefused (S.left input.old) (S.left input.new) (K.written out.old) (K.written out.new) }
-    ensures cut_short { result ≡ FAULTY_INPUT → IsDecode words.now.items → IsCutShort (S.left input.old) (S.left input.new) (K.written out.old) (K.written out.new) }
+    ensures faulty { result ≡ FAULTY_INPUT → IsReplay words.now.items
+        → IsRefused (S.left input.old) (S.left input.new) (K.written out.old) (K.written out.new) }
+    ensures cut_short { result ≡ FAULTY_INPUT → IsDecode words.now.items
+        → IsCutShort (S.left input.old) (S.left input.new) (K.written out.old) (K.written out.new) }
     ensures faulty_unsent { result ≡ FAULTY_INPUT → wire.new ≡ wire.old }
 
     // No work is done on an input that has a fault.
-    ensures refused { (text : List ℕ) → S.left input.old ≡ Some text → IsReplay words.now.items → HasFault text → (result ≢ DONE) × (result ≢ WIRE_FAILED) }
-    ensures undecoded { (text : List ℕ) → S.left input.old ≡ Some text → IsDecode words.now.items → HasDecodeFault text → result ≢ DONE }
+    ensures refused { (text : List ℕ) → S.left input.old ≡ Some text → IsReplay words.now.items → HasFault text
+        → (result ≢ DONE) × (result ≢ WIRE_FAILED) }
+    ensures undecoded { (text : List ℕ) → S.left input.old ≡ Some text → IsDecode words.now.items → HasDecodeFault text
+        → result ≢ DONE }
 
     // A decoding sends nothing.
     ensures decode_unsent { IsDecode words.now.items → wire.new ≡ wire.old }
@@ -107,13 +113,19 @@ pub fn run_command<S: Source, K: Sink, W: Sink>(
 /// A text has one decoding. It is of one table and one stream, or its text has one first fault; and the
 /// stream is frames to its end, with their lines, or has one first fault, with the lines in front of it.
 pub fn one_decoding()
-    ensures parts { (text stream other : List ℕ) (T U : Table) → Holds text T stream → Holds text U other → (T ≡ U) × (stream ≡ other) }
-    ensures text_fault { (text word spelled : List ℕ) (line at : ℕ) → IsTextFault text line word → IsTextFault text at spelled → (line ≡ at) × (word ≡ spelled) }
-    ensures no_text_fault { (text stream word : List ℕ) (T : Table) (line : ℕ) → Holds text T stream → IsTextFault text line word → ⊥ }
-    ensures lines { (T : Table) (stream told other : List ℕ) → IsDecoded T stream told → IsDecoded T stream other → told ≡ other }
-    ensures cut { (T : Table) (stream told other word spelled : List ℕ) (place at : ℕ) → IsCutAt T 0 stream told place word
+    ensures parts { (text stream other : List ℕ) (T U : Table) → Holds text T stream → Holds text U other
+        → (T ≡ U) × (stream ≡ other) }
+    ensures text_fault { (text word spelled : List ℕ) (line at : ℕ) → IsTextFault text line word
+        → IsTextFault text at spelled → (line ≡ at) × (word ≡ spelled) }
+    ensures no_text_fault { (text stream word : List ℕ) (T : Table) (line : ℕ) → Holds text T stream
+        → IsTextFault text line word → ⊥ }
+    ensures lines { (T : Table) (stream told other : List ℕ) → IsDecoded T stream told → IsDecoded T stream other
+        → told ≡ other }
+    ensures cut { (T : Table) (stream told other word spelled : List ℕ) (place at : ℕ)
+        → IsCutAt T 0 stream told place word
         → IsCutAt T 0 stream other at spelled → (place ≡ at) × (word ≡ spelled) × (told ≡ other) }
-    ensures no_cut { (T : Table) (stream told other word : List ℕ) (place : ℕ) → IsDecoded T stream told → IsCutAt T 0 stream other place word → ⊥ }
+    ensures no_cut { (T : Table) (stream told other word : List ℕ) (place : ℕ) → IsDecoded T stream told
+        → IsCutAt T 0 stream other place word → ⊥ }
 {
     text_law();
     meaning_law();
@@ -136,13 +148,19 @@ fn run<S: Source, K: Sink, W: Sink>(
 ) -> u8
     ensures statuses { result ≤ WIRE_FAILED }
     ensures some { result ≢ NO_COMMAND }
-    ensures done { result ≡ DONE → command ≡ Command.Replay → Runs (S.left input.old) (K.written out.old) (K.written out.new) (W.written wire.old) (W.written wire.new) }
-    ensures decoded { result ≡ DONE → command ≡ Command.Decode → Decodes (S.left input.old) (K.written out.old) (K.written out.new) }
-    ensures faulty { result ≡ FAULTY_INPUT → command ≡ Command.Replay → IsRefused (S.left input.old) (S.left input.new) (K.written out.old) (K.written out.new) }
-    ensures cut_short { result ≡ FAULTY_INPUT → command ≡ Command.Decode → IsCutShort (S.left input.old) (S.left input.new) (K.written out.old) (K.written out.new) }
+    ensures done { result ≡ DONE → command ≡ Command.Replay
+        → Runs (S.left input.old) (K.written out.old) (K.written out.new) (W.written wire.old) (W.written wire.new) }
+    ensures decoded { result ≡ DONE → command ≡ Command.Decode
+        → Decodes (S.left input.old) (K.written out.old) (K.written out.new) }
+    ensures faulty { result ≡ FAULTY_INPUT → command ≡ Command.Replay
+        → IsRefused (S.left input.old) (S.left input.new) (K.written out.old) (K.written out.new) }
+    ensures cut_short { result ≡ FAULTY_INPUT → command ≡ Command.Decode
+        → IsCutShort (S.left input.old) (S.left input.new) (K.written out.old) (K.written out.new) }
     ensures faulty_unsent { result ≡ FAULTY_INPUT → wire.new ≡ wire.old }
-    ensures refused { (text : List ℕ) → S.left input.old ≡ Some text → command ≡ Command.Replay → HasFault text → (result ≢ DONE) × (result ≢ WIRE_FAILED) }
-    ensures undecoded { (text : List ℕ) → S.left input.old ≡ Some text → command ≡ Command.Decode → HasDecodeFault text → result ≢ DONE }
+    ensures refused { (text : List ℕ) → S.left input.old ≡ Some text → command ≡ Command.Replay → HasFault text
+        → (result ≢ DONE) × (result ≢ WIRE_FAILED) }
+    ensures undecoded { (text : List ℕ) → S.left input.old ≡ Some text → command ≡ Command.Decode → HasDecodeFault text
+        → result ≢ DONE }
     ensures decode_unsent { command ≡ Command.Decode → wire.new ≡ wire.old }
     ensures input_cause { HasCause (result ≡ INPUT_FAILED) (S.faults input.old) (S.faults input.new) }
     ensures out_cause { HasCause (result ≡ OUTPUT_FAILED) (K.faults out.old) (K.faults out.new) }
@@ -192,7 +210,9 @@ fn command_named(word: &str) -> Option<Command>
 fn replay_text<K: Sink, W: Sink>(alloc: Global, text: &[u8], out: &mut K, wire: &mut W) -> u8
     ensures statuses { result ≤ WIRE_FAILED }
     ensures some { (result ≢ NO_COMMAND) × (result ≢ INPUT_FAILED) }
-    ensures done { result ≡ DONE → (s : Script) × Spells text.now s × Replays s (K.written out.old) (K.written out.new) (W.written wire.old) (W.written wire.new) }
+    ensures done { result ≡ DONE
+        → (s : Script) × Spells text.now s
+        × Replays s (K.written out.old) (K.written out.new) (W.written wire.old) (W.written wire.new) }
     ensures faulty { result ≡ FAULTY_INPUT → Refuses text.now (K.written out.old) (K.written out.new) }
     ensures faulty_unsent { result ≡ FAULTY_INPUT → wire.new ≡ wire.old }
     ensures out_cause { HasCause (result ≡ OUTPUT_FAILED) (K.faults out.old) (K.faults out.new) }
@@ -237,7 +257,8 @@ fn decode_text<K: Sink>(alloc: Global, text: &[u8], out: &mut K) -> u8
 // Writes the line of a fault.
 fn refuse<K: Sink>(alloc: Global, place: u64, word: &[u8], out: &mut K) -> u8
     ensures statuses { (result ≡ FAULTY_INPUT) ⊎ ((result ≡ NO_MEMORY) ⊎ (result ≡ OUTPUT_FAILED)) }
-    ensures written { result ≡ FAULTY_INPUT → Appends (K.written out.old) (K.written out.new) (fault_line place word.now) }
+    ensures written { result ≡ FAULTY_INPUT
+        → Appends (K.written out.old) (K.written out.new) (fault_line place word.now) }
     ensures cause { HasCause (result ≡ OUTPUT_FAILED) (K.faults out.old) (K.faults out.new) }
 {
     match fault_text(alloc, place, word) {

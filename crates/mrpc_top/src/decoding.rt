@@ -57,8 +57,10 @@ pub(crate) fn decode_stream<K: Sink>(
 ) -> Result<(), Cut>
     requires valid { IsValid table.now }
     requires countable { length stream.now < 2 ^ 63 }
-    ensures done { OnOk result ((text : List ℕ) × IsDecoded table.now stream.now text × Appends (K.written out.old) (K.written out.new) text) }
-    ensures cut { IfErr result (OnFault (λ place word. (text : List ℕ) × IsCutAt table.now 0 stream.now text place word × Appends (K.written out.old) (K.written out.new) text)) }
+    ensures done { OnOk result ((text : List ℕ) × IsDecoded table.now stream.now text
+        × Appends (K.written out.old) (K.written out.new) text) }
+    ensures cut { IfErr result (OnFault (λ place word. (text : List ℕ) × IsCutAt table.now 0 stream.now text place word
+        × Appends (K.written out.old) (K.written out.new) text)) }
     ensures out_cause { HasCause (result ≡ Err Cut.Out) (K.faults out.old) (K.faults out.new) }
 {
     frame_law();
@@ -85,7 +87,8 @@ pub(crate) fn decode_stream<K: Sink>(
 fn end_of(feed: &Feed) -> Result<(), Cut>
     requires none_behind { feed.now.behind ≡ 0 }
     ensures done { OnOk result (feed.now.bytes ≡ []) }
-    ensures cut { IfErr result (OnFault (λ place word. (feed.now.bytes ≢ []) × (place ≡ feed.now.place) × (word ≡ codes "Short"))) }
+    ensures cut { IfErr result (OnFault (λ place word. (feed.now.bytes ≢ []) × (place ≡ feed.now.place)
+        × (word ≡ codes "Short"))) }
     ensures not_out { result ≢ Err Cut.Out }
 {
     let rest = feed.rest();
@@ -110,8 +113,11 @@ fn tell_piece(
     requires valid { IsValid table.now }
     requires countable { total feed.old + length piece.now < 2 ^ 63 }
     requires none_behind { feed.old.behind ≡ 0 }
-    ensures told { OnOk result ((text : List ℕ) × (lines.new ≡ lines.old ++ text) × Tells table.now feed.old.place (feed.old.bytes ++ piece.now) text feed.new) }
-    ensures cut { IfErr result (OnFault (λ place word. (text : List ℕ) × (lines.new ≡ lines.old ++ text) × ((more : List ℕ) → IsCutAt table.now feed.old.place (feed.old.bytes ++ (piece.now ++ more)) text place word))) }
+    ensures told { OnOk result ((text : List ℕ) × (lines.new ≡ lines.old ++ text)
+        × Tells table.now feed.old.place (feed.old.bytes ++ piece.now) text feed.new) }
+    ensures cut { IfErr result (OnFault (λ place word. (text : List ℕ) × (lines.new ≡ lines.old ++ text)
+        × ((more : List ℕ)
+        → IsCutAt table.now feed.old.place (feed.old.bytes ++ (piece.now ++ more)) text place word))) }
     ensures not_out { result ≢ Err Cut.Out }
 {
     frame_law();
@@ -149,8 +155,10 @@ fn cut_by(fault: FeedFault) -> Cut
 fn tell_waiting(alloc: Global, table: &Table, feed: &mut Feed, lines: &mut Bytes) -> Result<(), Cut>
     requires valid { IsValid table.now }
     requires countable { total feed.old < 2 ^ 63 }
-    ensures gave { OnOk result ((text : List ℕ) × (lines.new ≡ lines.old ++ text) × Gave table.now feed.old text feed.new) }
-    ensures cut { IfErr result (OnFault (λ place word. (text : List ℕ) × (lines.new ≡ lines.old ++ text) × StopsIn table.now feed.old text place word)) }
+    ensures gave { OnOk result ((text : List ℕ) × (lines.new ≡ lines.old ++ text)
+        × Gave table.now feed.old text feed.new) }
+    ensures cut { IfErr result (OnFault (λ place word. (text : List ℕ) × (lines.new ≡ lines.old ++ text)
+        × StopsIn table.now feed.old text place word)) }
     ensures not_out { result ≢ Err Cut.Out }
 {
     frame_law();
@@ -166,7 +174,8 @@ fn tell(alloc: Global, table: &Table, frame: &Frame, lines: &mut Bytes) -> Resul
     requires frame { IsFrame frame.now }
     requires near { frame.now.place < 2 ^ 63 }
     ensures told { OnOk result ((text : List ℕ) × IsLineOf table.now frame.now text × (lines.new ≡ lines.old ++ text)) }
-    ensures cut { IfErr result (OnFault (λ place word. IsFaultIn table.now frame.now place word × (lines.new ≡ lines.old))) }
+    ensures cut { IfErr result (OnFault (λ place word. IsFaultIn table.now frame.now place word
+        × (lines.new ≡ lines.old))) }
     ensures not_out { result ≢ Err Cut.Out }
 {
     if frame.kind == HELLO {
@@ -190,7 +199,8 @@ fn tell_call(alloc: Global, table: &Table, frame: &Frame, lines: &mut Bytes) -> 
     requires call { frame.now.kind ≢ hello }
     requires known { frame.now.method < length table.now.methods }
     ensures told { OnOk result ((text : List ℕ) × IsLineOf table.now frame.now text × (lines.new ≡ lines.old ++ text)) }
-    ensures cut { IfErr result (OnFault (λ place word. IsFaultIn table.now frame.now place word × (lines.new ≡ lines.old))) }
+    ensures cut { IfErr result (OnFault (λ place word. IsFaultIn table.now frame.now place word
+        × (lines.new ≡ lines.old))) }
     ensures not_out { result ≢ Err Cut.Out }
 {
     let number = if frame.kind == REQUEST { 0 } else { 1 };

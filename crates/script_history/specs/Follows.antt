@@ -38,11 +38,14 @@ read_at stores races number place = word_after (stores ++ stores_of (races_up_to
 -- what was taken of a call of a method by these loads: a copy, or why its graph is refused
 pub data IsTaken (T : Table) (H limit method number addr : ℕ) (own : List (ℕ × ℕ)) (copy : TookCopy) : Type 0 where
   -- the table has no such method, and nothing is loaded
-  no_method : length T.methods ≤ method → own ≡ [] → copy ≡ Malformed NoMethod 0 method → IsTaken T H limit method number addr own copy
-  is_copied : (tree : Node) → method < length T.methods → ComesTo T H (message_at T method number) addr limit own (copied tree) → copy ≡ Copy tree
+  no_method : length T.methods ≤ method → own ≡ [] → copy ≡ Malformed NoMethod 0 method
+      → IsTaken T H limit method number addr own copy
+  is_copied : (tree : Node) → method < length T.methods
+      → ComesTo T H (message_at T method number) addr limit own (copied tree) → copy ≡ Copy tree
       → IsTaken T H limit method number addr own copy
   is_malformed : (reason : Reason) (place value : ℕ) → method < length T.methods
-      → ComesTo T H (message_at T method number) addr limit own (malformed reason place value) → copy ≡ Malformed reason place value
+      → ComesTo T H (message_at T method number) addr limit own (malformed reason place value)
+      → copy ≡ Malformed reason place value
       → IsTaken T H limit method number addr own copy
 
 -- the call that a submission makes: the next of its connection
@@ -94,7 +97,8 @@ pub data Step (s : Script) (old : State) (l : Line) (piece : History) (own : Lis
       → Step s old l piece own new
 
 -- a line's step, whose piece comes behind the history
-pub record Moves (s : Script) (old : State) (l : Line) (piece : History) (own : List (ℕ × ℕ)) (new : State) : Type 0 where
+pub record Moves (s : Script) (old : State) (l : Line) (piece : History) (own : List (ℕ × ℕ))
+    (new : State) : Type 0 where
   pub step : Step s old l piece own new
   pub history : new.history ≡ old.history ++ piece
 
