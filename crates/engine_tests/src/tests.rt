@@ -1,6 +1,6 @@
 //! Engines, at calls of a table that was read.
 
-ghost use Rattle.std.specs.Prelude.{◌<◌, ℕ, IfOk};
+ghost use Rattle.std.specs.Prelude.{◌≡◌, ◌<◌, ℕ, IfOk};
 ghost use Rattle.mrpc_table.specs.Valid.{IsValid};
 ghost use Rattle.policy_access.specs.Call.{IsCallOf};
 ghost use Rattle.engine_core.specs.Policies.{IsPolicy, KnowsTenantOf};
@@ -10,7 +10,7 @@ use mrpc_base::PlainTickets;
 use mrpc_table::{Bytes, FieldValue, Memory, Table, Tree, Value, fits};
 use policy_access::{Access, Call, Lines, RuleFault, read_access};
 use policy_rate::Rate;
-use policy_redact::read_redact;
+use policy_redact::{Redact, read_redact};
 use std::alloc::Global;
 use std::process::Abort;
 use std::slice;
@@ -34,19 +34,42 @@ fn request(alloc: Global, seq: u32) -> Result<Standing, Memory> {
     }))
 }
 
-// The engine of the first attachment.
-fn engine_of(
-    alloc: Global,
-    name: &[u8],
-    policy: Policy,
-    tickets: &PlainTickets,
-) -> Result<Engine, Memory>
+// The engine of a first attachment, with the table of its calls and its tickets.
+#[derive(Drop)]
+struct Scene {
+    table: Table,
+    tickets: PlainTickets,
+    engine: Engine,
+}
+
+// An engine on a table, with one tenant.
+fn on_table(alloc: Global, table: Table, name: &[u8], policy: Policy) -> Result<Scene, Memory>
+    requires valid { IsValid table }
     requires ranges { IsPolicy policy }
-    requires known { KnowsTenantOf (λ t. t < tickets.now.tenants) policy }
-    ensures known { IfOk result (λ e. KnowsTenantOf (λ t. t < tickets.now.tenants) e.entry.policy) }
+    requires known { KnowsTenantOf (λ t. t < 1) policy }
+    ensures valid { IfOk result (λ scene. IsValid scene.table) }
+    ensures known { IfOk result (λ scene. KnowsTenantOf (λ t. t < scene.tickets.tenants) scene.engine.entry.policy) }
+    ensures tenants { IfOk result (λ scene. scene.tickets.tenants ≡ 1) }
 {
+    let tickets = PlainTickets::new(alloc, 1)?;
     let name = Bytes::from_slice(alloc, name)?;
-    Ok(Engine::new(name, 1, policy, 0))
+    Ok(Scene {
+        table,
+        tickets,
+        engine: Engine::new(name, 1, policy, 0),
+    })
+}
+
+// The same on the small table.
+fn on_small_table(alloc: Global, name: &[u8], policy: Policy) -> Result<Scene, Fail>
+    requires ranges { IsPolicy policy }
+    requires known { KnowsTenantOf (λ t. t < 1) policy }
+    ensures valid { IfOk result (λ scene. IsValid scene.table) }
+    ensures known { IfOk result (λ scene. KnowsTenantOf (λ t. t < scene.tickets.tenants) scene.engine.entry.policy) }
+    ensures tenants { IfOk result (λ scene. scene.tickets.tenants ≡ 1) }
+{
+    let table = read_table(alloc, SMALL)?;
+    Ok(on_table(alloc, table, name, policy)?)
 }
 
 // The call is one of the table.
@@ -60,33 +83,35 @@ fn assert_is_of(rt: &impl Abort, call: &Standing, table: &Table)
     assert!(rt; fits(&call.tree, table, message));
 }
 
-// One turn of an engine, with its marks alone.
-fn worked(
-    rt: &impl Abort,
-    engine: &mut Engine,
-    call: &mut Standing,
-    table: &Table,
-    tickets: &mut PlainTickets,
-) -> Outcome
-    requires table { IsValid table.now }
-    requires known { KnowsTenantOf (λ t. t < tickets.old.tenants) engine.old.entry.policy }
-    ensures known { KnowsTenantOf (λ t. t < tickets.new.tenants) engine.new.entry.policy }
-    ensures tenants { (t : ℕ) → t < tickets.old.tenants → t < tickets.new.tenants }
-{
-    call.keep_marks_of(slice::from_ref(engine));
-    assert_is_of(rt, call, table);
-    engine.work(call, table, 0, tickets)
-}
+impl Scene {
+    // One turn, with the engine's marks alone.
+    fn work(&mut self, rt: &impl Abort, call: &mut Standing) -> Outcome
+        requires valid { IsValid self.old.table }
+        requires known { KnowsTenantOf (λ t. t < self.old.tickets.tenants) self.old.engine.entry.policy }
+        ensures valid { IsValid self.new.table }
+        ensures known { KnowsTenantOf (λ t. t < self.new.tickets.tenants) self.new.engine.entry.policy }
+        ensures tenants { (t : ℕ) → t < self.old.tickets.tenants → t < self.new.tickets.tenants }
+    {
+        call.keep_marks_of(slice::from_ref(&self.engine));
+        assert_is_of(rt, call, &self.table);
+        self.engine.work(call, &self.table, 0, &mut self.tickets)
+    }
 
-// The engine with another policy of its kind.
-fn restored(rt: &impl Abort, engine: Engine, policy: Policy, tickets: &PlainTickets) -> Engine
-    requires ranges { IsPolicy policy }
-    requires known { KnowsTenantOf (λ t. t < tickets.now.tenants) policy }
-    ensures known { KnowsTenantOf (λ t. t < tickets.now.tenants) result.entry.policy }
-{
-    assert!(rt; engine.policy().is_same_kind(&policy));
-    assert_eq!(rt; engine.version(), 1);
-    Engine::restore(policy, engine.decompose())
+    // The engine with another policy of its kind.
+    fn restore(self, rt: &impl Abort, policy: Policy) -> Scene
+        requires ranges { IsPolicy policy }
+        requires known { KnowsTenantOf (λ t. t < self.tickets.tenants) policy }
+        ensures valid { IsValid self.table → IsValid result.table }
+        ensures known { KnowsTenantOf (λ t. t < result.tickets.tenants) result.engine.entry.policy }
+    {
+        assert!(rt; self.engine.policy().is_same_kind(&policy));
+        assert_eq!(rt; self.engine.version(), 1);
+        Scene {
+            table: self.table,
+            tickets: self.tickets,
+            engine: Engine::restore(policy, self.engine.decompose()),
+        }
+    }
 }
 
 const NOTHING: Outcome = Outcome::Passed(Noted::Nothing);
@@ -108,46 +133,35 @@ fn charged(level: u64) -> Outcome {
 #[test]
 fn a_rate_engine_charges_each_call_once(rt: HostRuntime) -> Result<(), Fail> {
     let alloc = rt.alloc();
-    let table = read_table(alloc, SMALL)?;
-    let mut tickets = PlainTickets::new(alloc, 0)?;
-    let mut engine = engine_of(alloc, b"rl", Policy::Rate(HOLDING), &tickets)?;
     let mut first = request(alloc, 1)?;
-    let outcome = worked(&rt, &mut engine, &mut first, &table, &mut tickets);
-    assert_eq!(rt; outcome, charged(1000));
     let mut second = request(alloc, 2)?;
-    let outcome = worked(&rt, &mut engine, &mut second, &table, &mut tickets);
-    assert_eq!(rt; outcome, charged(0));
     let mut third = request(alloc, 3)?;
-    let outcome = worked(&rt, &mut engine, &mut third, &table, &mut tickets);
-    assert_eq!(rt;
-        outcome,
-        Outcome::Held {
-            level: 0,
-            cost: 1000
-        }
-    );
-    let again = worked(&rt, &mut engine, &mut first, &table, &mut tickets);
-    assert_eq!(rt; again, NOTHING);
+    let mut scene = on_small_table(alloc, b"rl", Policy::Rate(HOLDING))?;
+    assert_eq!(rt; scene.work(&rt, &mut first), charged(1000));
+    assert_eq!(rt; scene.work(&rt, &mut second), charged(0));
+    let held = Outcome::Held {
+        level: 0,
+        cost: 1000,
+    };
+    assert_eq!(rt; scene.work(&rt, &mut third), held);
+    assert_eq!(rt; scene.work(&rt, &mut first), NOTHING);
     Ok(())
 }
 
 #[test]
 fn time_lets_a_held_call_pass(rt: HostRuntime) -> Result<(), Fail> {
     let alloc = rt.alloc();
-    let table = read_table(alloc, SMALL)?;
-    let mut tickets = PlainTickets::new(alloc, 0)?;
-    let mut engine = engine_of(alloc, b"rl", Policy::Rate(HOLDING), &tickets)?;
     let mut first = request(alloc, 1)?;
-    worked(&rt, &mut engine, &mut first, &table, &mut tickets);
     let mut second = request(alloc, 2)?;
-    assert!(rt; engine.held(&second).is_none());
-    worked(&rt, &mut engine, &mut second, &table, &mut tickets);
     let mut third = request(alloc, 3)?;
-    assert_eq!(rt; engine.held(&third), Some((0, 1000)));
-    engine.clock(1000);
-    assert!(rt; engine.held(&third).is_none());
-    let outcome = worked(&rt, &mut engine, &mut third, &table, &mut tickets);
-    assert_eq!(rt; outcome, charged(0));
+    let mut scene = on_small_table(alloc, b"rl", Policy::Rate(HOLDING))?;
+    scene.work(&rt, &mut first);
+    assert!(rt; scene.engine.held(&second).is_none());
+    scene.work(&rt, &mut second);
+    assert_eq!(rt; scene.engine.held(&third), Some((0, 1000)));
+    scene.engine.clock(1000);
+    assert!(rt; scene.engine.held(&third).is_none());
+    assert_eq!(rt; scene.work(&rt, &mut third), charged(0));
     Ok(())
 }
 
@@ -169,32 +183,26 @@ const ONE: Policy = Policy::Quota {
 #[test]
 fn a_quota_of_cap_0_draws_and_refuses(rt: HostRuntime) -> Result<(), Fail> {
     let alloc = rt.alloc();
-    let table = read_table(alloc, SMALL)?;
-    let mut tickets = PlainTickets::new(alloc, 1)?;
-    let mut engine = engine_of(alloc, b"q", NONE, &tickets)?;
     let mut call = request(alloc, 1)?;
-    let outcome = worked(&rt, &mut engine, &mut call, &table, &mut tickets);
+    let mut scene = on_small_table(alloc, b"q", NONE)?;
     let drawn = Noted::Drawn {
         window: 0,
         ticket: 0,
     };
     let over = Why::Over { ticket: 0, cap: 0 };
-    assert_eq!(rt; outcome, Outcome::Refused(drawn, over));
+    assert_eq!(rt; scene.work(&rt, &mut call), Outcome::Refused(drawn, over));
     Ok(())
 }
 
 #[test]
 fn a_ticket_is_compared_with_the_present_cap(rt: HostRuntime) -> Result<(), Fail> {
     let alloc = rt.alloc();
-    let table = read_table(alloc, SMALL)?;
-    let mut tickets = PlainTickets::new(alloc, 1)?;
-    let mut engine = engine_of(alloc, b"q", NONE, &tickets)?;
     let mut call = request(alloc, 1)?;
-    let over = worked(&rt, &mut engine, &mut call, &table, &mut tickets);
+    let mut scene = on_small_table(alloc, b"q", NONE)?;
+    let over = scene.work(&rt, &mut call);
     assert!(rt; matches!(over, Outcome::Refused(_, Why::Over { .. })));
-    let mut engine = restored(&rt, engine, ONE, &tickets);
-    let within = worked(&rt, &mut engine, &mut call, &table, &mut tickets);
-    assert_eq!(rt; within, NOTHING);
+    let mut scene = scene.restore(&rt, ONE);
+    assert_eq!(rt; scene.work(&rt, &mut call), NOTHING);
     Ok(())
 }
 
@@ -203,32 +211,32 @@ fn a_ticket_is_compared_with_the_present_cap(rt: HostRuntime) -> Result<(), Fail
 #[test]
 fn a_count_counts_each_call_once(rt: HostRuntime) -> Result<(), Fail> {
     let alloc = rt.alloc();
-    let table = read_table(alloc, SMALL)?;
-    let mut tickets = PlainTickets::new(alloc, 0)?;
-    let mut engine = engine_of(alloc, b"c", Policy::Count, &tickets)?;
     let mut call = request(alloc, 1)?;
-    let first = worked(&rt, &mut engine, &mut call, &table, &mut tickets);
-    assert_eq!(rt; first, Outcome::Passed(Noted::Counted));
-    let again = worked(&rt, &mut engine, &mut call, &table, &mut tickets);
-    assert_eq!(rt; again, NOTHING);
+    let mut scene = on_small_table(alloc, b"c", Policy::Count)?;
+    assert_eq!(rt; scene.work(&rt, &mut call), Outcome::Passed(Noted::Counted));
+    assert_eq!(rt; scene.work(&rt, &mut call), NOTHING);
     Ok(())
+}
+
+// A policy that clears field 1 of requests.
+fn cut(alloc: Global, table: &Table) -> Result<Redact, RuleFault>
+    requires { IsValid table.now }
+{
+    let mut lines = Lines::new(alloc);
+    lines.push(Bytes::from_slice(alloc, b"clear method 0 1")?)?;
+    read_redact(alloc, &lines, table)
 }
 
 #[test]
 fn a_redacting_engine_clears_a_call_once(rt: HostRuntime) -> Result<(), Fail> {
     let alloc = rt.alloc();
-    let table = read_table(alloc, SMALL)?;
-    let mut tickets = PlainTickets::new(alloc, 0)?;
-    let mut lines = Lines::new(alloc);
-    lines.push(Bytes::from_slice(alloc, b"clear method 0 1")?)?;
-    let policy = Policy::Redact(read_redact(alloc, &lines, &table)?);
-    let mut engine = engine_of(alloc, b"cut", policy, &tickets)?;
     let mut call = request(alloc, 1)?;
-    let first = worked(&rt, &mut engine, &mut call, &table, &mut tickets);
-    assert_eq!(rt; first, Outcome::Redacted);
+    let table = read_table(alloc, SMALL)?;
+    let policy = Policy::Redact(cut(alloc, &table)?);
+    let mut scene = on_table(alloc, table, b"cut", policy)?;
+    assert_eq!(rt; scene.work(&rt, &mut call), Outcome::Redacted);
     assert!(rt; call.call().tree.fields.is_empty());
-    let again = worked(&rt, &mut engine, &mut call, &table, &mut tickets);
-    assert_eq!(rt; again, NOTHING);
+    assert_eq!(rt; scene.work(&rt, &mut call), NOTHING);
     Ok(())
 }
 
@@ -246,18 +254,18 @@ fn no150(alloc: Global, table: &Table) -> Result<Access, RuleFault>
 #[test]
 fn an_access_engine_is_restored(rt: HostRuntime) -> Result<(), Fail> {
     let alloc = rt.alloc();
-    let table = read_table(alloc, SMALL)?;
-    let mut tickets = PlainTickets::new(alloc, 0)?;
-    let policy = Policy::Access(no150(alloc, &table)?);
-    assert!(rt; policy.copied(alloc)?.is_same_kind(&policy));
-    let engine = engine_of(alloc, b"acl", policy, &tickets)?;
-    let policy = Policy::Access(no150(alloc, &table)?);
-    let mut engine = restored(&rt, engine, policy, &tickets);
-    assert_eq!(rt; engine.version(), 2);
-    assert_eq!(rt; engine.name().as_slice(), b"acl".as_slice());
     let mut call = request(alloc, 1)?;
-    let outcome = worked(&rt, &mut engine, &mut call, &table, &mut tickets);
+    let table = read_table(alloc, SMALL)?;
+    let policy = Policy::Access(no150(alloc, &table)?);
+    let again = policy.copied(alloc)?;
+    let scene = on_table(alloc, table, b"acl", policy)?;
+    let mut scene = scene.restore(&rt, again);
+    assert_eq!(rt; scene.engine.version(), 2);
+    assert_eq!(rt; scene.engine.name().as_slice(), b"acl".as_slice());
     let denied = Why::Denied { rule: 0 };
-    assert_eq!(rt; outcome, Outcome::Refused(Noted::Nothing, denied));
+    assert_eq!(rt;
+        scene.work(&rt, &mut call),
+        Outcome::Refused(Noted::Nothing, denied)
+    );
     Ok(())
 }
