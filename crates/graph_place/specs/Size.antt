@@ -1,0 +1,53 @@
+-- How many words a message takes in a heap: those of its node, and those of the content that stands behind.
+use Rattle.std.specs.Prelude.{ℕ, ◌+◌, ◌-◌, ◌^◌, min, List, length}
+use Rattle.mrpc_table.specs.Node.{Node, no_fields, field, Content, one, many, pairs, Item, number, run, node, Items, no_items, item, Pairs, no_pairs, pair}
+use Rattle.mrpc_table.specs.Normal.{fields_of}
+use Rattle.mrpc_table.specs.declared.table.Kind.{Kind}
+use Rattle.mrpc_table.specs.declared.table.Kind.TheVariants.{Message as OfMessage}
+use Rattle.mrpc_table.specs.declared.table.Field.{Field}
+use Rattle.mrpc_table.specs.declared.table.Table.{Table}
+use Rattle.graph_form.specs.Roles.{size_words, run_words, element_words, member_kind}
+
+-- the message that a kind names
+abbrev pub message_of : Kind → ℕ
+message_of (OfMessage m) = m
+message_of _ = 0
+
+-- the words of a key's content: a key is a number or a run
+abbrev pub key_words : Item → ℕ
+key_words (run bytes) = run_words (length bytes)
+key_words _ = 0
+
+abbrev mutual
+  -- the content of all fields of a message
+  pub fields_words : Table → List Field → Node → ℕ
+  fields_words T fs no_fields = 0
+  fields_words T fs (field n c t) = content_words T (member_kind fs n) c + fields_words T fs t
+
+  -- what a field has beside its slot: each element has a word, or two where it is a run, and each entry of a map has four
+  pub content_words : Table → Kind → Content → ℕ
+  content_words T k (one i) = item_words T k i
+  content_words T k (many is) = many_words T k is
+  content_words T k (pairs ps) = pairs_words T k ps
+
+  -- what a value has beside its slot: a run its bytes, eight in a word, and a message its node with all content
+  pub item_words : Table → Kind → Item → ℕ
+  item_words T k (number n) = 0
+  item_words T k (run bytes) = run_words (length bytes)
+  item_words T k (node t) = size_words T (message_of k) + fields_words T (fields_of T (message_of k)) t
+
+  pub many_words : Table → Kind → Items → ℕ
+  many_words T k no_items = 0
+  many_words T k (item i is) = element_words k + item_words T k i + many_words T k is
+
+  pub pairs_words : Table → Kind → Pairs → ℕ
+  pairs_words T k no_pairs = 0
+  pairs_words T k (pair i j ps) = 4 + key_words i + item_words T k j + pairs_words T k ps
+
+-- the words of a tree of the message at a place of the table
+abbrev pub tree_words : Table → ℕ → Node → ℕ
+tree_words T msg t = size_words T msg + fields_words T (fields_of T msg) t
+
+-- a number of words, or the largest number of 64 bits where it is larger
+abbrev pub capped : ℕ → ℕ
+capped n = min n (2 ^ 64 - 1)

@@ -1,0 +1,32 @@
+//! Laws of placed messages. These functions do nothing; their clauses hold.
+
+ghost use Rattle.std.specs.Prelude.{◌≡◌, ◌≤◌, ◌++◌, ℕ, List, All, length};
+ghost use Rattle.mrpc_base.specs.Heap.{word_after};
+ghost use Rattle.mrpc_table.specs.Node.{Node};
+ghost use Rattle.mrpc_table.specs.declared.table.Table.{Table};
+ghost use Rattle.graph_form.specs.Placed.{Placed, loads, IsSound};
+ghost use Rattle.graph_form.specs.Forgotten.{tree_of};
+ghost use Rattle.graph_form.specs.Malformed.{Outcome, copied, ComesTo, ReadsBy};
+ghost use Rattle.graph_place.specs.Stored.{StandApart};
+
+use graph_form::reading_determines_outcome;
+
+/// Words that were stored last, no two at one place, are what their places have.
+pub fn stored_words_stand()
+    ensures { (stores words : List (ℕ × ℕ)) → StandApart words
+        → All (λ word. word_after (stores ++ words) word.0 ≡ word.1) words }
+{}
+
+/// A reader that finds the words of a placed message at their places copies its tree: loads that are made at an
+/// address, each giving what its place has, and that come to something within a limit of at least as many loads, are
+/// exactly those of the placed message, and they come to its tree.
+pub fn placed_message_is_copied()
+    ensures { (T : Table) (H msg address limit : ℕ) (P : Placed) (t : Node) (reading : ℕ → ℕ) (own : List (ℕ × ℕ))
+        (outcome : Outcome)
+        → IsSound T H msg address P → tree_of T msg P ≡ t → All (λ word. reading word.0 ≡ word.1) (loads P)
+        → length (loads P) ≤ limit
+        → ReadsBy (λ k place. reading place) 1 own → ComesTo T H msg address limit own outcome
+        → (own ≡ loads P) × (outcome ≡ copied t) }
+{
+    reading_determines_outcome();
+}
