@@ -54,4 +54,5 @@ pub data May (T : Table) (limit : ℕ) (before : History) (x : Happening) (behin
 
 -- no chain stands yet, so every entry of it allows each call
 pub record IsLegal (T : Table) (limit : ℕ) (h : History) : Type 0 where
-  pub each : (before : History) (x : Happening) (behind : History) → h ≡ before ++ x ∷ behind → May T limit before x behind
+  pub each : (before : History) (x : Happening) (behind : History) → h ≡ before ++ x ∷ behind
+      → May T limit before x behind

@@ -32,7 +32,8 @@ pub record IsSpelledBy (T : Table) (H limit : ℕ) (c : Call) (own : List (ℕ �
 abbrev pub AreSpelled : Table → (ℕ → ℕ) → ℕ → List Call → List (ℕ × ℕ) → Type 0
 AreSpelled T words limit [] L = L ≡ []
 AreSpelled T words limit (c ∷ cs) L =
-    (own : List (ℕ × ℕ)) × (others : List (ℕ × ℕ)) × (L ≡ own ++ others) × IsSpelledBy T (words c.conn) limit c own × AreSpelled T words limit cs others
+    (own : List (ℕ × ℕ)) × (others : List (ℕ × ℕ)) × (L ≡ own ++ others) × IsSpelledBy T (words c.conn) limit c own
+    × AreSpelled T words limit cs others
 
 abbrev pub IsSpelled : Table → (ℕ → ℕ) → ℕ → History → List (ℕ × ℕ) → Type 0
 IsSpelled T words limit h L = AreSpelled T words limit (calls h) L

@@ -94,7 +94,8 @@ module _ {T : Type 0} (fits : HeapId → T → Type 0) (most : ℕ) where
 
   -- one pass at most sends, and one takes; the sender knows all that was sent, the receiver all that was taken, and any
   -- other a front of either; who knows of the closing knows all that was sent
-  pub record Knows (sender receiver : ℕ) (heap : HeapId) (sent : List T) (closed : Bool) (taken : List T) (ended : Bool) (pass : ℕ) (v : View T) : Type 0 where
+  pub record Knows (sender receiver : ℕ) (heap : HeapId) (sent : List T) (closed : Bool) (taken : List T)
+      (ended : Bool) (pass : ℕ) (v : View T) : Type 0 where
     pub sends : v.sends ≡ true → (pass ≡ sender) × (v.heap ≡ heap) × (v.sent ≡ sent) × (v.closed ≡ closed)
     pub takes : v.takes ≡ true → (pass ≡ receiver) × (v.heap ≡ heap) × (v.taken ≡ taken) × (v.ended ≡ ended)
     pub some_sent : IsPrefix v.sent sent

@@ -55,10 +55,12 @@ version_in bytes = slice_index bytes 5
 -- A frame that begins with these bytes at this place is at fault: its length is too long, or else its kind is none, or
 -- else its kind hasn't its version. Each field counts as soon as it is there.
 pub data IsFaultAt (place : ℕ) (bytes : List ℕ) (fault : FeedFault) : Type 0 where
-  long : 4 ≤ length bytes → 262144 < length_in bytes → fault ≡ TooLong place (length_in bytes) → IsFaultAt place bytes fault
+  long : 4 ≤ length bytes → 262144 < length_in bytes → fault ≡ TooLong place (length_in bytes)
+      → IsFaultAt place bytes fault
   no_kind : 5 ≤ length bytes → length_in bytes ≤ 262144 → (IsKind (kind_in bytes) → ⊥)
       → fault ≡ Kind (place + 4) (kind_in bytes) → IsFaultAt place bytes fault
-  no_version : 6 ≤ length bytes → length_in bytes ≤ 262144 → IsKind (kind_in bytes) → (HasVersion (kind_in bytes) (version_in bytes) → ⊥)
+  no_version : 6 ≤ length bytes → length_in bytes ≤ 262144 → IsKind (kind_in bytes)
+      → (HasVersion (kind_in bytes) (version_in bytes) → ⊥)
       → fault ≡ Version (place + 5) (version_in bytes) → IsFaultAt place bytes fault
 
 -- the fault, or none so far
@@ -94,12 +96,15 @@ SplitsOnce = (place : ℕ) (stream : List ℕ) (frames others : List Frame) (res
 abbrev pub FaultStays : Type 0
 FaultStays = (place : ℕ) (stream more : List ℕ) (frames : List Frame) (rest : List ℕ) (fault : FeedFault)
     → Splits place stream frames rest → IsFaultAt (place + length (joined frames)) rest fault
-    → Splits place (stream ++ more) frames (rest ++ more) × IsFaultAt (place + length (joined frames)) (rest ++ more) fault
+    → Splits place (stream ++ more) frames (rest ++ more)
+    × IsFaultAt (place + length (joined frames)) (rest ++ more) fault
 
 -- so a stream of bytes has a first fault, or none so far
 abbrev pub AlwaysEnds : Type 0
-AlwaysEnds = (place : ℕ) (stream : List ℕ) → All (λ byte. byte < 256) stream → (fault : Option FeedFault) × Ends place stream fault
+AlwaysEnds = (place : ℕ) (stream : List ℕ) → All (λ byte. byte < 256) stream
+    → (fault : Option FeedFault) × Ends place stream fault
 
 -- and no other
 abbrev pub EndsOnce : Type 0
-EndsOnce = (place : ℕ) (stream : List ℕ) (fault other : Option FeedFault) → Ends place stream fault → Ends place stream other → fault ≡ other
+EndsOnce = (place : ℕ) (stream : List ℕ) (fault other : Option FeedFault) → Ends place stream fault
+    → Ends place stream other → fault ≡ other

@@ -60,7 +60,8 @@ begun_behind [] begun left = begun ++ left
 begun_behind (f ∷ fs) begun left = left
 
 -- the two parts split into these frames and what is left of the piece
-pub record SplitsParts (place : ℕ) (begun piece : List ℕ) (frames : List Frame) (end : ℕ) (left : List ℕ) (fault : Option FeedFault) : Type 0 where
+pub record SplitsParts (place : ℕ) (begun piece : List ℕ) (frames : List Frame) (end : ℕ) (left : List ℕ)
+    (fault : Option FeedFault) : Type 0 where
   pub splits : Splits place (begun ++ piece) frames (begun_behind frames begun left)
   pub behind : end ≡ place + length (joined frames)
   pub first : HasFault end (begun_behind frames begun left) fault
@@ -68,7 +69,8 @@ pub record SplitsParts (place : ℕ) (begun piece : List ℕ) (frames : List Fra
 
 -- The frames that a piece ends came behind those that were kept, and what follows them is kept up
 -- to a fault or further.
-pub record Advances (end : ℕ) (begun piece : List ℕ) (old new : List Frame) (now_begun : List ℕ) (a : Advance) : Type 0 where
+pub record Advances (end : ℕ) (begun piece : List ℕ) (old new : List Frame) (now_begun : List ℕ)
+    (a : Advance) : Type 0 where
   pub frames : List Frame
   pub added : new ≡ old ++ frames
   pub dropped : List ℕ

@@ -55,8 +55,10 @@ impl<W: Sink> Link for ByteLink<'_, W> {
 
     fn send(&mut self, frame: &[u8]) -> Handed
         // The frame is out whole, or a write failed and a front of it is out, and not all of it.
-        ensures done { result ≡ Handed.Done → Appends (W.written (sink_of self.old)) (W.written (sink_of self.new)) frame.now }
-        ensures front { result ≡ Handed.Failed → AppendsFront (W.written (sink_of self.old)) (W.written (sink_of self.new)) frame.now }
+        ensures done { result ≡ Handed.Done
+            → Appends (W.written (sink_of self.old)) (W.written (sink_of self.new)) frame.now }
+        ensures front { result ≡ Handed.Failed
+            → AppendsFront (W.written (sink_of self.old)) (W.written (sink_of self.new)) frame.now }
         ensures memory { result ≢ Handed.Memory }
         // An empty frame takes no write.
         ensures empty { length frame.now ≡ 0 → (result ≡ Handed.Done) × (sink_of self.new ≡ sink_of self.old) }

@@ -19,18 +19,23 @@ pub fn one_split()
 /// The bytes of a frame in front of others determine it. It has a header of 16 bytes, and nothing is at fault before a
 /// length is there.
 pub fn one_frame()
-    ensures once { (f g : Frame) (more others : List ℕ) → IsFrame f → IsFrame g → bytes_of f ++ more ≡ bytes_of g ++ others
+    ensures once { (f g : Frame) (more others : List ℕ) → IsFrame f → IsFrame g
+        → bytes_of f ++ more ≡ bytes_of g ++ others
         → f.place ≡ g.place → (f ≡ g) × (more ≡ others) }
     ensures size { (f : Frame) → length (bytes_of f) ≡ 16 + length f.payload }
     ensures nothing { IsPartial [] }
-    ensures short { (place : ℕ) (bytes : List ℕ) → length bytes < 4 → (fault : FeedFault) → IsFaultAt place bytes fault → ⊥ }
+    ensures short { (place : ℕ) (bytes : List ℕ) → length bytes < 4 → (fault : FeedFault) → IsFaultAt place bytes fault
+        → ⊥ }
 {}
 
 /// Frames and those behind them are frames one behind another.
 pub fn frames_join()
     ensures places { (place : ℕ) (frames others : List Frame) → StandFrom place frames
         → StandFrom (place + length (joined frames)) others → StandFrom place (frames ++ others) }
-    ensures size { (frames others : List Frame) → length (joined (frames ++ others)) ≡ length (joined frames) + length (joined others) }
-    ensures splits { (place : ℕ) (frames others : List Frame) (stream rest : List ℕ) → All IsFrame frames → StandFrom place frames
-        → Splits (place + length (joined frames)) stream others rest → Splits place (joined frames ++ stream) (frames ++ others) rest }
+    ensures size { (frames others : List Frame)
+        → length (joined (frames ++ others)) ≡ length (joined frames) + length (joined others) }
+    ensures splits { (place : ℕ) (frames others : List Frame) (stream rest : List ℕ) → All IsFrame frames
+        → StandFrom place frames
+        → Splits (place + length (joined frames)) stream others rest
+        → Splits place (joined frames ++ stream) (frames ++ others) rest }
 {}

@@ -34,7 +34,8 @@ TakesBehind T e v before after Made =
 
 -- the same of the slots of fields, where other words are expected behind: their placed tree is left, and the fields come
 -- in front of what it has
-pub record SlotsTaken (T : Table) (H : ℕ) (fs slots : List Field) (others : Expected) (P : Placed) (rest after : List (ℕ × ℕ)) (found more : List (ℕ × FieldValue)) : Type 0 where
+pub record SlotsTaken (T : Table) (H : ℕ) (fs slots : List Field) (others : Expected) (P : Placed)
+    (rest after : List (ℕ × ℕ)) (found more : List (ℕ × FieldValue)) : Type 0 where
   pub left : Placed
   pub sound : AreSound T H others left
   pub after_is : after ≡ loads left ++ rest

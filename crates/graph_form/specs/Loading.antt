@@ -10,4 +10,5 @@ abbrev pub LeadsTo : Table → ℕ → Expected → List (ℕ × ℕ) → Expect
 LeadsTo T H es [] next = es ≡ next
 LeadsTo T H [] (load ∷ loads) next = ⊥
 LeadsTo T H (e ∷ es) (load ∷ loads) next =
-    (load.0 ≡ e.1) × (load.1 < 2 ^ 64) × IsFine T H e.0 load.1 × LeadsTo T H (behind T e.0 load.0 load.1 ++ es) loads next
+    (load.0 ≡ e.1) × (load.1 < 2 ^ 64) × IsFine T H e.0 load.1
+    × LeadsTo T H (behind T e.0 load.0 load.1 ++ es) loads next

@@ -53,7 +53,8 @@ pub record Begins (T : Table) (H msg address : ℕ) (before after : List Loaded)
   pub order : words_of T (node_words T msg 1 address) placed ≡ before ++ after
 
 -- The graph at an address is malformed by these loads, for a reason, at the place and value of the last of them.
-pub data IsMalformed (T : Table) (H msg address limit : ℕ) (loads : List (ℕ × ℕ)) (reason : Reason) (place value : ℕ) : Type 0 where
+pub data IsMalformed (T : Table) (H msg address limit : ℕ) (loads : List (ℕ × ℕ)) (reason : Reason)
+    (place value : ℕ) : Type 0 where
   -- the root doesn't lie in the heap, and nothing was loaded
   no_root :
       (LiesIn H address (size_words T msg) → ⊥)
@@ -97,7 +98,8 @@ ReadsBy reading k [] = Unit {0}
 ReadsBy reading k (load ∷ loads) = (load.1 ≡ reading k load.0) × ReadsBy reading (k + 1) loads
 
 -- A call of a method is malformed: the table has no such method, and nothing was loaded; or its graph is.
-pub data IsMalformedCall (T : Table) (H method number address limit : ℕ) (loads : List (ℕ × ℕ)) (reason : Reason) (place value : ℕ) : Type 0 where
+pub data IsMalformedCall (T : Table) (H method number address limit : ℕ) (loads : List (ℕ × ℕ)) (reason : Reason)
+    (place value : ℕ) : Type 0 where
   no_method :
       length T.methods ≤ method
       → loads ≡ [] → reason ≡ NoMethod → place ≡ 0 → value ≡ method

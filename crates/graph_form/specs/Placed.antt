@@ -47,7 +47,8 @@ Offends T H (count k depth) v Length = H ≤ v * element_words k
 Offends T H (elements_address k elements depth) v Address = LiesIn H v (elements * element_words k) → ⊥
 Offends T H (entry_count key k depth) v Length = H ≤ 4 * v
 Offends T H (entries_address key k entries depth) v Address = LiesIn H v (4 * entries) → ⊥
-Offends T H (case_word fs oneof depth) v Case = (v ≢ 0) × ((f : Field) → field_at fs v ≡ Some f → f.label ≡ Member oneof → ⊥)
+Offends T H (case_word fs oneof depth) v Case = (v ≢ 0)
+    × ((f : Field) → field_at fs v ≡ Some f → f.label ≡ Member oneof → ⊥)
 Offends T H _ v _ = ⊥
 
 abbrev pub IsFine : Table → ℕ → Role → ℕ → Type 0
@@ -60,14 +61,17 @@ IsFaulty T H role v = (reason : Reason) × Offends T H role v reason
 abbrev pub IsPlaced : Table → ℕ → Expected → Placed → Type 0
 IsPlaced T H [] nothing = Unit {0}
 IsPlaced T H (e ∷ es) (first (word place v content) others) =
-    (place ≡ e.1) × (v < 2 ^ 64) × ((IsFine T H e.0 v × IsPlaced T H (behind T e.0 place v) content) ⊎ (IsFaulty T H e.0 v × (content ≡ nothing))) × IsPlaced T H es others
+    (place ≡ e.1) × (v < 2 ^ 64)
+    × ((IsFine T H e.0 v × IsPlaced T H (behind T e.0 place v) content)
+    ⊎ (IsFaulty T H e.0 v × (content ≡ nothing))) × IsPlaced T H es others
 IsPlaced T H _ _ = ⊥
 
 -- the words are those expected, and none offends
 abbrev pub AreSound : Table → ℕ → Expected → Placed → Type 0
 AreSound T H [] nothing = Unit {0}
 AreSound T H (e ∷ es) (first (word place v content) others) =
-    (place ≡ e.1) × (v < 2 ^ 64) × IsFine T H e.0 v × AreSound T H (behind T e.0 place v) content × AreSound T H es others
+    (place ≡ e.1) × (v < 2 ^ 64) × IsFine T H e.0 v × AreSound T H (behind T e.0 place v) content
+    × AreSound T H es others
 AreSound T H _ _ = ⊥
 
 -- a sound placed tree of the message at a place of the table, at an address of a heap of H words

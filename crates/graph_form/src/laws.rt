@@ -22,15 +22,19 @@ pub fn loads_determine_placed_tree()
 
 /// The loads of sound words lead through all that is expected of them.
 pub fn sound_words_are_loaded()
-    ensures { (T : Table) (H : ℕ) (es next : Expected) (P : Placed) → AreSound T H es P → LeadsTo T H (es ++ next) (loads P) next }
+    ensures { (T : Table) (H : ℕ) (es next : Expected) (P : Placed) → AreSound T H es P
+        → LeadsTo T H (es ++ next) (loads P) next }
 {}
 
 /// Loads that lead to a word that offends, or as many as the limit where one more is expected, make a graph malformed.
 pub fn loads_end_malformed()
-    ensures offence { (T : Table) (H msg address limit : ℕ) (xs : List (ℕ × ℕ)) (e : Role × ℕ) (rest : Expected) (v : ℕ) (reason : Reason)
-        → LiesIn H address (size_words T msg) → LeadsTo T H (node_words T msg 1 address) xs (e ∷ rest) → length xs < limit → v < 2 ^ 64
+    ensures offence { (T : Table) (H msg address limit : ℕ) (xs : List (ℕ × ℕ)) (e : Role × ℕ) (rest : Expected)
+        (v : ℕ) (reason : Reason)
+        → LiesIn H address (size_words T msg) → LeadsTo T H (node_words T msg 1 address) xs (e ∷ rest)
+        → length xs < limit → v < 2 ^ 64
         → OffendsFirst T H e.0 v reason → IsMalformed T H msg address limit (xs ++ (e.1, v) ∷ []) reason e.1 v }
-    ensures limit { (T : Table) (H msg address limit : ℕ) (xs : List (ℕ × ℕ)) (x : ℕ × ℕ) (e : Role × ℕ) (rest : Expected)
+    ensures limit { (T : Table) (H msg address limit : ℕ) (xs : List (ℕ × ℕ)) (x : ℕ × ℕ) (e : Role × ℕ)
+        (rest : Expected)
         → LiesIn H address (size_words T msg) → LeadsTo T H (node_words T msg 1 address) (xs ++ x ∷ []) (e ∷ rest)
         → length (xs ++ x ∷ []) ≡ limit → IsMalformed T H msg address limit (xs ++ x ∷ []) Loads x.0 x.1 }
 {}
@@ -46,13 +50,15 @@ pub fn malformed_graphs_keep_the_limit()
 /// What is read of a graph determines which words are loaded of it, and what they come to: its tree, or why it is refused.
 pub fn reading_determines_outcome()
     ensures { (T : Table) (H msg address limit : ℕ) (reading : ℕ → ℕ → ℕ) (xs ys : List (ℕ × ℕ)) (o q : Outcome)
-        → ReadsBy reading 1 xs → ReadsBy reading 1 ys → ComesTo T H msg address limit xs o → ComesTo T H msg address limit ys q
+        → ReadsBy reading 1 xs → ReadsBy reading 1 ys → ComesTo T H msg address limit xs o
+        → ComesTo T H msg address limit ys q
         → (xs ≡ ys) × (o ≡ q) }
 {}
 
 /// The tree of a sound placed tree is in normal form.
 pub fn sound_tree_is_normal()
-    ensures { (T : Table) (H msg address : ℕ) (P : Placed) → IsValid T → IsSound T H msg address P → IsNormal T msg (tree_of T msg P) }
+    ensures { (T : Table) (H msg address : ℕ) (P : Placed) → IsValid T → IsSound T H msg address P
+        → IsNormal T msg (tree_of T msg P) }
 {
     kept_entries_are_normal();
 }

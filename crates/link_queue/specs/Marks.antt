@@ -93,14 +93,16 @@ pub record QueuesUp (most capacity : ℕ) (put : List (Piece Order)) (finished :
   pub counts : 0 < faults → health ≡ HasFailed
 
 -- the same of a closed link
-pub record HasQueuedUp (put : List (Piece Order)) (taken : List (Piece News)) (given : List ℕ) (ended failed : Bool) : Type 0 where
+pub record HasQueuedUp (put : List (Piece Order)) (taken : List (Piece News)) (given : List ℕ)
+    (ended failed : Bool) : Type 0 where
   pub closed_last : is_closed put ≡ true
   pub ends : ended ≡ true → Among End (marks_of taken)
   pub gave : ended ≡ true → given ≡ bytes_of taken
   pub fails : failed ≡ true → Among Failed (marks_of taken)
 
 -- what a writer passed on of what it took: a beginning of the frames, and all of them while the inner link works
-pub record PassesOn (taken : List (Piece Order)) (passed : List (List ℕ)) (closed : Bool) (health : Health) : Type 0 where
+pub record PassesOn (taken : List (Piece Order)) (passed : List (List ℕ)) (closed : Bool)
+    (health : Health) : Type 0 where
   pub unclosed : closed ≡ false → is_open taken ≡ true
   pub closed_last : closed ≡ true → is_closed taken ≡ true
   pub in_order : BeginsWith (frames_of taken) passed
@@ -108,7 +110,8 @@ pub record PassesOn (taken : List (Piece Order)) (passed : List (List ℕ)) (clo
 
 -- what a writer put into the queue back of what came, with what it holds: each byte once and in order, the end only
 -- after the inner link's, and that it failed only where it did
-pub record BringsBack (put : List (Piece News)) (held : Option (Piece News)) (came : List ℕ) (ended : Bool) (health : Health) : Type 0 where
+pub record BringsBack (put : List (Piece News)) (held : Option (Piece News)) (came : List ℕ) (ended : Bool)
+    (health : Health) : Type 0 where
   pub in_order : bytes_of put ++ held_bytes held ≡ came
   pub ends_once : ends_once put ≡ true
   pub ended_first : Among End (marks_of put) → ended ≡ true

@@ -123,7 +123,8 @@ impl<'r, R: Wait> QueueLink<'r, R> {
     // Puts a copy of the frame, and waits while the queue is full.
     #[tactic(auto, using(crate::proofs::Pieces::frames_snoc_bytes, crate::proofs::Pieces::open_snoc_bytes, crate::proofs::Pieces::finished_snoc_bytes))]
     fn put(&mut self, frame: &[u8]) -> Handed
-        ensures done { result ≡ Handed.Done → self.new ≡ record self.old { handed = self.old.handed ++ frame.now ∷ [] } }
+        ensures done { result ≡ Handed.Done
+            → self.new ≡ record self.old { handed = self.old.handed ++ frame.now ∷ [] } }
         ensures other { result ≢ Handed.Done → (result ≡ Handed.Memory) × (self.new ≡ self.old) }
     {
         let Ok(copy) = Bytes::from_slice(self.alloc, frame) else {

@@ -82,7 +82,8 @@ impl<L: Link> WriterEnd<L> {
         // failed or memory was wanting.
         ensures handed { L.handed (link_of self.new) ≡ L.handed (start_of self.new) ++ handed_since self.new }
         ensures in_order { IsPrefix (handed_since self.new) passed.handed }
-        ensures all_handed { (has_failed self.new → ⊥) → (lacked_memory self.new → ⊥) → handed_since self.new ≡ passed.handed }
+        ensures all_handed { (has_failed self.new → ⊥) → (lacked_memory self.new → ⊥)
+            → handed_since self.new ≡ passed.handed }
 
         // What came is a beginning of what the inner link gave since, and all of it after the end, which the inner
         // link answered first.

@@ -22,9 +22,13 @@ entry_cmp k e f = slice_cmp nat_cmp (code k e) (code k f)
 
 -- no key is below an earlier one
 abbrev pub AreSorted : Kind → List (Value × Value) → Type 0
-AreSorted k es = (i j : ℕ) (d : Value × Value) → i ≤ j → j < length es → is_lt (entry_cmp k (slice_index_or es j d) (slice_index_or es i d)) ≡ false
+AreSorted k es = (i j : ℕ) (d : Value × Value) → i ≤ j → j < length es
+    → is_lt (entry_cmp k (slice_index_or es j d) (slice_index_or es i d)) ≡ false
 
 -- an entry stands in place of the last one with the same key, or behind the last one with another key
-pub data IsEntryAdded (k : Kind) (old : List (Value × Value)) (e : Value × Value) (new : List (Value × Value)) : Type 0 where
-  replaced : (front : List (Value × Value)) (l : Value × Value) → old ≡ front ++ l ∷ [] → entry_cmp k l e ≡ Equal → new ≡ front ++ e ∷ [] → IsEntryAdded k old e new
-  appended : ((front : List (Value × Value)) (l : Value × Value) → old ≡ front ++ l ∷ [] → entry_cmp k l e ≢ Equal) → new ≡ old ++ e ∷ [] → IsEntryAdded k old e new
+pub data IsEntryAdded (k : Kind) (old : List (Value × Value)) (e : Value × Value)
+    (new : List (Value × Value)) : Type 0 where
+  replaced : (front : List (Value × Value)) (l : Value × Value) → old ≡ front ++ l ∷ [] → entry_cmp k l e ≡ Equal
+      → new ≡ front ++ e ∷ [] → IsEntryAdded k old e new
+  appended : ((front : List (Value × Value)) (l : Value × Value) → old ≡ front ++ l ∷ [] → entry_cmp k l e ≢ Equal)
+      → new ≡ old ++ e ∷ [] → IsEntryAdded k old e new

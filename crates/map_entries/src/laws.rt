@@ -11,12 +11,14 @@ ghost use Rattle.map_entries.specs.Last.{last_of_each};
 
 /// What is kept of some entries is in normal form where each key and each value is.
 pub fn kept_entries_are_normal()
-    ensures kinds { (T : Table) (key k : Kind) (es : List (Item × Item)) → AllByRecursion (λ e. IsItem T key e.0 × IsItem T k e.1) es
+    ensures kinds { (T : Table) (key k : Kind) (es : List (Item × Item))
+        → AllByRecursion (λ e. IsItem T key e.0 × IsItem T k e.1) es
         → ArePairs T key k (last_of_each key es) }
     // The keys ascend, where they are no messages.
     ensures ascend { (T : Table) (key k : Kind) (es : List (Item × Item)) → ((i : ℕ) → key ≢ Message i)
         → AllByRecursion (λ e. IsItem T key e.0 × IsItem T k e.1) es → KeysAscend key (last_of_each key es) }
-    ensures depth { (key : Kind) (room : ℕ) (es : List (Item × Item)) → AllByRecursion (λ e. (item_depth e.0 ≤ room) × (item_depth e.1 ≤ room)) es
+    ensures depth { (key : Kind) (room : ℕ) (es : List (Item × Item))
+        → AllByRecursion (λ e. (item_depth e.0 ≤ room) × (item_depth e.1 ≤ room)) es
         → pairs_depth (last_of_each key es) ≤ room }
     ensures some { (key : Kind) (e : Item × Item) (es : List (Item × Item)) → last_of_each key (e ∷ es) ≢ no_pairs }
 {}

@@ -112,7 +112,8 @@ impl<'r, R: Wait> PairLink<'r, R> {
     // Puts a copy of the frame, and waits while as many pieces wait as may.
     fn put(&mut self, frame: &[u8]) -> Handed
         requires { self.old.finished ≡ false }
-        ensures done { result ≡ Handed.Done → self.new ≡ record self.old { handed = self.old.handed ++ frame.now ∷ [] } }
+        ensures done { result ≡ Handed.Done
+            → self.new ≡ record self.old { handed = self.old.handed ++ frame.now ∷ [] } }
         ensures other { result ≢ Handed.Done → (result ≡ Handed.Memory) × (self.new ≡ self.old) }
     {
         let Ok(copy) = Bytes::from_slice(self.alloc, frame) else {
@@ -165,7 +166,8 @@ impl<'r, R: Wait> Link for PairLink<'r, R> {
     ghost faults = { λ l. l.faults };
 
     // It has the same two queues, and the same calls are to fail.
-    ghost since = { λ old new. (new.outward ≡ old.outward) × (new.inward ≡ old.inward) × (new.failing_sends ≡ old.failing_sends) × (new.failing_receives ≡ old.failing_receives) };
+    ghost since = { λ old new. (new.outward ≡ old.outward) × (new.inward ≡ old.inward)
+        × (new.failing_sends ≡ old.failing_sends) × (new.failing_receives ≡ old.failing_receives) };
 
     fn send(&mut self, frame: &[u8]) -> Handed
         // A send fails exactly where its number is listed, or the sending side was ended.

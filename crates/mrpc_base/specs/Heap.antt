@@ -76,4 +76,5 @@ pub record AfterLoad (old : Heap) (place value : ℕ) (new : Heap) : Type 0 wher
 -- these loads were made one after the other, each with the change that a load makes
 abbrev pub AfterLoads : {W : Type 0} → (W → ℕ → ℕ → W → Type 0) → W → List (ℕ × ℕ) → W → Type 0
 AfterLoads {W} after_load old [] new = new ≡ old
-AfterLoads {W} after_load old (load ∷ loads) new = (next : W) × after_load old load.0 load.1 next × AfterLoads after_load next loads new
+AfterLoads {W} after_load old (load ∷ loads) new = (next : W) × after_load old load.0 load.1 next
+    × AfterLoads after_load next loads new

@@ -31,10 +31,12 @@ IsFirstRace old new store = (race : Race) × (old ≡ race ∷ new) × (store �
 
 -- the same of a race of a load up to a number
 abbrev pub IsFirstDue : ℕ → List Race → List Race → ℕ × ℕ → Type 0
-IsFirstDue number old new store = (race : Race) × (old ≡ race ∷ new) × (store ≡ (race.place, race.value)) × (race.load ≤ number)
+IsFirstDue number old new store = (race : Race) × (old ≡ race ∷ new) × (store ≡ (race.place, race.value))
+    × (race.load ≤ number)
 
 -- there is room for each load and each store that was promised it, the stores of waiting races among them
-pub record KeepsRoom (stored : Stored) (waiting : Waiting) (loads finished capacity load_room store_room : ℕ) : Type 0 where
+pub record KeepsRoom (stored : Stored) (waiting : Waiting)
+    (loads finished capacity load_room store_room : ℕ) : Type 0 where
   pub begun : finished ≤ loads
   pub for_loads : loads + load_room ≤ capacity
   pub for_stores : length waiting.races + store_room ≤ stored.room

@@ -122,7 +122,8 @@ impl MemLink {
 
     // Keeps a copy of a frame.
     fn keep(&mut self, frame: &[u8]) -> Handed
-        ensures done { result ≡ Handed.Done → self.new ≡ record self.old { handed = self.old.handed ++ frame.now ∷ [] } }
+        ensures done { result ≡ Handed.Done
+            → self.new ≡ record self.old { handed = self.old.handed ++ frame.now ∷ [] } }
         ensures other { result ≢ Handed.Done → (result ≡ Handed.Memory) × (self.new ≡ self.old) }
     {
         let Ok(copy) = frame.to_vec(self.alloc) else {
@@ -151,7 +152,8 @@ impl Link for MemLink {
     ghost faults = { λ l. l.faults };
 
     // What it was made with stays.
-    ghost since = { λ old new. (new.lengths ≡ old.lengths) × (new.failing_sends ≡ old.failing_sends) × (new.failing_receives ≡ old.failing_receives) };
+    ghost since = { λ old new. (new.lengths ≡ old.lengths) × (new.failing_sends ≡ old.failing_sends)
+        × (new.failing_receives ≡ old.failing_receives) };
 
     fn send(&mut self, frame: &[u8]) -> Handed
         // A send fails exactly where its number is listed, or the sending side was ended.
@@ -180,7 +182,8 @@ impl Link for MemLink {
         // left, and where something is, nothing is ready exactly at a listed length of 0.
         ensures fails { (result ≡ Came.Failed) ↔ Contains self.old.failing_receives self.new.receives }
         ensures end { (result ≡ Came.End) ↔ (self.old.left ≡ []) × (result ≢ Came.Failed) }
-        ensures idle { (result ≡ Came.Idle) ↔ (slice_get self.old.lengths self.old.receives ≡ Some 0) × (self.old.left ≢ []) × (result ≢ Came.Failed) }
+        ensures idle { (result ≡ Came.Idle) ↔ (slice_get self.old.lengths self.old.receives ≡ Some 0)
+            × (self.old.left ≢ []) × (result ≢ Came.Failed) }
         ensures memory { result ≢ Came.Memory }
         ensures exact { OnCame result (λ n. n ≡ given_count (slice_get self.old.lengths self.old.receives) (length buf.old) (length self.old.left)) }
 

@@ -44,7 +44,8 @@ impl PlainTickets {
         requires window { window < WINDOWS }
         ensures before { result ≡ drawn_in self.old tenant window }
         ensures counted { drawn_in self.new tenant window ≡ raised (drawn_in self.old tenant window) }
-        ensures others { (t w : ℕ) → t < self.old.tenants → w < WINDOWS → (t ≢ tenant) ⊎ (w ≢ window) → drawn_in self.new t w ≡ drawn_in self.old t w }
+        ensures others { (t w : ℕ) → t < self.old.tenants → w < WINDOWS → (t ≢ tenant) ⊎ (w ≢ window)
+            → drawn_in self.new t w ≡ drawn_in self.old t w }
         ensures tenants { self.new.tenants ≡ self.old.tenants }
     {
         let place = tenant as usize * WINDOWS as usize + window as usize;
@@ -71,7 +72,8 @@ impl Tickets for PlainTickets {
         ensures ticket { result ≡ drawn_in self.old tenant window }
         ensures counted { drawn_in self.new tenant window ≡ raised (drawn_in self.old tenant window) }
         ensures drawn { IfSome (tickets_of (drawn_in self.new tenant window)) (λ tickets. IsSomeAnd (tickets_of (drawn_in self.old tenant window)) (λ before. tickets ≡ before ++ result ∷ [])) }
-        ensures others { (t w : ℕ) → t < self.old.tenants → w < WINDOWS → (t ≢ tenant) ⊎ (w ≢ window) → drawn_in self.new t w ≡ drawn_in self.old t w }
+        ensures others { (t w : ℕ) → t < self.old.tenants → w < WINDOWS → (t ≢ tenant) ⊎ (w ≢ window)
+            → drawn_in self.new t w ≡ drawn_in self.old t w }
         ensures tenants { self.new.tenants ≡ self.old.tenants }
     {
         self.count(tenant, window)

@@ -154,7 +154,8 @@ impl PlainWords {
         requires not_first { 1 ≤ place }
         requires in_heap { place < self.old.size }
 
-        ensures made { result ≡ Room.Made → self.new.races ≡ races_with self.old.races (record { load = load; place = place; value = value }) }
+        ensures made { result ≡ Room.Made
+            → self.new.races ≡ races_with self.old.races (record { load = load; place = place; value = value }) }
         ensures memory { result ≡ Room.Memory → self.new ≡ self.old }
 
         ensures size { self.new.size ≡ self.old.size }

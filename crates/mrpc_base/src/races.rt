@@ -52,7 +52,8 @@ impl Races {
     // Lists a race behind those of its load and of earlier loads.
     pub(crate) fn list(&mut self, load: u64, place: u64, value: u64) -> Room
         requires { self.old.listed < 2 ^ 64 - 1 }
-        ensures made { result ≡ Room.Made → self.new.races ≡ races_with self.old.races (record { load = load; place = place; value = value }) }
+        ensures made { result ≡ Room.Made
+            → self.new.races ≡ races_with self.old.races (record { load = load; place = place; value = value }) }
         ensures counted { result ≡ Room.Made → self.new.listed ≡ self.old.listed + 1 }
         ensures memory { result ≡ Room.Memory → self.new ≡ self.old }
     {

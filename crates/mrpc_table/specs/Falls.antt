@@ -20,7 +20,8 @@ pub deep_values : (vs : List Value) → most (w_this.weight Value deep-Value) vs
 deep_values [] = omega arith
 deep_values (v ∷ vs) = omega (arith, deep_value v, deep_values vs)
 
-pub deep_pairs : (ps : List (Value × Value)) → most (weighed-FieldValue-Pairs-0-at-2.weight Value deep-Value) ps ≤ pairs_weight (pairs_of ps)
+pub deep_pairs : (ps : List (Value × Value))
+    → most (weighed-FieldValue-Pairs-0-at-2.weight Value deep-Value) ps ≤ pairs_weight (pairs_of ps)
 deep_pairs [] = omega arith
 deep_pairs (p ∷ ps) = omega (arith, deep_value p.0, deep_value p.1, deep_pairs ps)
 
@@ -29,9 +30,11 @@ deep_content (One v) = omega (arith, deep_value v)
 deep_content (Many vs) = omega (arith, deep_values vs.items)
 deep_content (ThePairs ps) = omega (arith, deep_pairs ps.items)
 
-pub deep_fields : (fs : List (ℕ × FieldValue)) → most (weighed-Tree-fields-at-2.weight FieldValue deep-FieldValue) fs ≤ weight (node_of fs)
+pub deep_fields : (fs : List (ℕ × FieldValue))
+    → most (weighed-Tree-fields-at-2.weight FieldValue deep-FieldValue) fs ≤ weight (node_of fs)
 deep_fields [] = omega arith
 deep_fields (f ∷ fs) = omega (arith, deep_content f.1, deep_fields fs)
 
-pub deep_tree : (fs : List (ℕ × FieldValue)) → max (most (weighed-Tree-fields-at-2.weight FieldValue deep-FieldValue) fs) 0 ≤ weight (node_of fs)
+pub deep_tree : (fs : List (ℕ × FieldValue))
+    → max (most (weighed-Tree-fields-at-2.weight FieldValue deep-FieldValue) fs) 0 ≤ weight (node_of fs)
 deep_tree fs = omega (arith, deep_fields fs)

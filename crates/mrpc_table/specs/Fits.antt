@@ -24,7 +24,8 @@ pub record RestFits (T : Table) (fs : List Field) (room last : ℕ) (taken : Lis
 abbrev pub IsContent : Table → Field → Content → Type 0
 IsContent T f (one i) = TakesOne f.label i × IsItem T f.kind i
 IsContent T f (many is) = TakesMany f.label × (is ≢ no_items) × AreItems T f.kind is
-IsContent T f (pairs ps) = (key : Kind) × (f.label ≡ Map key) × (ps ≢ no_pairs) × ArePairs T key f.kind ps × KeysAscend key ps
+IsContent T f (pairs ps) = (key : Kind) × (f.label ≡ Map key) × (ps ≢ no_pairs) × ArePairs T key f.kind ps
+    × KeysAscend key ps
 
 pub record ContentFits (T : Table) (f : Field) (room : ℕ) (c : Content) : Type 0 where
   pub content : IsContent T f c

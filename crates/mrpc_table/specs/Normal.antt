@@ -85,8 +85,10 @@ abbrev mutual
   -- what the field of a number may have
   pub HasContent : Table → List Field → ℕ → Content → Type 0
   HasContent T fs n (one i) = (f : Field) × (field_at fs n ≡ Some f) × TakesOne f.label i × IsItem T f.kind i
-  HasContent T fs n (many is) = (f : Field) × (field_at fs n ≡ Some f) × TakesMany f.label × (is ≢ no_items) × AreItems T f.kind is
-  HasContent T fs n (pairs ps) = (f : Field) × (key : Kind) × (field_at fs n ≡ Some f) × (f.label ≡ Map key) × (ps ≢ no_pairs) × ArePairs T key f.kind ps × KeysAscend key ps
+  HasContent T fs n (many is) = (f : Field) × (field_at fs n ≡ Some f) × TakesMany f.label × (is ≢ no_items)
+      × AreItems T f.kind is
+  HasContent T fs n (pairs ps) = (f : Field) × (key : Kind) × (field_at fs n ≡ Some f) × (f.label ≡ Map key)
+      × (ps ≢ no_pairs) × ArePairs T key f.kind ps × KeysAscend key ps
 
   -- a value of the kind
   pub IsItem : Table → Kind → Item → Type 0

@@ -28,8 +28,11 @@ has_close (c ∷ cs) = (c == 42 && begins (λ d. d == 47) cs) || has_close cs
 -- bytes are blanks and comments, and then the rest
 pub data Gap : List ℕ → List ℕ → Type 0 where
   nothing : {bytes rest : List ℕ} → bytes ≡ rest → Gap bytes rest
-  blank : {bytes rest : List ℕ} (c : ℕ) (more : List ℕ) → bytes ≡ c ∷ more → is_blank c ≡ true → Gap more rest → Gap bytes rest
+  blank : {bytes rest : List ℕ} (c : ℕ) (more : List ℕ) → bytes ≡ c ∷ more → is_blank c ≡ true → Gap more rest
+      → Gap bytes rest
   -- `//` up to the line's end
-  line_comment : {bytes rest : List ℕ} (body more : List ℕ) → bytes ≡ 47 ∷ 47 ∷ body ++ more → has_no_line_feed body ≡ true → ends_line more ≡ true → Gap more rest → Gap bytes rest
+  line_comment : {bytes rest : List ℕ} (body more : List ℕ) → bytes ≡ 47 ∷ 47 ∷ body ++ more
+      → has_no_line_feed body ≡ true → ends_line more ≡ true → Gap more rest → Gap bytes rest
   -- `/*` up to the next `*/`
-  block_comment : {bytes rest : List ℕ} (body more : List ℕ) → bytes ≡ 47 ∷ 42 ∷ body ++ 42 ∷ 47 ∷ more → has_close (body ++ 42 ∷ []) ≡ false → Gap more rest → Gap bytes rest
+  block_comment : {bytes rest : List ℕ} (body more : List ℕ) → bytes ≡ 47 ∷ 42 ∷ body ++ 42 ∷ 47 ∷ more
+      → has_close (body ++ 42 ∷ []) ≡ false → Gap more rest → Gap bytes rest

@@ -27,8 +27,10 @@ is_some (c ∷ cs) = true
 -- decimal digits without a leading zero; octal digits behind `0`; hexadecimal digits behind `0x` or `0X`
 pub data IsInteger (literal : List ℕ) (value : ℕ) : Type 0 where
   decimal : is_decimal literal ≡ true → value ≡ digits_value 10 literal → IsInteger literal value
-  octal : (digits : List ℕ) → literal ≡ 48 ∷ digits → is_some digits ≡ true → list_all is_octal_digit digits ≡ true → value ≡ digits_value 8 digits → IsInteger literal value
-  hexadecimal : (x : ℕ) (digits : List ℕ) → literal ≡ 48 ∷ x ∷ digits → (x ≡ 120) ⊎ (x ≡ 88) → is_some digits ≡ true → list_all is_hexadecimal_digit digits ≡ true → value ≡ digits_value 16 digits → IsInteger literal value
+  octal : (digits : List ℕ) → literal ≡ 48 ∷ digits → is_some digits ≡ true → list_all is_octal_digit digits ≡ true
+      → value ≡ digits_value 8 digits → IsInteger literal value
+  hexadecimal : (x : ℕ) (digits : List ℕ) → literal ≡ 48 ∷ x ∷ digits → (x ≡ 120) ⊎ (x ≡ 88) → is_some digits ≡ true
+      → list_all is_hexadecimal_digit digits ≡ true → value ≡ digits_value 16 digits → IsInteger literal value
 
 abbrev pub is_exponent_letter : ℕ → Bool
 is_exponent_letter c = c == 101 || c == 69
@@ -38,14 +40,19 @@ is_sign c = c == 43 || c == 45
 
 -- `e` or `E`, a sign or none, and digits
 pub data IsExponent (literal : List ℕ) : Type 0 where
-  unsigned : (e : ℕ) (digits : List ℕ) → literal ≡ e ∷ digits → is_exponent_letter e ≡ true → is_some digits ≡ true → list_all is_decimal_digit digits ≡ true → IsExponent literal
-  signed : (e sign : ℕ) (digits : List ℕ) → literal ≡ e ∷ sign ∷ digits → is_exponent_letter e ≡ true → is_sign sign ≡ true → is_some digits ≡ true → list_all is_decimal_digit digits ≡ true → IsExponent literal
+  unsigned : (e : ℕ) (digits : List ℕ) → literal ≡ e ∷ digits → is_exponent_letter e ≡ true → is_some digits ≡ true
+      → list_all is_decimal_digit digits ≡ true → IsExponent literal
+  signed : (e sign : ℕ) (digits : List ℕ) → literal ≡ e ∷ sign ∷ digits → is_exponent_letter e ≡ true
+      → is_sign sign ≡ true → is_some digits ≡ true → list_all is_decimal_digit digits ≡ true → IsExponent literal
 
 -- a number with a point, with an exponent, or with both
 pub data IsNumber (literal : List ℕ) : Type 0 where
-  point : (whole part power : List ℕ) → literal ≡ whole ++ (46 ∷ part ++ power) → is_decimal whole ≡ true → list_all is_decimal_digit part ≡ true → (power ≡ []) ⊎ IsExponent power → IsNumber literal
-  fraction : (part power : List ℕ) → literal ≡ 46 ∷ part ++ power → is_some part ≡ true → list_all is_decimal_digit part ≡ true → (power ≡ []) ⊎ IsExponent power → IsNumber literal
-  exponent : (whole power : List ℕ) → literal ≡ whole ++ power → is_decimal whole ≡ true → IsExponent power → IsNumber literal
+  point : (whole part power : List ℕ) → literal ≡ whole ++ (46 ∷ part ++ power) → is_decimal whole ≡ true
+      → list_all is_decimal_digit part ≡ true → (power ≡ []) ⊎ IsExponent power → IsNumber literal
+  fraction : (part power : List ℕ) → literal ≡ 46 ∷ part ++ power → is_some part ≡ true
+      → list_all is_decimal_digit part ≡ true → (power ≡ []) ⊎ IsExponent power → IsNumber literal
+  exponent : (whole power : List ℕ) → literal ≡ whole ++ power → is_decimal whole ≡ true → IsExponent power
+      → IsNumber literal
 
 -- what may not follow a number: a letter, a digit, `_` or a point
 abbrev pub is_glue : ℕ → Bool
@@ -76,16 +83,22 @@ is_wide _ = false
 -- what may stand between two quotes of this sort; the digits of an escape stand for themselves here
 pub data IsBody (quote : ℕ) : List ℕ → Type 0 where
   no_bytes : {body : List ℕ} → body ≡ [] → IsBody quote body
-  plain : {body : List ℕ} (c : ℕ) (more : List ℕ) → body ≡ c ∷ more → is_plain quote c ≡ true → IsBody quote more → IsBody quote body
-  simple_escape : {body : List ℕ} (c : ℕ) (more : List ℕ) → body ≡ 92 ∷ c ∷ more → is_simple_escape c ≡ true → IsBody quote more → IsBody quote body
+  plain : {body : List ℕ} (c : ℕ) (more : List ℕ) → body ≡ c ∷ more → is_plain quote c ≡ true → IsBody quote more
+      → IsBody quote body
+  simple_escape : {body : List ℕ} (c : ℕ) (more : List ℕ) → body ≡ 92 ∷ c ∷ more → is_simple_escape c ≡ true
+      → IsBody quote more → IsBody quote body
   -- one to three octal digits
-  octal_escape : {body : List ℕ} (c : ℕ) (more : List ℕ) → body ≡ 92 ∷ c ∷ more → is_octal_digit c ≡ true → IsBody quote more → IsBody quote body
+  octal_escape : {body : List ℕ} (c : ℕ) (more : List ℕ) → body ≡ 92 ∷ c ∷ more → is_octal_digit c ≡ true
+      → IsBody quote more → IsBody quote body
   -- `\x` and one or two hexadecimal digits
-  hexadecimal_escape : {body : List ℕ} (more : List ℕ) → body ≡ 92 ∷ 120 ∷ more → has_digits 1 more ≡ true → IsBody quote more → IsBody quote body
+  hexadecimal_escape : {body : List ℕ} (more : List ℕ) → body ≡ 92 ∷ 120 ∷ more → has_digits 1 more ≡ true
+      → IsBody quote more → IsBody quote body
   -- `\u` and four hexadecimal digits
-  unicode_escape : {body : List ℕ} (more : List ℕ) → body ≡ 92 ∷ 117 ∷ more → has_digits 4 more ≡ true → IsBody quote more → IsBody quote body
+  unicode_escape : {body : List ℕ} (more : List ℕ) → body ≡ 92 ∷ 117 ∷ more → has_digits 4 more ≡ true
+      → IsBody quote more → IsBody quote body
   -- `\U` and eight hexadecimal digits
-  wide_escape : {body : List ℕ} (more : List ℕ) → body ≡ 92 ∷ 85 ∷ more → is_wide more ≡ true → IsBody quote more → IsBody quote body
+  wide_escape : {body : List ℕ} (more : List ℕ) → body ≡ 92 ∷ 85 ∷ more → is_wide more ≡ true → IsBody quote more
+      → IsBody quote body
 
 -- ---- marks
 

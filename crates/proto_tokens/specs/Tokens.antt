@@ -10,11 +10,15 @@ use Rattle.proto_tokens.specs.declared.token.Token.{Token}
 
 -- a literal, with the rest behind it, is a token of this kind, the longest one
 pub data Stands (kind : Kind) (literal rest : List ℕ) : Type 0 where
-  identifier : kind ≡ Identifier → is_name_form literal ≡ true → begins is_name_byte rest ≡ false → Stands kind literal rest
-  integer : (value : ℕ) → kind ≡ Integer (in_64_bits value) → IsInteger literal value → begins is_glue rest ≡ false → Stands kind literal rest
+  identifier : kind ≡ Identifier → is_name_form literal ≡ true → begins is_name_byte rest ≡ false
+      → Stands kind literal rest
+  integer : (value : ℕ) → kind ≡ Integer (in_64_bits value) → IsInteger literal value → begins is_glue rest ≡ false
+      → Stands kind literal rest
   number : kind ≡ Number → IsNumber literal → begins is_glue rest ≡ false → Stands kind literal rest
-  string : (quote : ℕ) (body : List ℕ) → kind ≡ Text → is_quote quote ≡ true → literal ≡ quote ∷ body ++ quote ∷ [] → IsBody quote body → Stands kind literal rest
-  mark : (c : ℕ) → kind ≡ Mark c → literal ≡ c ∷ [] → is_mark c ≡ true → goes_on c rest ≡ false → Stands kind literal rest
+  string : (quote : ℕ) (body : List ℕ) → kind ≡ Text → is_quote quote ≡ true → literal ≡ quote ∷ body ++ quote ∷ []
+      → IsBody quote body → Stands kind literal rest
+  mark : (c : ℕ) → kind ≡ Mark c → literal ≡ c ∷ [] → is_mark c ≡ true → goes_on c rest ≡ false
+      → Stands kind literal rest
 
 -- at the front of these bytes stands no token, no blank and no comment
 pub record IsStuck (bytes : List ℕ) : Type 0 where
@@ -52,5 +56,7 @@ is_last _ = false
 
 -- the tokens of a text from a place on
 pub data AreTokens (text : List ℕ) : ℕ → List Token → Type 0 where
-  last : {place : ℕ} {ts : List Token} (t : Token) → ts ≡ t ∷ [] → IsNext text place t → is_last t.kind ≡ true → AreTokens text place ts
-  another : {place : ℕ} {ts : List Token} (t : Token) (others : List Token) → ts ≡ t ∷ others → IsNext text place t → is_last t.kind ≡ false → AreTokens text t.end others → AreTokens text place ts
+  last : {place : ℕ} {ts : List Token} (t : Token) → ts ≡ t ∷ [] → IsNext text place t → is_last t.kind ≡ true
+      → AreTokens text place ts
+  another : {place : ℕ} {ts : List Token} (t : Token) (others : List Token) → ts ≡ t ∷ others → IsNext text place t
+      → is_last t.kind ≡ false → AreTokens text t.end others → AreTokens text place ts

@@ -13,5 +13,6 @@ pub fn one_token()
 /// A text has one list of tokens, the last of which is its end or the first place at which no token stands.
 pub fn one_list()
     ensures some { (text : List ℕ) → (ts : List Token) × AreTokens text 0 ts }
-    ensures one { (text : List ℕ) (place : ℕ) (ts us : List Token) → AreTokens text place ts → AreTokens text place us → ts ≡ us }
+    ensures one { (text : List ℕ) (place : ℕ) (ts us : List Token) → AreTokens text place ts → AreTokens text place us
+        → ts ≡ us }
 {}

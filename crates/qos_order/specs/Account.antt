@@ -58,7 +58,8 @@ pub record Fits (grant : ℕ) (visit : Visit) : Type 0 where
 -- each visit fits its grant, as the visits before it leave the account
 abbrev pub AllFit : ℕ → Account → List Visit → Type 0
 AllFit weight account [] = Unit {0}
-AllFit weight account (visit ∷ visits) = Fits (granted weight account.kept) visit × AllFit weight (visited weight account visit) visits
+AllFit weight account (visit ∷ visits) = Fits (granted weight account.kept) visit
+    × AllFit weight (visited weight account visit) visits
 
 -- the rounds of all visits at this weight are given, kept or dropped, and at most twice the weight is kept
 pub record IsBalanced (weight : ℕ) (account : Account) : Type 0 where
@@ -67,4 +68,5 @@ pub record IsBalanced (weight : ℕ) (account : Account) : Type 0 where
 
 -- over every list of visits at one weight the account is balanced
 abbrev pub VisitsBalance : Type 0
-VisitsBalance = (weight : ℕ) (visits : List Visit) → IsWeight weight → AllFit weight new_account visits → IsBalanced weight (account_after weight visits)
+VisitsBalance = (weight : ℕ) (visits : List Visit) → IsWeight weight → AllFit weight new_account visits
+    → IsBalanced weight (account_after weight visits)

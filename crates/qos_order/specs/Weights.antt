@@ -44,7 +44,8 @@ weight_of weights conn = unwrap_or (option_map (λ w. w.weight) (entry_of weight
 
 -- a list has one first fault at most
 abbrev pub FaultsOnce : Type 0
-FaultsOnce = (weights : List Weight) (fault other : WeightFault) → IsFirstFault weights fault → IsFirstFault weights other → fault ≡ other
+FaultsOnce = (weights : List Weight) (fault other : WeightFault) → IsFirstFault weights fault
+    → IsFirstFault weights other → fault ≡ other
 
 -- a list that is sound has none
 abbrev pub SoundHasNone : Type 0

@@ -89,7 +89,8 @@ AreTurns wheel (turn ∷ turns) = IsTurn wheel turn × AreTurns (turned wheel tu
 
 -- over every list of turns each account of the wheel is balanced
 abbrev pub TurnsBalance : Type 0
-TurnsBalance = (wheel : WheelState) (turns : List Turn) → IsWheel wheel → AreTurns wheel turns → IsWheel (wheel_after wheel turns)
+TurnsBalance = (wheel : WheelState) (turns : List Turn) → IsWheel wheel → AreTurns wheel turns
+    → IsWheel (wheel_after wheel turns)
 
 -- no connection on the wheel has rounds kept
 abbrev pub NothingKept : WheelState → Type 0
@@ -120,11 +121,14 @@ rounds_in wheel turns conn = option_map_or (λ a. a.rounds) (account_of (wheel_a
 
 -- in a stretch that begins with nothing kept, in which none leaves, no account is at its end and every ending is Given, two connections on the wheel differ by one visit at most
 abbrev pub VisitsAreEven : Type 0
-VisitsAreEven = (wheel : WheelState) (turns : List Turn) (conn other : ℕ) → IsWheel wheel → NothingKept wheel → AreWhole wheel turns
-    → Contains wheel.order conn → Contains wheel.order other → visits_in wheel turns conn ≤ visits_in wheel turns other + 1
+VisitsAreEven = (wheel : WheelState) (turns : List Turn) (conn other : ℕ) → IsWheel wheel → NothingKept wheel
+    → AreWhole wheel turns
+    → Contains wheel.order conn → Contains wheel.order other
+    → visits_in wheel turns conn ≤ visits_in wheel turns other + 1
 
 -- and their rounds are as their weights, but for one visit
 abbrev pub SharesAreEven : Type 0
-SharesAreEven = (wheel : WheelState) (turns : List Turn) (conn other : ℕ) → IsWheel wheel → NothingKept wheel → AreWhole wheel turns
+SharesAreEven = (wheel : WheelState) (turns : List Turn) (conn other : ℕ) → IsWheel wheel → NothingKept wheel
+    → AreWhole wheel turns
     → Contains wheel.order conn → Contains wheel.order other
     → rounds_in wheel turns conn * weight_on wheel other ≤ rounds_in wheel turns other * weight_on wheel conn + weight_on wheel conn * weight_on wheel other

@@ -26,7 +26,8 @@ impl Model for Wheel {
 
     ghost view = { λ w. record { listed = w.seats.items; order = w.order.items } };
 
-    ghost invariant = { λ w. IsWheel (record { listed = w.seats.items; order = w.order.items }) × SeatsAscend w.seats.items };
+    ghost invariant = { λ w. IsWheel (record { listed = w.seats.items; order = w.order.items })
+        × SeatsAscend w.seats.items };
 }
 
 impl Wheel {
@@ -40,7 +41,8 @@ impl Wheel {
     pub fn new(alloc: Global, weights: Weights) -> Result<Wheel, WeightFault>
         ensures sound { OnOk result (IsSound weights) }
         ensures order { IfOk result (λ wheel. wheel.order ≡ conns_of weights) }
-        ensures seats { IfOk result (λ wheel. (conn : ℕ) → seat_of wheel conn ≡ option_map opened (entry_of weights conn)) }
+        ensures seats { IfOk result (λ wheel. (conn : ℕ)
+            → seat_of wheel conn ≡ option_map opened (entry_of weights conn)) }
         ensures wheel { IfOk result IsWheel }
         ensures fault { IfErr result (λ fault. (fault ≢ WeightFault.Memory) → IsFirstFault weights fault) }
         ensures memory { result ≡ Err WeightFault.Memory → IsSound weights }

@@ -34,20 +34,24 @@ pub record Stands (holes : List Span) (index : ℕ) (span : Span) : Type 0 where
   pub within : index ≤ length holes
   pub words : 1 ≤ span.words
   pub small : span.at + span.words ≤ most_words
-  pub before : (k : ℕ) (d : Span) → k < index → (slice_index_or holes k d).at + (slice_index_or holes k d).words ≤ span.at
+  pub before : (k : ℕ) (d : Span) → k < index
+      → (slice_index_or holes k d).at + (slice_index_or holes k d).words ≤ span.at
   pub behind : (k : ℕ) (d : Span) → index ≤ k → k < length holes → span.at + span.words ≤ (slice_index_or holes k d).at
 
 -- it touches no hole behind it
 abbrev pub IsClearBehind : List Span → ℕ → Span → Type 0
-IsClearBehind holes index span = (k : ℕ) (d : Span) → index ≤ k → k < length holes → span.at + span.words < (slice_index_or holes k d).at
+IsClearBehind holes index span = (k : ℕ) (d : Span) → index ≤ k → k < length holes
+    → span.at + span.words < (slice_index_or holes k d).at
 
 -- it touches no hole before it
 abbrev pub IsClearBefore : List Span → ℕ → Span → Type 0
-IsClearBefore holes index span = (k : ℕ) (d : Span) → k < index → (slice_index_or holes k d).at + (slice_index_or holes k d).words < span.at
+IsClearBefore holes index span = (k : ℕ) (d : Span) → k < index
+    → (slice_index_or holes k d).at + (slice_index_or holes k d).words < span.at
 
 -- a span and holes have the same places as others
 abbrev pub HaveSamePlaces : List Span → Span → List Span → Span → Type 0
-HaveSamePlaces holes span others other = (place : ℕ) → holes_at holes place + one_at span place ≡ holes_at others place + one_at other place
+HaveSamePlaces holes span others other = (place : ℕ)
+    → holes_at holes place + one_at span place ≡ holes_at others place + one_at other place
 
 -- it meets no hole
 abbrev pub MeetsNone : List Span → Span → Type 0

@@ -58,10 +58,13 @@ of_type name = codes "message:" ++ name
 -- the message types that both tables reach: the inputs and outputs of the methods of the service that both have, and
 -- further those of the fields whose number both know, of the same type in both
 pub data BothReach (T U : Table) (service : List ℕ) : List ℕ → Type 0 where
-  as_input : (s : Signature) → Contains (methods_of T service) s → Contains (methods_of U service) s → BothReach T U service s.input
-  as_output : (s : Signature) → Contains (methods_of T service) s → Contains (methods_of U service) s → BothReach T U service s.output
+  as_input : (s : Signature) → Contains (methods_of T service) s → Contains (methods_of U service) s
+      → BothReach T U service s.input
+  as_output : (s : Signature) → Contains (methods_of T service) s → Contains (methods_of U service) s
+      → BothReach T U service s.output
   through : (outer inner : List ℕ) (number : ℕ) (ours theirs : FieldText) → BothReach T U service outer
-      → Prints T outer number ours → Prints U outer number theirs → ours.kind ≡ of_type inner → theirs.kind ≡ of_type inner → BothReach T U service inner
+      → Prints T outer number ours → Prints U outer number theirs → ours.kind ≡ of_type inner
+      → theirs.kind ≡ of_type inner → BothReach T U service inner
 
 -- in a type that both reach, a number that both know is printed in two ways
 pub record Differs (T U : Table) (service type : List ℕ) (number : ℕ) : Type 0 where
@@ -93,28 +96,35 @@ pub record DifferAt {X : Type 0} (xs ys : List X) (at : ℕ) (x y : Option X) : 
 -- the least message name, then the least number
 pub record DiffersFirst (T U : Table) (service type : List ℕ) (number : ℕ) : Type 0 where
   pub differs : Differs T U service type number
-  pub least : (other : List ℕ) (n : ℕ) → Differs T U service other n → IsBelow type other ⊎ ((type ≡ other) × (number ≤ n))
+  pub least : (other : List ℕ) (n : ℕ) → Differs T U service other n
+      → IsBelow type other ⊎ ((type ≡ other) × (number ≤ n))
 
 -- why two tables don't agree
 pub data Refuses (T U : Table) (service : List ℕ) (version : ℕ) (fault : AgreeFault) : Type 0 where
-  no_service : (ours theirs : Bool) → IsTrue ours ↔ Offers T service → IsTrue theirs ↔ Offers U service → (IsTrue ours → IsTrue theirs → ⊥)
+  no_service : (ours theirs : Bool) → IsTrue ours ↔ Offers T service → IsTrue theirs ↔ Offers U service
+      → (IsTrue ours → IsTrue theirs → ⊥)
       → fault ≡ NoService ours theirs → Refuses T U service version fault
   other_text : (byte : ℕ) (ours theirs : Option ℕ) → version ≡ 1 → Offers T service → Offers U service
-      → DifferAt (table_text T) (table_text U) byte ours theirs → fault ≡ Mismatch byte ours theirs → Refuses T U service version fault
+      → DifferAt (table_text T) (table_text U) byte ours theirs → fault ≡ Mismatch byte ours theirs
+      → Refuses T U service version fault
   other_methods : (at : ℕ) (ours theirs : Option Signature) → version ≡ 2 → Offers T service → Offers U service
-      → DifferAt (methods_of T service) (methods_of U service) at ours theirs → fault ≡ Methods at → Refuses T U service version fault
-  other_field : (type : List ℕ) (number : ℕ) → version ≡ 2 → Offers T service → Offers U service → methods_of T service ≡ methods_of U service
+      → DifferAt (methods_of T service) (methods_of U service) at ours theirs → fault ≡ Methods at
+      → Refuses T U service version fault
+  other_field : (type : List ℕ) (number : ℕ) → version ≡ 2 → Offers T service → Offers U service
+      → methods_of T service ≡ methods_of U service
       → DiffersFirst T U service type number → fault ≡ FieldFault type number → Refuses T U service version fault
 
 -- ---- laws
 
 -- tables that agree aren't refused
 abbrev pub NeverAgreeAndRefuse : Type 0
-NeverAgreeAndRefuse = (T U : Table) (service : List ℕ) (version : ℕ) (fault : AgreeFault) → Agree T U service version → Refuses T U service version fault → ⊥
+NeverAgreeAndRefuse = (T U : Table) (service : List ℕ) (version : ℕ) (fault : AgreeFault) → Agree T U service version
+    → Refuses T U service version fault → ⊥
 
 -- they're refused in one way
 abbrev pub RefuseOnce : Type 0
-RefuseOnce = (T U : Table) (service : List ℕ) (version : ℕ) (fault other : AgreeFault) → Refuses T U service version fault → Refuses T U service version other → fault ≡ other
+RefuseOnce = (T U : Table) (service : List ℕ) (version : ℕ) (fault other : AgreeFault)
+    → Refuses T U service version fault → Refuses T U service version other → fault ≡ other
 
 -- and valid tables agree or are refused: it can't be that neither holds
 abbrev pub AgreeOrRefuse : Type 0

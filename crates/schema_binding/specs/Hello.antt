@@ -31,8 +31,10 @@ IsLine bytes = All (λ byte. byte ≢ 10) bytes
 -- lines of the table's text behind it, or the line after them.
 pub data IsBadAt (payload : List ℕ) (line : ℕ) : Type 0 where
   no_line_feed : IsLine payload → line ≡ 1 → IsBadAt payload line
-  no_full_name : (first text : List ℕ) → payload ≡ first ++ 10 ∷ text → IsLine first → (IsFullName first → ⊥) → line ≡ 1 → IsBadAt payload line
-  no_table : (service text : List ℕ) (at : ℕ) (reason : TableReason) → payload ≡ service ++ 10 ∷ text → IsFullName service
+  no_full_name : (first text : List ℕ) → payload ≡ first ++ 10 ∷ text → IsLine first → (IsFullName first → ⊥)
+      → line ≡ 1 → IsBadAt payload line
+  no_table : (service text : List ℕ) (at : ℕ) (reason : TableReason) → payload ≡ service ++ 10 ∷ text
+      → IsFullName service
       → IsFirstFault text at reason → line ≡ at + 1 → IsBadAt payload line
 
 -- what a fault says of a payload; want of memory says nothing
@@ -47,7 +49,8 @@ IsFaultBehind text Memory = Unit {0}
 
 -- a payload says one service and one table
 abbrev pub SaysOnce : Type 0
-SaysOnce = (payload service other : List ℕ) (T U : Table) → IsHello payload service T → IsHello payload other U → (service ≡ other) × (T ≡ U)
+SaysOnce = (payload service other : List ℕ) (T U : Table) → IsHello payload service T → IsHello payload other U
+    → (service ≡ other) × (T ≡ U)
 
 -- or has one first line at fault
 abbrev pub IsBadOnce : Type 0
@@ -59,4 +62,5 @@ NeverBoth = (payload service : List ℕ) (T : Table) (line : ℕ) → IsHello pa
 
 -- nor neither
 abbrev pub SaysOrIsBad : Type 0
-SaysOrIsBad = (payload : List ℕ) → ((service : List ℕ) × (T : Table) × IsHello payload service T) ⊎ ((line : ℕ) × IsBadAt payload line)
+SaysOrIsBad = (payload : List ℕ)
+    → ((service : List ℕ) × (T : Table) × IsHello payload service T) ⊎ ((line : ℕ) × IsBadAt payload line)

@@ -56,7 +56,8 @@ pub record Gains (T U : Table) (old new : Reached) (Why : List ℕ → Type 0) :
 
 -- the input or the output of a method of the service
 abbrev pub IsInMethods : Table → List ℕ → List ℕ → Type 0
-IsInMethods T service type = (s : Signature) × Contains (methods_of T service) s × ((s.input ≡ type) ⊎ (s.output ≡ type))
+IsInMethods T service type = (s : Signature) × Contains (methods_of T service) s
+    × ((s.input ≡ type) ⊎ (s.output ≡ type))
 
 -- the inputs and outputs of the service's methods are marked
 abbrev pub HasMethods : Table → List ℕ → Reached → Type 0

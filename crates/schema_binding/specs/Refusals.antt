@@ -13,7 +13,8 @@ DifferFrom {X} xs ys at = (x : Option X) × (y : Option X) × DifferAt xs ys at 
 -- the texts differ first at this byte
 abbrev pub HaveOtherTexts : Table → Table → AgreeFault → Type 0
 HaveOtherTexts T U fault =
-    (byte : ℕ) × (ours : Option ℕ) × (theirs : Option ℕ) × DifferAt (table_text T) (table_text U) byte ours theirs × (fault ≡ Mismatch byte ours theirs)
+    (byte : ℕ) × (ours : Option ℕ) × (theirs : Option ℕ) × DifferAt (table_text T) (table_text U) byte ours theirs
+    × (fault ≡ Mismatch byte ours theirs)
 
 -- the methods differ first at this place
 abbrev pub HaveOtherMethods : Table → Table → List ℕ → AgreeFault → Type 0
@@ -22,4 +23,5 @@ HaveOtherMethods T U service fault =
 
 -- this field is the least that differs
 abbrev pub HaveOtherFields : Table → Table → List ℕ → AgreeFault → Type 0
-HaveOtherFields T U service fault = (type : List ℕ) × (number : ℕ) × DiffersFirst T U service type number × (fault ≡ Field type number)
+HaveOtherFields T U service fault = (type : List ℕ) × (number : ℕ) × DiffersFirst T U service type number
+    × (fault ≡ Field type number)

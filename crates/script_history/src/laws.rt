@@ -17,7 +17,8 @@ use graph_form::{
 /// How what follows from some lines goes on by a further line.
 pub fn lines_go_on()
     ensures none { (s : Script) (old : State) → Leads s old [] [] [] old }
-    ensures one_more { (s : Script) (old between new : State) (ls : List Line) (l : Line) (h piece : History) (L own : List (ℕ × ℕ))
+    ensures one_more { (s : Script) (old between new : State) (ls : List Line) (l : Line) (h piece : History)
+        (L own : List (ℕ × ℕ))
         → Leads s old ls h L between → Moves s between l piece own new
         → Leads s old (ls ++ l ∷ []) (h ++ piece) (L ++ own) new }
     ensures history { (s : Script) (ls : List Line) (h : History) (L : List (ℕ × ℕ)) (end : State)

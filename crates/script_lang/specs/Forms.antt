@@ -46,9 +46,12 @@ IsValue word (hexadecimal digits) = (word ≡ codes "0x" ++ digits) × AreHexade
 abbrev pub AreWordsOf : Form → List (List ℕ) → Type 0
 AreWordsOf (conn c w) (first ∷ x ∷ y ∷ []) = (first ≡ codes "conn") × IsNumber x c × IsNumber y w
 AreWordsOf (store c p v) (first ∷ x ∷ y ∷ z ∷ []) = (first ≡ codes "store") × IsNumber x c × IsNumber y p × IsValue z v
-AreWordsOf (race c k p v) (first ∷ x ∷ y ∷ z ∷ u ∷ []) = (first ≡ codes "race") × IsNumber x c × IsNumber y k × IsNumber z p × IsValue u v
-AreWordsOf (submit c m a) (first ∷ x ∷ y ∷ z ∷ []) = (first ≡ codes "submit") × IsNumber x c × IsNumber y m × IsNumber z a
-AreWordsOf (reply c m a n) (first ∷ x ∷ y ∷ z ∷ u ∷ []) = (first ≡ codes "submit") × IsNumber x c × IsNumber y m × IsNumber z a × IsNumber u n
+AreWordsOf (race c k p v) (first ∷ x ∷ y ∷ z ∷ u ∷ []) = (first ≡ codes "race") × IsNumber x c × IsNumber y k
+    × IsNumber z p × IsValue u v
+AreWordsOf (submit c m a) (first ∷ x ∷ y ∷ z ∷ []) = (first ≡ codes "submit") × IsNumber x c × IsNumber y m
+    × IsNumber z a
+AreWordsOf (reply c m a n) (first ∷ x ∷ y ∷ z ∷ u ∷ []) = (first ≡ codes "submit") × IsNumber x c × IsNumber y m
+    × IsNumber z a × IsNumber u n
 AreWordsOf (drain c) (first ∷ x ∷ []) = (first ≡ codes "drain") × IsNumber x c
 AreWordsOf close (first ∷ []) = first ≡ codes "close"
 AreWordsOf _ _ = ⊥

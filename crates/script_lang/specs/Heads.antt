@@ -15,5 +15,6 @@ pub record HasLimit (text : List ℕ) (loads : ℕ) (behind : List ℕ) : Type 0
 -- no such line stands first; or its number is out of range
 abbrev pub IsLimitFault : List ℕ → ScriptReason → Type 0
 IsLimitFault text Word = (word more : List ℕ) (n : ℕ) → IsNumber word n → text ≢ loads_line word ++ more
-IsLimitFault text Number = (word : List ℕ) × (more : List ℕ) × (n : ℕ) × IsNumber word n × (IsLimit n → ⊥) × (text ≡ loads_line word ++ more)
+IsLimitFault text Number = (word : List ℕ) × (more : List ℕ) × (n : ℕ) × IsNumber word n × (IsLimit n → ⊥)
+    × (text ≡ loads_line word ++ more)
 IsLimitFault text _ = ⊥

@@ -23,7 +23,8 @@ later_words =
     codes "tenant" ∷ codes "policy" ∷ codes "attach" ∷ codes "detach" ∷ codes "upgrade" ∷ codes "moment" ∷ codes "turn" ∷ codes "send" ∷ []
 
 abbrev pub IsLater : List ℕ → Type 0
-IsLater text = (first : List ℕ) × (others : List (List ℕ)) × (words_of text ≡ first ∷ others) × Contains later_words first
+IsLater text = (first : List ℕ) × (others : List (List ℕ)) × (words_of text ≡ first ∷ others)
+    × Contains later_words first
 
 -- the line says this
 abbrev pub IsForm : Form → List ℕ → Type 0
@@ -52,16 +53,21 @@ is_submission _ = false
 -- the line, without its line feed, is at fault behind these
 pub data Offends (b : Before) (text : List ℕ) (reason : ScriptReason) : Type 0 where
   -- its words are those of no form
-  no_form : (IsSkipped text → ⊥) → (IsLater text → ⊥) → ((f : Form) → IsForm f text → ⊥) → reason ≡ Word → Offends b text reason
+  no_form : (IsSkipped text → ⊥) → (IsLater text → ⊥) → ((f : Form) → IsForm f text → ⊥) → reason ≡ Word
+      → Offends b text reason
   out_of_range : (f : Form) → IsForm f text → (AreInRange f → ⊥) → reason ≡ Number → Offends b text reason
   opened_before : (c w : ℕ) → IsForm (conn c w) text → IsOpen b.lines c → reason ≡ Known → Offends b text reason
-  not_opened : (f : Form) (c : ℕ) → IsForm f text → used_by f ≡ Some c → (IsOpen b.lines c → ⊥) → reason ≡ Unknown → Offends b text reason
-  no_place : (f : Form) (c p : ℕ) → IsForm f text → stored_by f ≡ Some (c, p) → (IsPlace b.lines c p → ⊥) → reason ≡ Place → Offends b text reason
+  not_opened : (f : Form) (c : ℕ) → IsForm f text → used_by f ≡ Some c → (IsOpen b.lines c → ⊥) → reason ≡ Unknown
+      → Offends b text reason
+  no_place : (f : Form) (c p : ℕ) → IsForm f text → stored_by f ≡ Some (c, p) → (IsPlace b.lines c p → ⊥)
+      → reason ≡ Place → Offends b text reason
   -- loads are counted from 1
   load_zero : (c p : ℕ) (v : Value) → IsForm (race c 0 p v) text → reason ≡ Place → Offends b text reason
   later_form : IsLater text → reason ≡ NotYet → Offends b text reason
-  second_conn : (c w : ℕ) → IsForm (conn c w) text → count_by is_conn b.lines ≢ 0 → reason ≡ NotYet → Offends b text reason
-  too_many : (f : Form) → IsForm f text → is_submission f ≡ true → 64 ≤ count_by is_submit b.lines → reason ≡ NotYet → Offends b text reason
+  second_conn : (c w : ℕ) → IsForm (conn c w) text → count_by is_conn b.lines ≢ 0 → reason ≡ NotYet
+      → Offends b text reason
+  too_many : (f : Form) → IsForm f text → is_submission f ≡ true → 64 ≤ count_by is_submit b.lines → reason ≡ NotYet
+      → Offends b text reason
   behind_close : b.closed ≡ true → (IsSkipped text → ⊥) → reason ≡ After → Offends b text reason
 
 -- of the reasons that a line gives the first counts

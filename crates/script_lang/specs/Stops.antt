@@ -25,7 +25,8 @@ AreRead text lines = ReadsTo text (record { lines = lines; closed = true }) []
 
 -- no line stands next that isn't at fault
 pub data IsStop (b : Before) (rest : List ℕ) (reason : ScriptReason) : Type 0 where
-  in_line : (said more : List ℕ) → IsOneLine said → rest ≡ said ++ 10 ∷ more → OffendsFirst b said reason → IsStop b rest reason
+  in_line : (said more : List ℕ) → IsOneLine said → rest ≡ said ++ 10 ∷ more → OffendsFirst b said reason
+      → IsStop b rest reason
   no_feed : IsOneLine rest → rest ≢ [] → reason ≡ Word → IsStop b rest reason
   no_close : rest ≡ [] → b.closed ≡ false → reason ≡ Close → IsStop b rest reason
 

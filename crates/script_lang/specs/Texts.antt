@@ -32,7 +32,8 @@ IsLimit loads = (1 ≤ loads) × (loads ≤ 16384)
 
 pub data IsHead (head : List ℕ) (loads : ℕ) : Type 0 where
   usual : head ≡ first_line ++ table_line → loads ≡ 1024 → IsHead head loads
-  limited : (word : List ℕ) → head ≡ first_line ++ (loads_line word ++ table_line) → IsNumber word loads → IsLimit loads → IsHead head loads
+  limited : (word : List ℕ) → head ≡ first_line ++ (loads_line word ++ table_line) → IsNumber word loads
+      → IsLimit loads → IsHead head loads
 
 -- ---- what a text spells
 
@@ -88,7 +89,8 @@ pub data IsFault (text : List ℕ) (line : ℕ) (reason : ScriptReason) : Type 0
       → ((more : List ℕ) → rest ≢ table_line ++ more)
       → line ≡ 3 → reason ≡ Word → IsFault text line reason
   in_table :
-      (head table : List ℕ) (loads at : ℕ) (why : TableReason) → IsHead head loads → IsTableBehind head text table → IsFirstFault table at why
+      (head table : List ℕ) (loads at : ℕ) (why : TableReason) → IsHead head loads → IsTableBehind head text table
+      → IsFirstFault table at why
       → line ≡ line_count head + at → reason ≡ Table why → IsFault text line reason
   -- all the rest is the canonical text of a table
   no_end :

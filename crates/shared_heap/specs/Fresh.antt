@@ -67,7 +67,8 @@ pub record AfterLoad (old : Reading) (place value : ℕ) (new : Reading) : Type 
   pub last : value ≡ word_after new.known place
   -- a word to which no store went after so many that the reader knew is the one that those made, whatever list of
   -- stores goes on from what is known
-  pub untouched : (all : List (ℕ × ℕ)) (after : ℕ) → BeginsWith all new.known → after ≤ length old.known → NoneTo place (drop after all) → value ≡ word_after (take after all) place
+  pub untouched : (all : List (ℕ × ℕ)) (after : ℕ) → BeginsWith all new.known → after ≤ length old.known
+      → NoneTo place (drop after all) → value ≡ word_after (take after all) place
   pub heap : new.heap ≡ old.heap
   pub whole : new.whole ≡ old.whole
   pub none_left : IsTrue old.whole → new.known ≡ old.known

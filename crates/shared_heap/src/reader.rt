@@ -78,7 +78,9 @@ impl Words for Reader {
         ensures last { result ≡ word_after self.new.known place }
         // A word to which no store went after so many that the reader knew is the one that those made, whatever
         // list of stores goes on from what is known.
-        ensures untouched { (all : List (ℕ × ℕ)) (after : ℕ) → BeginsWith all self.new.known → after ≤ length self.old.known → NoneTo place (drop after all) → result ≡ word_after (take after all) place }
+        ensures untouched { (all : List (ℕ × ℕ)) (after : ℕ) → BeginsWith all self.new.known
+            → after ≤ length self.old.known → NoneTo place (drop after all)
+            → result ≡ word_after (take after all) place }
 
         ensures heap { self.new.heap ≡ self.old.heap }
         ensures whole { self.new.whole ≡ self.old.whole }

@@ -30,7 +30,8 @@ impl Places {
 
     /// The first place of a name.
     pub fn place(&self, name: &[u8]) -> Option<u32>
-        ensures { (names : List (List ℕ)) → Holds self.now names → result ≡ option_map in_range (place_from 0 name.now names) }
+        ensures { (names : List (List ℕ)) → Holds self.now names
+            → result ≡ option_map in_range (place_from 0 name.now names) }
     {
         self.found(name)
     }
@@ -60,7 +61,8 @@ impl Places {
 
     /// Adds a name at the end.
     pub fn add(&mut self, alloc: Global, name: &[u8]) -> Result<(), Memory>
-        ensures { (names : List (List ℕ)) → Holds self.old names → OnOk result (Holds self.new (names ++ name.now ∷ [])) }
+        ensures { (names : List (List ℕ)) → Holds self.old names
+            → OnOk result (Holds self.new (names ++ name.now ∷ [])) }
     {
         self.keep(alloc, name)?;
         self.count = self.count.saturating_add(1);

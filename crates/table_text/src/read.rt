@@ -35,7 +35,8 @@ fn names_behind(alloc: Global, prefix: &[u8], text: &[u8]) -> Result<Places, Mem
 }
 
 fn add_behind(alloc: Global, names: &mut Places, prefix: &[u8], line: &[u8]) -> Result<(), Memory>
-    ensures { (old : List (List ℕ)) → Holds names.old old → OnOk result (Holds names.new (old ++ option_to_list (behind prefix.now line.now))) }
+    ensures { (old : List (List ℕ)) → Holds names.old old
+        → OnOk result (Holds names.new (old ++ option_to_list (behind prefix.now line.now))) }
 {
     if let Some(name) = behind(prefix, line) {
         names.add(alloc, name)?;
@@ -70,7 +71,8 @@ pub fn read_table(alloc: Global, text: &[u8]) -> Result<Table, TableFault>
     // What is read is valid, and the text is its canonical text.
     ensures accepted { IfOk result (λ t. IsValid t × (text.now ≡ table_text t)) }
     // The canonical text of a valid table gives this table, unless memory runs out.
-    ensures only { (t : Table) → IsValid t → text.now ≡ table_text t → MatchResult result (λ read. read ≡ t) (λ fault. fault ≡ NoMemory) }
+    ensures only { (t : Table) → IsValid t → text.now ≡ table_text t
+        → MatchResult result (λ read. read ≡ t) (λ fault. fault ≡ NoMemory) }
     // A fault is the first one of the text.
     ensures fault { IfErr result (λ fault. IsFaultOf text.now fault) }
 {
@@ -85,9 +87,12 @@ pub fn one_text()
 /// A text has one first fault at most, on one of its lines or right behind them, and the canonical text
 /// of a valid table has none.
 pub fn one_fault()
-    ensures one { (text : List ℕ) (m n : ℕ) (r q : TableReason) → IsFirstFault text m r → IsFirstFault text n q → (m ≡ n) × (r ≡ q) }
-    ensures none { (t : Table) (line : ℕ) (reason : TableReason) → IsValid t → IsFirstFault (table_text t) line reason → ⊥ }
-    ensures place { (text : List ℕ) (line : ℕ) (reason : TableReason) → IsFirstFault text line reason → line ≤ length text + 1 }
+    ensures one { (text : List ℕ) (m n : ℕ) (r q : TableReason) → IsFirstFault text m r → IsFirstFault text n q
+        → (m ≡ n) × (r ≡ q) }
+    ensures none { (t : Table) (line : ℕ) (reason : TableReason) → IsValid t → IsFirstFault (table_text t) line reason
+        → ⊥ }
+    ensures place { (text : List ℕ) (line : ℕ) (reason : TableReason) → IsFirstFault text line reason
+        → line ≤ length text + 1 }
 {}
 
 /// A text is the canonical text of a valid table, or it has a first fault.

@@ -70,7 +70,8 @@ impl Reader {
     }
 
     fn is_value_before(&self, name: &[u8]) -> bool
-        ensures { (t : Types) → IsKept t self.now → result ≡ is_value_before (open_part self.now.draft.open_part) name.now }
+        ensures { (t : Types) → IsKept t self.now
+            → result ≡ is_value_before (open_part self.now.draft.open_part) name.now }
     {
         match self.draft.open_part {
             Open::Enum(_) => self.inner_names.contains(name),
@@ -79,7 +80,8 @@ impl Reader {
     }
 
     fn is_field_before(&self, name: &[u8]) -> bool
-        ensures { (t : Types) → IsKept t self.now → result ≡ is_field_before (open_part self.now.draft.open_part) name.now }
+        ensures { (t : Types) → IsKept t self.now
+            → result ≡ is_field_before (open_part self.now.draft.open_part) name.now }
     {
         match self.draft.open_part {
             Open::Message(_) => self.inner_names.contains(name),
@@ -89,7 +91,8 @@ impl Reader {
 
     // A name or a field number that stands before.
     fn is_duplicate(&self, alloc: Global, line: &Line) -> Result<bool, Memory>
-        ensures { (t : Types) → IsKept t self.now → IfOk result (λ r. r ≡ is_duplicate (before self.now.draft) line.now) }
+        ensures { (t : Types) → IsKept t self.now
+            → IfOk result (λ r. r ≡ is_duplicate (before self.now.draft) line.now) }
     {
         match line {
             Line::Enum(name) | Line::Message(name) => Ok(self.is_type_before(name.as_slice())),
@@ -147,7 +150,8 @@ impl Reader {
         line: &Line,
         bytes: usize,
     ) -> Result<Option<TableReason>, Memory>
-        ensures { (t : Types) → IsKept t self.now → IfOk result (λ r. r ≡ line_fault t (before self.now.draft) bytes (Some line.now)) }
+        ensures { (t : Types) → IsKept t self.now
+            → IfOk result (λ r. r ≡ line_fault t (before self.now.draft) bytes (Some line.now)) }
     {
         if is_syntax(&self.draft, line) {
             return Ok(Some(TableReason::Syntax));
@@ -178,10 +182,13 @@ impl Reader {
         bytes: usize,
         number: u64,
     ) -> Result<(), TableFault>
-        ensures clean { (t : Types) → IsKept t self.old → OnOk result (line_fault t (before self.old.draft) bytes (line_of text.now) ≡ None) }
-        ensures draft { (t : Types) → IsKept t self.old → OnOk result (self.new.draft ≡ added_line t self.old.draft (line_of text.now)) }
+        ensures clean { (t : Types) → IsKept t self.old
+            → OnOk result (line_fault t (before self.old.draft) bytes (line_of text.now) ≡ None) }
+        ensures draft { (t : Types) → IsKept t self.old
+            → OnOk result (self.new.draft ≡ added_line t self.old.draft (line_of text.now)) }
         ensures kept { (t : Types) → IsKept t self.old → OnOk result (IsKept t self.new) }
-        ensures fault { (t : Types) → IsKept t self.old → IfErr result (λ e. Blames e number (line_fault t (before self.old.draft) bytes (line_of text.now))) }
+        ensures fault { (t : Types) → IsKept t self.old
+            → IfErr result (λ e. Blames e number (line_fault t (before self.old.draft) bytes (line_of text.now))) }
     {
         let Some(line) = line_of(alloc, text)? else {
             return Err(TableFault::At {
@@ -297,7 +304,8 @@ impl Reader {
     }
 
     fn add_method(&mut self, alloc: Global, method: MethodLine) -> Result<(), Memory>
-        ensures draft { (t : Types) → IsKept t self.old → OnOk result (self.new.draft ≡ added_method t self.old.draft method) }
+        ensures draft { (t : Types) → IsKept t self.old
+            → OnOk result (self.new.draft ≡ added_method t self.old.draft method) }
         ensures kept { (t : Types) → IsKept t self.old → OnOk result (IsKept t self.new) }
     {
         let key = key_of(alloc, &method)?;
@@ -346,7 +354,8 @@ impl Reader {
     }
 
     fn field_of(&self, number: u32, line: FieldLine) -> Field
-        ensures { (t : Types) → IsKept t self.now → result ≡ field_of t (oneofs_of self.now.draft.open_part) number line }
+        ensures { (t : Types) → IsKept t self.now
+            → result ≡ field_of t (oneofs_of self.now.draft.open_part) number line }
     {
         let kind = self.resolved(&line.kind);
         let label = self.labeled(&line.label);
@@ -360,7 +369,8 @@ impl Reader {
 
     // The oneof of a label, where the open message doesn't have it yet.
     fn new_oneof(&self, alloc: Global, label: &LabelWord) -> Result<Option<Name>, Memory>
-        ensures { (t : Types) → IsKept t self.now → IfOk result (λ r. r ≡ new_oneof (oneofs_of self.now.draft.open_part) label.now) }
+        ensures { (t : Types) → IsKept t self.now
+            → IfOk result (λ r. r ≡ new_oneof (oneofs_of self.now.draft.open_part) label.now) }
     {
         match label {
             LabelWord::Member(name) => {
@@ -375,7 +385,8 @@ impl Reader {
     }
 
     fn add_field(&mut self, alloc: Global, line: FieldLine) -> Result<(), Memory>
-        ensures draft { (t : Types) → IsKept t self.old → OnOk result (self.new.draft ≡ added_field t self.old.draft line) }
+        ensures draft { (t : Types) → IsKept t self.old
+            → OnOk result (self.new.draft ≡ added_field t self.old.draft line) }
         ensures kept { (t : Types) → IsKept t self.old → OnOk result (IsKept t self.new) }
     {
         let Some(number) = line.number else {

@@ -25,7 +25,8 @@ pub fn split_table<'a>(text: &'a [u8], head: &[u8]) -> Option<(&'a [u8], &'a [u8
 
 fn split_at_end(text: &[u8]) -> Option<(&[u8], &[u8])>
     ensures found { IfSome result (λ p. HasTableBehind [] text.now p.0.now p.1.now) }
-    ensures only { (table rest : List ℕ) → HasTableBehind [] text.now table rest → MatchOption result ⊥ (λ p. (p.0.now ≡ table) × (p.1.now ≡ rest)) }
+    ensures only { (table rest : List ℕ) → HasTableBehind [] text.now table rest
+        → MatchOption result ⊥ (λ p. (p.0.now ≡ table) × (p.1.now ≡ rest)) }
 {
     let mut rest = text;
     while let Some((line, behind)) = cut(rest, b'\n') {
@@ -42,7 +43,8 @@ fn split_at_end(text: &[u8]) -> Option<(&[u8], &[u8])>
 pub fn one_table_behind()
     ensures one { (head text table rest other more : List ℕ) → HasTableBehind head text table rest
         → HasTableBehind head text other more → (other ≡ table) × (more ≡ rest) }
-    ensures some { (head body : List ℕ) → ((table : List ℕ) × (rest : List ℕ) × HasTableBehind head (head ++ body) table rest)
+    ensures some { (head body : List ℕ)
+        → ((table : List ℕ) × (rest : List ℕ) × HasTableBehind head (head ++ body) table rest)
         ⊎ IsEndless head (head ++ body) body }
     ensures canonical { (head rest : List ℕ) (t : Table) → IsValid t
         → HasTableBehind head (head ++ (table_text t ++ (codes "end\n" ++ rest))) (table_text t) rest }

@@ -21,7 +21,8 @@ all_shares = 2 ^ 64
 
 -- in each of so many windows, where fewer than 2^64 tickets were drawn, they are the numbers from 0 on, each once
 abbrev pub AllOnce : ℕ → List (ℕ × ℕ) → Type 0
-AllOnce windows draws = (window : ℕ) → window < windows → length (tickets_in window draws) < 2 ^ 64 → EachOnce (tickets_in window draws)
+AllOnce windows draws = (window : ℕ) → window < windows → length (tickets_in window draws) < 2 ^ 64
+    → EachOnce (tickets_in window draws)
 
 -- a seat of a quota
 pub record Drawing : Type 0 where

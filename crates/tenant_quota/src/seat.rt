@@ -91,7 +91,8 @@ impl Seat {
     /// allows no more calls than it says.
     pub fn cap_is_kept(&self, window: u64, cap: u64)
         requires { window < self.now.quota.words }
-        ensures { self.now.share ≡ all_shares → length (tickets_in window self.now.draws) < 2 ^ 64 → allowed cap (tickets_in window self.now.draws) ≤ cap }
+        ensures { self.now.share ≡ all_shares → length (tickets_in window self.now.draws) < 2 ^ 64
+            → allowed cap (tickets_in window self.now.draws) ≤ cap }
     {
         let _ = (window, cap);
         self.tickets_are_distinct();

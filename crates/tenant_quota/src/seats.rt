@@ -57,7 +57,8 @@ impl Tickets for Seats {
         requires window { window < WINDOWS }
 
         ensures drawn { IfSome (drawn_by self.new tenant window) (λ tickets. IsSomeAnd (drawn_by self.old tenant window) (λ before. tickets ≡ before ++ result ∷ [])) }
-        ensures others { (t w : ℕ) → t < length self.old → w < WINDOWS → (t ≢ tenant) ⊎ (w ≢ window) → drawn_by self.new t w ≡ drawn_by self.old t w }
+        ensures others { (t w : ℕ) → t < length self.old → w < WINDOWS → (t ≢ tenant) ⊎ (w ≢ window)
+            → drawn_by self.new t w ≡ drawn_by self.old t w }
         ensures tenants { length self.new ≡ length self.old }
     {
         self.seats[tenant as usize].draw(window)

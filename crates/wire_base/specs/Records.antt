@@ -53,9 +53,12 @@ NoVarintAt bytes at WireType = ⊥
 -- a payload of the wire type stands at this place, and the next place is behind it
 abbrev pub PayloadAt : List ℕ → ℕ → ℕ → Payload → ℕ → Type 0
 PayloadAt bytes at wire_type (Varint v) next = (wire_type ≡ wire_varint) × VarintAt bytes at v next
-PayloadAt bytes at wire_type (I64 v) next = (wire_type ≡ wire_i64) × (next ≡ at + 8) × (next ≤ length bytes) × (v ≡ from_le_bytes w64 (slice_range bytes at next))
-PayloadAt bytes at wire_type (I32 v) next = (wire_type ≡ wire_i32) × (next ≡ at + 4) × (next ≤ length bytes) × (v ≡ from_le_bytes w32 (slice_range bytes at next))
-PayloadAt bytes at wire_type (Len start end) next = (wire_type ≡ wire_len) × (n : ℕ) × VarintAt bytes at n start × (end ≡ start + n) × (end ≤ length bytes) × (next ≡ end)
+PayloadAt bytes at wire_type (I64 v) next = (wire_type ≡ wire_i64) × (next ≡ at + 8) × (next ≤ length bytes)
+    × (v ≡ from_le_bytes w64 (slice_range bytes at next))
+PayloadAt bytes at wire_type (I32 v) next = (wire_type ≡ wire_i32) × (next ≡ at + 4) × (next ≤ length bytes)
+    × (v ≡ from_le_bytes w32 (slice_range bytes at next))
+PayloadAt bytes at wire_type (Len start end) next = (wire_type ≡ wire_len) × (n : ℕ) × VarintAt bytes at n start
+    × (end ≡ start + n) × (end ≤ length bytes) × (next ≡ end)
 
 -- the bytes of a payload are within the first bytes of this number
 abbrev pub IsWithin : ℕ → Payload → Type 0
@@ -96,15 +99,20 @@ pub data NoPayloadAt (bytes : List ℕ) (at wire_type : ℕ) (reason : WireReaso
   no_length : wire_type ≡ wire_len → NoVarintAt bytes at reason → NoPayloadAt bytes at wire_type reason
   short_i64 : wire_type ≡ wire_i64 → reason ≡ Short → length bytes < at + 8 → NoPayloadAt bytes at wire_type reason
   short_i32 : wire_type ≡ wire_i32 → reason ≡ Short → length bytes < at + 4 → NoPayloadAt bytes at wire_type reason
-  short_len : (n start : ℕ) → wire_type ≡ wire_len → reason ≡ Short → VarintAt bytes at n start → length bytes < start + n → NoPayloadAt bytes at wire_type reason
+  short_len : (n start : ℕ) → wire_type ≡ wire_len → reason ≡ Short → VarintAt bytes at n start
+      → length bytes < start + n → NoPayloadAt bytes at wire_type reason
 
 -- why no record stands at this place, and which place is at fault: that of the tag, or of the payload
 pub data FaultAt (bytes : List ℕ) (at : ℕ) (f : WireFault) : Type 0 where
   no_tag : f.place ≡ at → NoVarintAt bytes at f.reason → FaultAt bytes at f
-  tag_range : (tag start : ℕ) → f.place ≡ at → f.reason ≡ TagRange → VarintAt bytes at tag start → 2 ^ 32 ≤ tag → FaultAt bytes at f
-  number_zero : (tag start : ℕ) → f.place ≡ at → f.reason ≡ NumberZero → VarintAt bytes at tag start → tag < 2 ^ 32 → tag / 8 ≡ 0 → FaultAt bytes at f
-  wire_type : (tag start : ℕ) → f.place ≡ at → f.reason ≡ WireType → TagAt bytes at tag start → (IsWireType (tag % 8) → ⊥) → FaultAt bytes at f
-  no_payload : (tag start : ℕ) → f.place ≡ start → TagAt bytes at tag start → NoPayloadAt bytes start (tag % 8) f.reason → FaultAt bytes at f
+  tag_range : (tag start : ℕ) → f.place ≡ at → f.reason ≡ TagRange → VarintAt bytes at tag start → 2 ^ 32 ≤ tag
+      → FaultAt bytes at f
+  number_zero : (tag start : ℕ) → f.place ≡ at → f.reason ≡ NumberZero → VarintAt bytes at tag start → tag < 2 ^ 32
+      → tag / 8 ≡ 0 → FaultAt bytes at f
+  wire_type : (tag start : ℕ) → f.place ≡ at → f.reason ≡ WireType → TagAt bytes at tag start
+      → (IsWireType (tag % 8) → ⊥) → FaultAt bytes at f
+  no_payload : (tag start : ℕ) → f.place ≡ start → TagAt bytes at tag start
+      → NoPayloadAt bytes start (tag % 8) f.reason → FaultAt bytes at f
 
 -- records stand one behind another from this place on, and no record stands at the place behind them
 abbrev pub FaultFrom : List ℕ → ℕ → List Record → WireFault → Type 0

@@ -19,8 +19,10 @@ pub fn varint_is_read_back()
 /// One payload of a wire type stands at a place of a byte string, or none does for a reason, and never both.
 pub fn payload_or_reason()
     ensures either { (bytes : List ℕ) (at w : ℕ) → IsWireType w → at ≤ length bytes
-        → ((p : Payload) × (next : ℕ) × PayloadAt bytes at w p next) ⊎ ((reason : WireReason) × NoPayloadAt bytes at w reason) }
-    ensures not_both { (bytes : List ℕ) (at w : ℕ) (p : Payload) (next : ℕ) (reason : WireReason) → PayloadAt bytes at w p next
+        → ((p : Payload) × (next : ℕ) × PayloadAt bytes at w p next)
+        ⊎ ((reason : WireReason) × NoPayloadAt bytes at w reason) }
+    ensures not_both { (bytes : List ℕ) (at w : ℕ) (p : Payload) (next : ℕ) (reason : WireReason)
+        → PayloadAt bytes at w p next
         → NoPayloadAt bytes at w reason → ⊥ }
     ensures one_payload { (bytes : List ℕ) (at w : ℕ) (p q : Payload) (next other : ℕ) → PayloadAt bytes at w p next
         → PayloadAt bytes at w q other → (p ≡ q) × (next ≡ other) }
@@ -30,15 +32,18 @@ pub fn payload_or_reason()
 pub fn record_or_fault()
     ensures either { (bytes : List ℕ) (at : ℕ) → at ≤ length bytes
         → ((r : Record) × RecordAt bytes at r) ⊎ ((f : WireFault) × FaultAt bytes at f) }
-    ensures not_both { (bytes : List ℕ) (at : ℕ) (r : Record) (f : WireFault) → RecordAt bytes at r → FaultAt bytes at f → ⊥ }
+    ensures not_both { (bytes : List ℕ) (at : ℕ) (r : Record) (f : WireFault) → RecordAt bytes at r
+        → FaultAt bytes at f → ⊥ }
     ensures one_record { (bytes : List ℕ) (at : ℕ) (r s : Record) → RecordAt bytes at r → RecordAt bytes at s → r ≡ s }
     ensures one_fault { (bytes : List ℕ) (at : ℕ) (f g : WireFault) → FaultAt bytes at f → FaultAt bytes at g → f ≡ g }
 {}
 
 /// A byte string is one list of records or has one first fault, and never both.
 pub fn records_or_fault()
-    ensures either { (bytes : List ℕ) → ((rs : List Record) × AreRecords bytes rs) ⊎ ((f : WireFault) × HasFirstFault bytes f) }
-    ensures not_both { (bytes : List ℕ) (rs : List Record) (f : WireFault) → AreRecords bytes rs → HasFirstFault bytes f → ⊥ }
+    ensures either { (bytes : List ℕ)
+        → ((rs : List Record) × AreRecords bytes rs) ⊎ ((f : WireFault) × HasFirstFault bytes f) }
+    ensures not_both { (bytes : List ℕ) (rs : List Record) (f : WireFault) → AreRecords bytes rs
+        → HasFirstFault bytes f → ⊥ }
     ensures one_list { (bytes : List ℕ) (rs ss : List Record) → AreRecords bytes rs → AreRecords bytes ss → rs ≡ ss }
     ensures one_fault { (bytes : List ℕ) (f g : WireFault) → HasFirstFault bytes f → HasFirstFault bytes g → f ≡ g }
 {}

@@ -26,7 +26,9 @@ form_of (Member o) k = single_form k
 
 -- the content c means what a and b mean one behind the other, wherever they stand
 abbrev pub IsBoth : Form → Content → Content → Content → Type 0
-IsBoth form a b c = (label : Label) (k : Kind) → form_of label k ≡ form → (inner : ℕ → Node → Node) (before after : List Content) → field_content inner label k (before ++ c ∷ after) ≡ field_content inner label k (before ++ a ∷ b ∷ after)
+IsBoth form a b c = (label : Label) (k : Kind) → form_of label k ≡ form
+    → (inner : ℕ → Node → Node) (before after : List Content)
+    → field_content inner label k (before ++ c ∷ after) ≡ field_content inner label k (before ++ a ∷ b ∷ after)
 
 -- the item is the last of two, or has the records of both messages
 abbrev pub IsJoined : Bool → Item → Item → Item → Type 0
@@ -35,7 +37,8 @@ IsJoined false a b c = c ≡ b
 
 -- the content has the items of two contents of one value each in one
 pub data AreSingles (message : Bool) (a b c : Content) : Type 0 where
-  are_both : (i j k : Item) → singles_in (a ∷ []) ≡ i ∷ [] → singles_in (b ∷ []) ≡ j ∷ [] → singles_in (c ∷ []) ≡ k ∷ [] → IsJoined message i j k → AreSingles message a b c
+  are_both : (i j k : Item) → singles_in (a ∷ []) ≡ i ∷ [] → singles_in (b ∷ []) ≡ j ∷ []
+      → singles_in (c ∷ []) ≡ k ∷ [] → IsJoined message i j k → AreSingles message a b c
   is_second : singles_in (a ∷ []) ≡ [] → singles_in (c ∷ []) ≡ singles_in (b ∷ []) → AreSingles message a b c
   is_first : singles_in (b ∷ []) ≡ [] → singles_in (c ∷ []) ≡ singles_in (a ∷ []) → AreSingles message a b c
 
@@ -83,12 +86,14 @@ finished_of inner fs (field n c t) = with_content n (finish_at inner fs n c) (fi
 -- the values of a singular field, and one value that means what they mean, with any behind
 abbrev pub MeansAll : Kind → List Item → Option Item → Type 0
 MeansAll k is None = is ≡ []
-MeansAll k is (Some v) = (inner : ℕ → Node → Node) (after : List Item) → singular inner k (v ∷ after) ≡ singular inner k (is ++ after)
+MeansAll k is (Some v) = (inner : ℕ → Node → Node) (after : List Item)
+    → singular inner k (v ∷ after) ≡ singular inner k (is ++ after)
 
 -- the value has one more
 abbrev pub IsWith : Kind → Option Item → Item → Item → Type 0
 IsWith k None i v = v ≡ i
-IsWith k (Some b) i v = (inner : ℕ → Node → Node) (after : List Item) → singular inner k (v ∷ after) ≡ singular inner k (b ∷ i ∷ after)
+IsWith k (Some b) i v = (inner : ℕ → Node → Node) (after : List Item)
+    → singular inner k (v ∷ after) ≡ singular inner k (b ∷ i ∷ after)
 
 -- a part of an entry, where its values are in one
 abbrev pub part_of : (ℕ → Node → Node) → Kind → Option Item → Item

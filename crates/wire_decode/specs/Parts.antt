@@ -30,9 +30,11 @@ pub record IsEntry (T : Table) (room : ℕ) (key k : Kind) (bytes : List ℕ) (a
   pub content : c ≡ one (node raw)
 
 -- the first fault of an entry
-pub data NoEntry (T : Table) (room : ℕ) (key k : Kind) (bytes : List ℕ) (at : ℕ) (reason : DecodeReason) (place : ℕ) : Type 0 where
+pub data NoEntry (T : Table) (room : ℕ) (key k : Kind) (bytes : List ℕ) (at : ℕ) (reason : DecodeReason)
+    (place : ℕ) : Type 0 where
   entry_fault : Faults T room (entry_fields key k) bytes at reason place → NoEntry T room key k bytes at reason place
-  entry_room : (t : Node) → Reads T room (entry_fields key k) bytes at t → (HasRoom room k → ⊥) → reason ≡ Depth → place ≡ at → NoEntry T room key k bytes at reason place
+  entry_room : (t : Node) → Reads T room (entry_fields key k) bytes at t → (HasRoom room k → ⊥) → reason ≡ Depth
+      → place ≡ at → NoEntry T room key k bytes at reason place
 
 -- the bytes from a place on are a message inside another one
 pub record IsInner (T : Table) (room i : ℕ) (bytes : List ℕ) (at : ℕ) (c : Content) : Type 0 where
@@ -43,5 +45,6 @@ pub record IsInner (T : Table) (room i : ℕ) (bytes : List ℕ) (at : ℕ) (c :
   pub content : c ≡ one (node raw)
 
 pub data NoInner (T : Table) (room i : ℕ) (bytes : List ℕ) (at : ℕ) (reason : DecodeReason) (place : ℕ) : Type 0 where
-  inner_fault : (inside : ℕ) → room ≡ suc inside → Faults T inside (fields_of T i) bytes at reason place → NoInner T room i bytes at reason place
+  inner_fault : (inside : ℕ) → room ≡ suc inside → Faults T inside (fields_of T i) bytes at reason place
+      → NoInner T room i bytes at reason place
   inner_room : room ≡ 0 → reason ≡ Depth → place ≡ at → NoInner T room i bytes at reason place

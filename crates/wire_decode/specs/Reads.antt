@@ -43,15 +43,34 @@ mutual
   -- The records are the bytes from a place to their end, and t has the contents of the known ones in order.
   -- So many messages may still stand in one another inside.
   pub data Reads (T : Table) : ℕ → List Field → List ℕ → ℕ → Node → Type 0 where
-    read_end : {room : ℕ} {fs : List Field} {bytes : List ℕ} {at : ℕ} {t : Node} → at ≡ length bytes → t ≡ no_fields → Reads T room fs bytes at t
-    read_other : {room : ℕ} {fs : List Field} {bytes : List ℕ} {at : ℕ} {t : Node} (r : Record) → RecordAt bytes at r → is_known fs r ≡ false → Reads T room fs bytes r.next t → Reads T room fs bytes at t
-    read_known : {room : ℕ} {fs : List Field} {bytes : List ℕ} {at : ℕ} {t : Node} (r : Record) (f : Field) (c : Content) (rest : Node) → RecordAt bytes at r → field_at fs r.number ≡ Some f → Holds T room f.label f.kind bytes r.payload c → t ≡ field r.number c rest → Reads T room fs bytes r.next rest → Reads T room fs bytes at t
+    read_end : {room : ℕ} {fs : List Field} {bytes : List ℕ} {at : ℕ} {t : Node} → at ≡ length bytes → t ≡ no_fields
+        → Reads T room fs bytes at t
+    read_other : {room : ℕ} {fs : List Field} {bytes : List ℕ} {at : ℕ} {t : Node} (r : Record) → RecordAt bytes at r
+        → is_known fs r ≡ false → Reads T room fs bytes r.next t → Reads T room fs bytes at t
+    read_known : {room : ℕ} {fs : List Field} {bytes : List ℕ} {at : ℕ} {t : Node} (r : Record) (f : Field)
+        (c : Content) (rest : Node) → RecordAt bytes at r → field_at fs r.number ≡ Some f
+        → Holds T room f.label f.kind bytes r.payload c → t ≡ field r.number c rest → Reads T room fs bytes r.next rest
+        → Reads T room fs bytes at t
 
   -- what a record of a field has: a number, the elements of a packed piece, text, bytes, a message, or an entry
   pub data Holds (T : Table) : ℕ → Label → Kind → List ℕ → Payload → Content → Type 0 where
-    holds_number : {room : ℕ} {label : Label} {k : Kind} {bytes : List ℕ} {p : Payload} {c : Content} → is_map label ≡ false → is_numeric k ≡ true → payload_type p ≡ wire_type_of k → c ≡ one (number (word_of k (number_in p))) → Holds T room label k bytes p c
-    holds_piece : {room : ℕ} {label : Label} {k : Kind} {bytes : List ℕ} {p : Payload} {c : Content} (start end : ℕ) (ws : List ℕ) → may_be_packed label k ≡ true → p ≡ Len start end → AreElements k (take end bytes) start ws → c ≡ many (numbers ws) → Holds T room label k bytes p c
-    holds_text : {room : ℕ} {label : Label} {k : Kind} {bytes : List ℕ} {p : Payload} {c : Content} (start end : ℕ) → is_map label ≡ false → k ≡ Text → p ≡ Len start end → IsUtf8 (slice_range bytes start end) → c ≡ one (run (slice_range bytes start end)) → Holds T room label k bytes p c
-    holds_octets : {room : ℕ} {label : Label} {k : Kind} {bytes : List ℕ} {p : Payload} {c : Content} (start end : ℕ) → is_map label ≡ false → k ≡ Octets → p ≡ Len start end → c ≡ one (run (slice_range bytes start end)) → Holds T room label k bytes p c
-    holds_message : {room : ℕ} {label : Label} {k : Kind} {bytes : List ℕ} {p : Payload} {c : Content} (inside i start end : ℕ) (t : Node) → is_map label ≡ false → k ≡ OfMessage i → p ≡ Len start end → room ≡ suc inside → Reads T inside (fields_of T i) (take end bytes) start t → c ≡ one (node t) → Holds T room label k bytes p c
-    holds_entry : {room : ℕ} {label : Label} {k : Kind} {bytes : List ℕ} {p : Payload} {c : Content} (key : Kind) (start end : ℕ) (t : Node) → label ≡ Map key → p ≡ Len start end → Reads T room (entry_fields key k) (take end bytes) start t → HasRoom room k → c ≡ one (node t) → Holds T room label k bytes p c
+    holds_number : {room : ℕ} {label : Label} {k : Kind} {bytes : List ℕ} {p : Payload} {c : Content}
+        → is_map label ≡ false → is_numeric k ≡ true → payload_type p ≡ wire_type_of k
+        → c ≡ one (number (word_of k (number_in p))) → Holds T room label k bytes p c
+    holds_piece : {room : ℕ} {label : Label} {k : Kind} {bytes : List ℕ} {p : Payload} {c : Content} (start end : ℕ)
+        (ws : List ℕ) → may_be_packed label k ≡ true → p ≡ Len start end → AreElements k (take end bytes) start ws
+        → c ≡ many (numbers ws) → Holds T room label k bytes p c
+    holds_text : {room : ℕ} {label : Label} {k : Kind} {bytes : List ℕ} {p : Payload} {c : Content} (start end : ℕ)
+        → is_map label ≡ false → k ≡ Text → p ≡ Len start end → IsUtf8 (slice_range bytes start end)
+        → c ≡ one (run (slice_range bytes start end)) → Holds T room label k bytes p c
+    holds_octets : {room : ℕ} {label : Label} {k : Kind} {bytes : List ℕ} {p : Payload} {c : Content} (start end : ℕ)
+        → is_map label ≡ false → k ≡ Octets → p ≡ Len start end → c ≡ one (run (slice_range bytes start end))
+        → Holds T room label k bytes p c
+    holds_message : {room : ℕ} {label : Label} {k : Kind} {bytes : List ℕ} {p : Payload} {c : Content}
+        (inside i start end : ℕ) (t : Node) → is_map label ≡ false → k ≡ OfMessage i → p ≡ Len start end
+        → room ≡ suc inside → Reads T inside (fields_of T i) (take end bytes) start t → c ≡ one (node t)
+        → Holds T room label k bytes p c
+    holds_entry : {room : ℕ} {label : Label} {k : Kind} {bytes : List ℕ} {p : Payload} {c : Content} (key : Kind)
+        (start end : ℕ) (t : Node) → label ≡ Map key → p ≡ Len start end
+        → Reads T room (entry_fields key k) (take end bytes) start t → HasRoom room k → c ≡ one (node t)
+        → Holds T room label k bytes p c

@@ -68,4 +68,5 @@ suits label k p = payload_type p == own_type label k || (may_be_packed label k &
 -- whole elements of the kind, one behind another, are the bytes from this place to the end
 abbrev pub AreElements : Kind → List ℕ → ℕ → List ℕ → Type 0
 AreElements k bytes at [] = at ≡ length bytes
-AreElements k bytes at (w ∷ ws) = (p : Payload) × (next : ℕ) × PayloadAt bytes at (wire_type_of k) p next × (w ≡ word_of k (number_in p)) × AreElements k bytes next ws
+AreElements k bytes at (w ∷ ws) = (p : Payload) × (next : ℕ) × PayloadAt bytes at (wire_type_of k) p next
+    × (w ≡ word_of k (number_in p)) × AreElements k bytes next ws

@@ -25,7 +25,8 @@ pub fn one_meaning()
 pub fn meaning_or_fault()
     ensures either { (T : Table) (msg : ℕ) (bytes : List ℕ) → ((t : Node) × Means T msg bytes t)
         ⊎ ((reason : DecodeReason) × (place : ℕ) × IsFirstFault T msg bytes reason place) }
-    ensures not_both { (T : Table) (msg : ℕ) (bytes : List ℕ) (t : Node) (reason : DecodeReason) (place : ℕ) → Means T msg bytes t
+    ensures not_both { (T : Table) (msg : ℕ) (bytes : List ℕ) (t : Node) (reason : DecodeReason) (place : ℕ)
+        → Means T msg bytes t
         → IsFirstFault T msg bytes reason place → ⊥ }
 {
     payload_or_reason();
@@ -34,7 +35,8 @@ pub fn meaning_or_fault()
 
 /// Bytes have one first fault at most.
 pub fn one_fault()
-    ensures { (T : Table) (msg : ℕ) (bytes : List ℕ) (reason other : DecodeReason) (place at : ℕ) → IsFirstFault T msg bytes reason place
+    ensures { (T : Table) (msg : ℕ) (bytes : List ℕ) (reason other : DecodeReason) (place at : ℕ)
+        → IsFirstFault T msg bytes reason place
         → IsFirstFault T msg bytes other at → (reason ≡ other) × (place ≡ at) }
 {
     payload_or_reason();
@@ -43,7 +45,8 @@ pub fn one_fault()
 
 /// What bytes mean is a tree in normal form.
 pub fn meaning_is_normal()
-    ensures { (T : Table) (msg : ℕ) (bytes : List ℕ) (t : Node) → IsValid T → msg < length T.messages → All (λ b. b < 256) bytes
+    ensures { (T : Table) (msg : ℕ) (bytes : List ℕ) (t : Node) → IsValid T → msg < length T.messages
+        → All (λ b. b < 256) bytes
         → Means T msg bytes t → IsNormal T msg t }
 {
     kept_entries_are_normal();
