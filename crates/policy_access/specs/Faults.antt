@@ -24,6 +24,7 @@ use Rattle.policy_access.specs.declared.fault.RuleFault.TheVariants as fault
 abbrev pub is_rule_name : List ℕ → Bool
 is_rule_name name = (is_name_form name && is_short name) && not (bytes_eq name (codes "default"))
 
+-- the name is one of these
 abbrev pub is_among : List ℕ → List (List ℕ) → Bool
 is_among name names = list_any (λ other. bytes_eq name other) names
 
@@ -50,6 +51,7 @@ has_default lines = list_any is_default lines
 
 -- ---- reasons
 
+-- a reason against what a rule is about is one against its line
 abbrev pub reason_of : PartReason → RuleReason
 reason_of part.Word = reason.Word
 reason_of part.Number = reason.Number
