@@ -1,6 +1,8 @@
 -- What a feed keeps as a part of the stream, and how it changes.
-use Rattle.std.proofs.Common.{◌≡◌, ℕ, ◌+◌, ◌<◌, ◌^◌, List, [], ◌∷◌, ◌++◌, length, Option, Some, None, refl, sym, ap, subst, ◌∙◌, arith, length-append, append_assoc}
+use Rattle.std.proofs.Common.{◌≡◌, ℕ, ◌+◌, ◌<◌, ◌≤◌, ◌^◌, List, [], ◌∷◌, ◌++◌, length, Option, Some, None, IsSome, IfSome, IfNone, slice_get, slice_index_or, Bor, inl, inr, true, false, refl, sym, ap, subst, ◌∙◌, arith, length-append, append_assoc}
 use Rattle.std.specs.Prelude.{All}
+use Rattle.std.proofs.lemmas.Bool.{cases_lt}
+use Rattle.std.proofs.lemmas.Option.{slice_get_read, slice_get_past}
 use Rattle.std.proofs.lemmas.List.{append-nil}
 use Rattle.std.proofs.lemmas.List.Elements.{All-append, All-nil, All-head, All-tail}
 use Rattle.std.proofs.lemmas.List.Concat.{flat_map-append}
@@ -12,7 +14,7 @@ use Rattle.frame_transport.specs.declared.advance.Advance.{Advance}
 use Rattle.frame_transport.specs.declared.format.Frame.{Frame}
 use Rattle.frame_transport.specs.declared.fault.FeedFault.{FeedFault}
 use Rattle.frame_transport.proofs.FaultFacts.{fault-append, has_at}
-use Rattle.frame_transport.proofs.Splitting.{StandFrom-append, length-joined, splits_behind, length-bytes_of, partial_of_nothing, ends_once}
+use Rattle.frame_transport.proofs.Splitting.{StandFrom-append, length-joined, splits_behind, length-bytes_of, partial_of_nothing, splits_once, ends_once}
 
 -- what a clause sees of what is kept
 abbrev pub seen : ℕ → List Frame → List ℕ → ℕ → Fed
@@ -29,6 +31,12 @@ kept_ends taken waiting end begun behind fault k h = record {
   splits = record { whole = refl; each = k.each; places = k.places; partial = k.partial };
   first = has_at end (taken + length (joined waiting)) begun begun fault k.ends refl h;
 }
+
+-- the frames that are kept, and what follows them, are those of the stream
+pub kept_split : (taken : ℕ) (waiting : List Frame) (end : ℕ) (begun : List ℕ) (behind : ℕ) (frames : List Frame) (rest : List ℕ)
+    → IsKept taken waiting end begun behind → Splits taken (joined waiting ++ begun) frames rest → (waiting ≡ frames) × (begun ≡ rest)
+kept_split taken waiting end begun behind frames rest k s =
+    splits_once taken (joined waiting ++ begun) waiting frames begun rest (record { whole = refl; each = k.each; places = k.places; partial = k.partial }) s
 
 partial_front : (xs ys : List ℕ) → IsPartial (xs ++ ys) → IsPartial xs
 partial_front xs ys h f more is e = h f (more ++ ys) is (ap (λ (bs : List ℕ). bs ++ ys) e ∙ append_assoc (bytes_of f) more ys)
@@ -151,3 +159,21 @@ pub no_fault_before : (taken : ℕ) (waiting : List Frame) (end : ℕ) (begun : 
 no_fault_before taken waiting end begun behind fault k h e =
     let both : None ≡ Some fault = same_fault taken waiting end begun behind None fault k h e in
     cc
+
+-- what is looked up among the frames that are kept stands among those of the stream
+pub peeked_some : (Are : List Frame → List ℕ → Type 0) (waiting : List Frame) (count i : ℕ) (r : Option (Bor Frame)) → count ≡ length waiting
+    → ((frames : List Frame) (rest : List ℕ) → Are frames rest → waiting ≡ frames)
+    → (IsSome r → i < count) → IfSome r (λ f. f.now ≡ slice_index_or waiting i f.now)
+    → IfSome r (λ f. (frames : List Frame) (rest : List ℕ) → Are frames rest → slice_get frames i ≡ Some f.now)
+peeked_some Are waiting count i None all same within item = tt
+peeked_some Are waiting count i (Some f) all same within item = λ frames rest are.
+    subst (λ (fs : List Frame). slice_get fs i ≡ Some f.now) (same frames rest are) (slice_get_read waiting count i f.now all (within refl) item)
+
+-- and where nothing was found, none stands there
+pub peeked_none : (Are : List Frame → List ℕ → Type 0) (waiting : List Frame) (count i : ℕ) (r : Option (Bor Frame)) → count ≡ length waiting
+    → ((frames : List Frame) (rest : List ℕ) → Are frames rest → waiting ≡ frames) → (i < count → IsSome r)
+    → IfNone r ((frames : List Frame) (rest : List ℕ) → Are frames rest → slice_get frames i ≡ None)
+peeked_none Are waiting count i (Some f) all same within = tt
+peeked_none Are waiting count i None all same within = λ frames rest are.
+    subst (λ (fs : List Frame). slice_get fs i ≡ None) (same frames rest are)
+    (slice_get_past waiting i (subst (λ n. n ≤ i) all (elim (cases_lt i count) [ inl less ↦ (let wrong : false ≡ true = within less in absurd cc) | inr more ↦ more ])))

@@ -1,6 +1,6 @@
 //! A stream in pieces, and its frames.
 
-ghost use Rattle.std.specs.Prelude.{◌≡◌, ◌+◌, ◌<◌, ◌^◌, ◌++◌, ◌↔◌, ◌⊎◌, [], length, IsNone, OnOk, IfErr, IfNone, IfSome, IsErrOf, Some, None};
+ghost use Rattle.std.specs.Prelude.{◌≡◌, ◌+◌, ◌<◌, ◌^◌, ◌++◌, ◌↔◌, ◌⊎◌, [], length, IsNone, OnOk, IfErr, IfNone, IfSome, IsErrOf, List, Some, None, slice_get, ℕ};
 
 use crate::advance::go_on;
 use crate::fault::FeedFault;
@@ -46,7 +46,8 @@ impl Model for Feed {
 
 impl Feed {
     ghost use Rattle.frame_transport.specs.Feed.{Fed, total, Gives, GoesOn, StopsAt};
-    ghost use Rattle.frame_transport.specs.Frames.{Ends, IsPartial};
+    ghost use Rattle.frame_transport.specs.Frames.{Ends, IsPartial, Splits};
+    ghost use Rattle.frame_transport.specs.declared.format.Frame.{Frame};
 
     /// A stream of which nothing has come. It takes no memory.
     pub fn new(alloc: Global) -> Feed
@@ -102,6 +103,24 @@ impl Feed {
         let frame = self.waiting.pop_front()?;
         self.taken += (HEADER_LEN + frame.payload.len()) as u64;
         Some(frame)
+    }
+
+    /// The whole frame behind `i` others that weren't taken, or None where no more are there. It stays where it is.
+    pub fn peek(&self, i: usize) -> Option<&Frame>
+        ensures some { IfSome result (λ frame. (frames : List Frame) (rest : List ℕ)
+            → Splits self.now.place self.now.bytes frames rest → slice_get frames i ≡ Some frame.now) }
+        ensures none { IfNone result ((frames : List Frame) (rest : List ℕ)
+            → Splits self.now.place self.now.bytes frames rest → slice_get frames i ≡ None) }
+    {
+        self.waiting.get(i)
+    }
+
+    /// How many bytes were fed behind the last whole frame.
+    pub fn left_over(&self) -> u64
+        ensures { (frames : List Frame) (rest : List ℕ) → Splits self.now.place self.now.bytes frames rest
+            → result ≡ length rest + self.now.behind }
+    {
+        self.begun.len() as u64 + self.behind
     }
 
     /// How many bytes were fed that lie in no frame taken.

@@ -125,16 +125,16 @@ fn is_later_word(word: &[u8]) -> bool
 }
 
 impl Body {
-    /// Nothing yet.
-    pub(crate) fn new(alloc: Global) -> Body
-        ensures { result ≡ fresh_body }
+    /// Nothing yet, with room for so many lines.
+    pub(crate) fn with_room(alloc: Global, room: usize) -> Result<Body, Memory>
+        ensures { IfOk result (λ body. body ≡ fresh_body) }
     {
-        Body {
-            lines: Lines::new(alloc),
+        Ok(Body {
+            lines: Lines::with_room(alloc, room)?,
             opened: None,
             submits: 0,
             closed: false,
-        }
+        })
     }
 
     /// The words of a connection's heap, where it is open.

@@ -19,6 +19,10 @@ use mrpc_table::{Memory, Table};
 use std::alloc::Global;
 use table_text::{TableFault, one_fault, read_table, split_table};
 
+/// The bytes of the shortest line that stores a word, `store 1 1 0`. So many lines at most are worth a room of their own:
+/// nearly all lines of a long script store a word, and a text of nothing but line feeds gets no more.
+const SHORTEST_STORE: usize = 12;
+
 /// Why the lines of a text weren't read to their end.
 #[derive(Clone, Copy, Debug)]
 enum Stop {
@@ -125,7 +129,7 @@ fn read_lines(alloc: Global, text: &[u8]) -> Result<Lines, Stop>
     ensures lines { IfOk result (AreRead text.now) }
     ensures stop { IfErr result (IsStopOf text.now) }
 {
-    let mut body = Body::new(alloc);
+    let mut body = Body::with_room(alloc, text.len() / SHORTEST_STORE)?;
     let mut rest = text;
     while let Some((said, behind)) = body.next(rest) {
         match said {

@@ -5,7 +5,7 @@ use Rattle.script_lang.proofs.Verdicts.{seen}
 use Rattle.script_lang.proofs.reading.read_lines.Goals as goal
 
 pub loop-said-init : goal.loop-said-init
-loop-said-init c = rw c.new-body.ensures (record { reads = reads_none c.args.text.now; kept = kept_fresh })
+loop-said-init c = rw c.in_ok-body.ensures (record { reads = reads_none c.args.text.now; kept = kept_fresh })
 
 pub returns-in-Err-clause-stop : goal.returns-in-Err-clause-stop
 returns-in-Err-clause-stop c =
