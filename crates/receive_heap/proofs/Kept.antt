@@ -158,6 +158,33 @@ fits_some holes words index fits all =
     let d : Span = record { at = 0; words = 0 } in
     omega (arith, fits.there d, All-get_or (λ hole. hole.words < words) holes index d fits.within all)
 
+-- the first hole that fits is one
+one_first : (words : ℕ) (xs ys : List Span) (x y : Span) (more others : List Span) → xs ++ x ∷ more ≡ ys ++ y ∷ others
+    → All (λ hole. hole.words < words) xs → All (λ hole. hole.words < words) ys → words ≤ x.words → words ≤ y.words → x ≡ y
+one_first words [] [] x y more others e xs ys hx hy = cc
+one_first words [] (s ∷ ys) x y more others e all_x all_y hx hy =
+    let same : x ≡ s = cc in
+    absurd (omega (arith, ap (λ (h : Span). h.words) same, hx, All-head (λ hole. hole.words < words) s ys all_y))
+one_first words (s ∷ xs) [] x y more others e all_x all_y hx hy =
+    let same : s ≡ y = cc in
+    absurd (omega (arith, ap (λ (h : Span). h.words) same, hy, All-head (λ hole. hole.words < words) s xs all_x))
+one_first words (s ∷ xs) (z ∷ ys) x y more others e all_x all_y hx hy =
+    let rest : xs ++ x ∷ more ≡ ys ++ y ∷ others = cc in
+    one_first words xs ys x y more others rest (All-tail (λ hole. hole.words < words) s xs all_x) (All-tail (λ hole. hole.words < words) z ys all_y) hx hy
+
+pub one_fit : (holes : List Span) (words at other : ℕ) → IsFirstFit holes words at → IsFirstFit holes words other → at ≡ other
+one_fit holes words at other a b =
+    a.at_front ∙ ap (λ (h : Span). h.at) (one_first words a.before b.before a.hole b.hole a.after b.after (sym a.is ∙ b.is) a.too_small b.too_small a.fits b.fits) ∙ sym b.at_front
+
+-- where a hole fits, not all are too small
+pub fit_some : (holes : List Span) (words at : ℕ) → IsFirstFit holes words at → All (λ hole. hole.words < words) holes → ⊥
+fit_some holes words at fit all =
+    omega (arith, fit.fits, All-middle fit.before fit.hole fit.after (subst (All (λ hole. hole.words < words)) fit.is all))
+  where
+    All-middle : (before : List Span) (hole : Span) (after : List Span) → All (λ h. h.words < words) (before ++ hole ∷ after) → hole.words < words
+    All-middle [] hole after all = All-head (λ h. h.words < words) hole after all
+    All-middle (b ∷ before) hole after all = All-middle before hole after (All-tail (λ h. h.words < words) b (before ++ hole ∷ after) all)
+
 -- ---- the places
 
 -- two heaps whose places have as many owners

@@ -1,7 +1,7 @@
 //! Held blocks and holes.
 
-ghost use Rattle.std.specs.Prelude.{◌≡◌, ◌≢◌, ◌<◌, ◌≤◌, ◌+◌, ◌-◌, ◌^◌, ◌↔◌, ◌++◌, ◌∷◌, [], All, IfOk, OnOk, IfErr, OnErr, IsErr};
-ghost use Rattle.receive_heap.specs.Layout.{IsSound, IsFirstFit, IsNoHole, SaysLargest, IsWithout};
+ghost use Rattle.std.specs.Prelude.{◌≡◌, ◌≢◌, ◌<◌, ◌≤◌, ◌+◌, ◌-◌, ◌^◌, ◌↔◌, ◌++◌, ◌∷◌, [], ℕ, All, Some, IfSome, IfNone, IfOk, OnOk, IfErr, OnErr, IsErr};
+ghost use Rattle.receive_heap.specs.Layout.{IsSound, IsFirstFit, IsLargest, IsNoHole, SaysLargest, IsWithout};
 
 use crate::Span;
 use crate::holes::{cut, first_fit, free, largest};
@@ -93,6 +93,23 @@ impl Extents {
             held: BTreeMap::new(alloc),
             next: 1,
         })
+    }
+
+    /// The first place of the block of so many words that would be taken, or None where no hole has as many.
+    pub fn fit(&self, words: u64) -> Option<u64>
+        ensures some { IfSome result (IsFirstFit self.now.holes words) }
+        ensures none { IfNone result (All (λ hole. hole.words < words) self.now.holes) }
+        ensures only { (at : ℕ) → IsFirstFit self.now.holes words at → result ≡ Some at }
+    {
+        let index = first_fit(&self.holes, words)?;
+        Some(self.holes[index].at)
+    }
+
+    /// The words of the largest hole, 0 where there is none.
+    pub fn largest(&self) -> u64
+        ensures { IsLargest self.now.holes result }
+    {
+        largest(&self.holes)
     }
 
     /// Takes a block of so many words, at least 1, from the front of the first hole that has as many.
