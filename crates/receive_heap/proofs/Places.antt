@@ -34,6 +34,21 @@ hole_within layout is some i d lt =
     (λ (le : h.at + h.words ≤ layout.words). le)
     (cases_lt layout.words (h.at + h.words))
 
+-- a hole begins behind the first place
+pub hole_behind : (layout : Layout) → IsPartition layout → All (λ hole. 1 ≤ hole.words) layout.holes → (i : ℕ) (d : Span) → i < length layout.holes
+    → 1 ≤ (get_or layout.holes i d).at
+hole_behind layout is some i d lt =
+    let h = get_or layout.holes i d in
+    let one : 1 ≤ h.words = All-get_or (λ hole. 1 ≤ hole.words) layout.holes i d lt some in
+    ⊎_elim
+    (λ (first : h.at < 1).
+    let own = has_own h.at h.words 0 (omega (arith, first)) (omega (arith, one)) in
+    let part = get_or-le-sum_by (λ (hole : Span). one_of hole.at hole.words 0) layout.holes i d lt in
+    let out = is.outside 0 (inl (omega arith)) in
+    omega (arith, own, part, out))
+    (λ (le : 1 ≤ h.at). le)
+    (cases_lt h.at 1)
+
 pub are_holes : (layout : Layout) → IsPartition layout → layout.words ≤ most_words → AreApart layout.holes → All (λ hole. 1 ≤ hole.words) layout.holes → AreHoles layout.holes
 are_holes layout is most apart some = record {
   apart = apart;

@@ -98,6 +98,7 @@ impl Extents {
     /// The first place of the block of so many words that would be taken, or None where no hole has as many.
     pub fn fit(&self, words: u64) -> Option<u64>
         ensures some { IfSome result (IsFirstFit self.now.holes words) }
+        ensures inside { IfSome result (λ at. (1 ≤ at) × (at + words ≤ self.now.words)) }
         ensures none { IfNone result (All (λ hole. hole.words < words) self.now.holes) }
         ensures only { (at : ℕ) → IsFirstFit self.now.holes words at → result ≡ Some at }
     {
