@@ -26,7 +26,7 @@ pub struct Agreed {
 
 /// Whether two tables agree on a service, `version` being that of the other side's hello: under 1 where their canonical
 /// texts are equal, under 2 where the service's methods are the same, and so is each field that both know in each
-/// message type that both reach. The time goes with the fields and the methods, each found by binary search.
+/// message type that both reach. The time goes with the methods and the fields; a field is found by binary search.
 pub fn agree(
     alloc: Global,
     ours: &Table,
