@@ -146,13 +146,15 @@ no_end_with_a_rest h = let e = h.whole (inl refl) in cc (e)
 abbrev bytes_and_end : List (Piece News)
 bytes_and_end = Bytes (7 ∷ 8 ∷ []) ∷ Mark End ∷ []
 
-abbrev queues : Bool → List (Piece News) → List ℕ → Bool → ℕ → Type 0
-queues finished taken given ended faults =
-    QueuesUp 1 3 (Bytes (1 ∷ []) ∷ Mark Finish ∷ []) finished taken given ended Working faults
+abbrev queues : ℕ → Bool → List (Piece News) → List ℕ → Bool → ℕ → Type 0
+queues free finished taken given ended faults =
+    QueuesUp 1 3 free (Bytes (1 ∷ []) ∷ Mark Finish ∷ []) finished taken given ended Working faults
 
-still_comes : queues true (Bytes (7 ∷ 8 ∷ []) ∷ []) (7 ∷ []) false 0
+still_comes : queues 1 true (Bytes (7 ∷ 8 ∷ []) ∷ []) (7 ∷ []) false 0
 still_comes = record {
   places = refl;
+  for_the_end = λ e. absurd (true≢false e);
+  for_the_closing = omega arith;
   unclosed = refl;
   finishes = refl;
   ends = λ e. absurd (true≢false (sym e));
@@ -161,9 +163,11 @@ still_comes = record {
   counts = λ some. absurd (omega (arith, some));
 }
 
-all_came : queues true bytes_and_end (7 ∷ 8 ∷ []) true 0
+all_came : queues 1 true bytes_and_end (7 ∷ 8 ∷ []) true 0
 all_came = record {
   places = refl;
+  for_the_end = λ e. absurd (true≢false e);
+  for_the_closing = omega arith;
   unclosed = refl;
   finishes = refl;
   ends = λ _. inl refl;
@@ -173,17 +177,21 @@ all_came = record {
 }
 
 -- it ends only at the mark of the end, and once every byte before it was given; its finish puts a mark
-no_end_without_the_mark : queues true (Bytes (7 ∷ []) ∷ []) (7 ∷ []) true 0 → ⊥
+no_end_without_the_mark : queues 1 true (Bytes (7 ∷ []) ∷ []) (7 ∷ []) true 0 → ⊥
 no_end_without_the_mark h = absurd (h.ends refl)
 
-no_end_with_bytes_left : queues true bytes_and_end (7 ∷ []) true 0 → ⊥
+no_end_with_bytes_left : queues 1 true bytes_and_end (7 ∷ []) true 0 → ⊥
 no_end_with_bytes_left h = let e = h.gave refl in cc (e)
 
-no_mark_without_finish : queues false [] [] false 0 → ⊥
+no_mark_without_finish : queues 1 false [] [] false 0 → ⊥
 no_mark_without_finish h = true≢false h.finishes
 
+-- the places of the marks that are yet to come are free
+no_place_to_close : queues 0 true [] [] false 0 → ⊥
+no_place_to_close h = omega (arith, h.for_the_closing)
+
 -- it counts no fault while the inner link works
-no_fault_of_its_own : queues true [] [] false 1 → ⊥
+no_fault_of_its_own : queues 1 true [] [] false 1 → ⊥
 no_fault_of_its_own h = let e = h.counts (omega arith) in cc (e)
 
 -- a closed link put the closing mark last, and has learnt of a failure only by its mark

@@ -1,5 +1,5 @@
 -- What goes to a writer and what comes back from it.
-use Rattle.std.specs.Prelude.{◌≡◌, ◌⊎◌, ◌<◌, ◌+◌, ◌++◌, ℕ, Bool, true, false, List, [], ◌∷◌, Option, None, Some}
+use Rattle.std.specs.Prelude.{◌≡◌, ◌⊎◌, ◌<◌, ◌≤◌, ◌+◌, ◌++◌, ℕ, Bool, true, false, List, [], ◌∷◌, Option, None, Some}
 use Rattle.one_way_queue.specs.declared.piece.Piece.{Piece}
 use Rattle.one_way_queue.specs.declared.piece.Piece.TheVariants.{Bytes, Mark}
 use Rattle.one_way_queue.specs.Pieces.{bytes_of, marks_of}
@@ -79,12 +79,15 @@ may_hold ended (Some (Mark End)) = ended
 may_hold ended (Some (Mark Failed)) = false
 may_hold ended (Some (Mark Memory)) = false
 
--- what a link put into the queue, and what it took of the queue back: the queue has two places for the marks, it is
--- open, it was finished where a mark says so, it ended only at the end mark and with every byte before it, it learnt of
--- a failure only at that mark, and it counts faults of its own only since then
-pub record QueuesUp (most capacity : ℕ) (put : List (Piece Order)) (finished : Bool)
+-- what a link put into the queue, and what it took of the queue back: the queue has two places for the marks, which are
+-- known to be free until these are put, it is open, it was finished where a mark says so, it ended only at the end mark
+-- and with every byte before it, it learnt of a failure only at that mark, and it counts faults of its own only since
+-- then
+pub record QueuesUp (most capacity free : ℕ) (put : List (Piece Order)) (finished : Bool)
     (taken : List (Piece News)) (given : List ℕ) (ended : Bool) (health : Health) (faults : ℕ) : Type 0 where
   pub places : capacity ≡ most + 2
+  pub for_the_end : finished ≡ false → 2 ≤ free
+  pub for_the_closing : 1 ≤ free
   pub unclosed : is_open put ≡ true
   pub finishes : has_finished put ≡ finished
   pub ends : ended ≡ true → Among End (marks_of taken)

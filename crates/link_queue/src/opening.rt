@@ -3,6 +3,7 @@ ghost use Rattle.std.specs.Prelude.{◌≡◌, ◌≤◌, [], false, IfOk};
 ghost use Rattle.link_queue.specs.Writers.{writer_start, writer_forward, writer_backward};
 
 use crate::marks::Health;
+use crate::queue_link::MARK_PLACES;
 use crate::{QueueLink, QueueWriter};
 use mrpc_base::Link;
 use mrpc_table::Memory;
@@ -32,7 +33,7 @@ pub fn open<'r, R: Wait, L: Link + Drop>(
     ensures backward { IfOk result (λ ends. ends.0.backward ≡ writer_backward ends.1) }
 {
     let most = cap as usize;
-    let (out, orders) = one_way_queue::open(alloc, most + 2)?;
+    let (out, orders) = one_way_queue::open(alloc, most + MARK_PLACES)?;
     let (back, incoming) = one_way_queue::open(alloc, most)?;
     let queue_link = QueueLink::new(rt, alloc, most, out, incoming);
     Ok((queue_link, QueueWriter::new(rt, alloc, link, orders, back)))

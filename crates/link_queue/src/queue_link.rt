@@ -3,7 +3,7 @@ ghost use Rattle.std.specs.Prelude.{◌≡◌, ◌≢◌, ◌<◌, ◌≤◌, �
 ghost use mathlib.Core.List.{IsPrefix};
 ghost use Rattle.mrpc_base.specs.Faults.{HasCause, raised};
 ghost use Rattle.mrpc_base.specs.Linking.{OnCame, OnNoneCame};
-ghost use Rattle.one_way_queue.specs.Ends.{put_of, taken_of, told_of, capacity_of, producer_queue, consumer_queue};
+ghost use Rattle.one_way_queue.specs.Ends.{put_of, taken_of, told_of, capacity_of, free_of, producer_queue, consumer_queue};
 
 use crate::marks::{Health, News, Order};
 use mrpc_base::{Came, Handed, Link};
@@ -13,13 +13,16 @@ use std::alloc::Global;
 use std::marker::Model;
 use std::sync::Wait;
 
+// How many places a queue has besides those for frames: for the marks of the end and of the closing.
+pub(crate) const MARK_PLACES: usize = 2;
+
 /// A link whose frames a [`QueueWriter`](crate::QueueWriter) passes on. Contracts see it as a `Queueing`. A frame was
 /// handed over once it is in the queue.
 #[derive(Drop)]
 pub struct QueueLink<'r, R> {
     rt: &'r R,
     alloc: Global,
-    // How many frames wait at most. The queue has two places more, for the marks.
+    // How many frames wait at most. The queue has more places, for the marks.
     most: usize,
     out: Producer<Piece<Order>>,
     incoming: PieceReader<News>,
@@ -31,7 +34,7 @@ pub struct QueueLink<'r, R> {
 }
 
 impl<'r, R> Model for QueueLink<'r, R> {
-    ghost use Rattle.one_way_queue.specs.Ends.{put_of, capacity_of, producer_queue};
+    ghost use Rattle.one_way_queue.specs.Ends.{put_of, capacity_of, free_of, producer_queue};
     ghost use Rattle.one_way_queue.specs.Pieces.{bytes_of};
     ghost use Rattle.one_way_queue.specs.Readers.{given_by, taken_by, told_by, reader_queue};
     ghost use Rattle.link_queue.specs.Marks.{frames_of, QueuesUp};
@@ -41,7 +44,7 @@ impl<'r, R> Model for QueueLink<'r, R> {
 
     ghost view = { λ l. record { handed = frames_of (put_of l.out); finished = l.finished; given = given_by l.incoming; ended = l.ended; told = bytes_of (told_by l.incoming); most = l.most; health = l.health; faults = l.faults; forward = producer_queue l.out; backward = reader_queue l.incoming } };
 
-    ghost invariant = { λ l. QueuesUp l.most (capacity_of l.out) (put_of l.out) l.finished (taken_by l.incoming) (given_by l.incoming) l.ended l.health l.faults };
+    ghost invariant = { λ l. QueuesUp l.most (capacity_of l.out) (free_of l.out) (put_of l.out) l.finished (taken_by l.incoming) (given_by l.incoming) l.ended l.health l.faults };
 }
 
 impl<'r, R: Wait> QueueLink<'r, R> {
@@ -53,6 +56,7 @@ impl<'r, R: Wait> QueueLink<'r, R> {
         incoming: Consumer<Piece<News>>,
     ) -> QueueLink<'r, R>
         requires places { capacity_of out ≡ most + 2 }
+        requires free { 2 ≤ free_of out }
         requires put { put_of out ≡ [] }
         requires taken { taken_of incoming ≡ [] }
         requires told { told_of incoming ≡ [] }
@@ -80,7 +84,7 @@ impl<'r, R: Wait> QueueLink<'r, R> {
         }
     }
 
-    /// Gives the link up. It has its place in the queue, whatever waits there.
+    /// Gives the link up. The closing mark has its place in the queue, whatever waits there.
     pub fn close(self) -> Passed
         ensures handed { result.handed ≡ self.entry.handed }
         ensures given { result.given ≡ self.entry.given }
@@ -102,7 +106,7 @@ impl<'r, R: Wait> QueueLink<'r, R> {
             finished: _,
             ended,
         } = self;
-        out.put_waiting(rt, Piece::Mark(Order::Close));
+        out.put_reserved(rt, Piece::Mark(Order::Close));
         Passed {
             out,
             incoming,
@@ -130,7 +134,8 @@ impl<'r, R: Wait> QueueLink<'r, R> {
         let Ok(copy) = Bytes::from_slice(self.alloc, frame) else {
             return Handed::Memory;
         };
-        self.out.put_below(self.rt, self.most, Piece::Bytes(copy));
+        self.out
+            .put_leaving(self.rt, MARK_PLACES, Piece::Bytes(copy));
         Handed::Done
     }
 
@@ -246,7 +251,7 @@ impl<'r, R: Wait> Link for QueueLink<'r, R> {
         ensures { self.new ≡ record self.old { finished = true } }
     {
         if !self.finished {
-            self.out.put_waiting(self.rt, Piece::Mark(Order::Finish));
+            self.out.put_reserved(self.rt, Piece::Mark(Order::Finish));
             self.finished = true;
         }
     }

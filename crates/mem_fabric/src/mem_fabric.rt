@@ -6,7 +6,7 @@ ghost use Rattle.mem_fabric.specs.Pair.{ArePair};
 
 use crate::PairLink;
 use crate::listed::ListedCalls;
-use crate::pair_link::MOST_PIECES;
+use crate::pair_link::{END_PLACES, MOST_PIECES};
 use mrpc_base::{Fabric, OpenFault};
 use std::alloc::{AllocError, Global};
 use std::marker::Model;
@@ -108,8 +108,8 @@ impl<'r, R: Wait> MemFabric<'r, R> {
         ensures first { IfOk result (λ ends. IsNewEnd (numbers_of a self.now.failing_sends) (numbers_of a self.now.failing_receives) ends.0) }
         ensures second { IfOk result (λ ends. IsNewEnd (numbers_of b self.now.failing_sends) (numbers_of b self.now.failing_receives) ends.1) }
     {
-        let (from_a, to_b) = one_way_queue::open(self.alloc, MOST_PIECES + 1)?;
-        let (from_b, to_a) = one_way_queue::open(self.alloc, MOST_PIECES + 1)?;
+        let (from_a, to_b) = one_way_queue::open(self.alloc, MOST_PIECES + END_PLACES)?;
+        let (from_b, to_a) = one_way_queue::open(self.alloc, MOST_PIECES + END_PLACES)?;
         let sends_a = listed_for(self.alloc, &self.sends, a)?;
         let sends_b = listed_for(self.alloc, &self.sends, b)?;
         let receives_a = listed_for(self.alloc, &self.receives, a)?;

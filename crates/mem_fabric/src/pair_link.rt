@@ -1,7 +1,7 @@
 // One end of a link in memory.
 ghost use Rattle.std.specs.Prelude.{◌≡◌, ◌≢◌, ◌<◌, ◌≤◌, ◌↔◌, ◌⊎◌, [], ◌∷◌, ◌++◌, Contains, IsPermutation, IsTrue, length, take, true, false};
 ghost use mathlib.Core.List.{IsPrefix};
-ghost use Rattle.one_way_queue.specs.Ends.{put_of, taken_of, told_of, producer_queue, consumer_queue};
+ghost use Rattle.one_way_queue.specs.Ends.{put_of, taken_of, told_of, free_of, producer_queue, consumer_queue};
 ghost use Rattle.mrpc_base.specs.Faults.{HasCause, raised};
 ghost use Rattle.mrpc_base.specs.Linking.{OnCame, OnNoneCame};
 ghost use Rattle.mem_fabric.specs.Pair.{ArePair, IsHandedOn, told_of_all};
@@ -14,8 +14,11 @@ use std::alloc::Global;
 use std::marker::Model;
 use std::sync::Wait;
 
-// How many pieces wait in one direction at most. The queue has a place more, for the end mark.
+// How many pieces wait in one direction at most.
 pub(crate) const MOST_PIECES: usize = 65535;
+
+// How many places a queue has besides, for the end mark.
+pub(crate) const END_PLACES: usize = 1;
 
 // The mark behind the last piece.
 #[derive(Debug, Drop)]
@@ -39,8 +42,8 @@ pub struct PairLink<'r, R> {
 }
 
 impl<'r, R> Model for PairLink<'r, R> {
-    ghost use Rattle.std.specs.Prelude.{◌≡◌, Bool, true};
-    ghost use Rattle.one_way_queue.specs.Ends.{put_of, producer_queue};
+    ghost use Rattle.std.specs.Prelude.{◌≡◌, ◌<◌, Bool, true, false};
+    ghost use Rattle.one_way_queue.specs.Ends.{put_of, free_of, producer_queue};
     ghost use Rattle.one_way_queue.specs.Pieces.{bytes_of};
     ghost use Rattle.one_way_queue.specs.Readers.{given_by, taken_by, told_by, reader_queue};
     ghost use Rattle.mem_fabric.specs.Pair.{PairEnd, frames_of, IsOutgoing, HasTakenAll};
@@ -51,7 +54,8 @@ impl<'r, R> Model for PairLink<'r, R> {
 
     ghost invariant = { λ l. IsOutgoing l.finished (put_of l.out)
         × ((f : Bool) × IsOutgoing f (told_by l.incoming))
-        × (l.ended ≡ true → HasTakenAll (taken_by l.incoming) (told_by l.incoming) (given_by l.incoming)) };
+        × (l.ended ≡ true → HasTakenAll (taken_by l.incoming) (told_by l.incoming) (given_by l.incoming))
+        × (l.finished ≡ false → 0 < free_of l.out) };
 }
 
 impl<'r, R: Wait> PairLink<'r, R> {
@@ -65,6 +69,7 @@ impl<'r, R: Wait> PairLink<'r, R> {
         failing_receives: Vec<u64>,
     ) -> PairLink<'r, R>
         requires put { put_of out ≡ [] }
+        requires free { 0 < free_of out }
         requires taken { taken_of incoming ≡ [] }
         requires told { told_of incoming ≡ [] }
         ensures handed { result.handed ≡ [] }
@@ -119,7 +124,8 @@ impl<'r, R: Wait> PairLink<'r, R> {
         let Ok(copy) = Bytes::from_slice(self.alloc, frame) else {
             return Handed::Memory;
         };
-        self.out.put_below(self.rt, MOST_PIECES, Piece::Bytes(copy));
+        self.out
+            .put_leaving(self.rt, END_PLACES, Piece::Bytes(copy));
         Handed::Done
     }
 
@@ -231,7 +237,7 @@ impl<'r, R: Wait> Link for PairLink<'r, R> {
         ensures { self.new ≡ record self.old { finished = true } }
     {
         if !self.finished {
-            self.out.put_waiting(self.rt, Piece::Mark(EndMark));
+            self.out.put_reserved(self.rt, Piece::Mark(EndMark));
             self.finished = true;
         }
     }

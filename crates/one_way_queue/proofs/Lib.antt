@@ -1,3 +1,4 @@
+mod CreditMoves
 mod GivenLemmas
 mod Moves
 mod Rows

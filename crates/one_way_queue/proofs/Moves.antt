@@ -1,5 +1,5 @@
 -- Each move of an end keeps the rule of the queue.
-use Rattle.std.proofs.Common.{◌≡◌, ◌≢◌, ℕ, zero, suc, true, true≢false, List, [], ◌∷◌, ◌++◌, length, set, sym, refl, ap, ◌∙◌, subst, ⊎_elim, inl, inr, append_assoc}
+use Rattle.std.proofs.Common.{◌≡◌, ◌≢◌, ◌<◌, ◌≤◌, ◌+◌, ◌-◌, ℕ, zero, suc, true, true≢false, List, [], ◌∷◌, ◌++◌, length, length-append, set, sym, refl, ap, ◌∙◌, subst, ⊎_elim, inl, inr, append_assoc, arith}
 use Rattle.std.proofs.lemmas.List.{append-nil}
 use mathlib.Core.Option.{some, some-ne-none}
 use mathlib.Core.List.{IsPrefix}
@@ -7,7 +7,7 @@ use lib.ListN.{get_elem?}
 use Rattle.crossbeam_queue.specs.Fifo.{Pushes, Pops, Forks, Merges, Learns}
 use Rattle.crossbeam_queue.proofs.Lists.{at_set, at_snoc}
 use Rattle.one_way_queue.specs.declared.side.Side.{Side}
-use Rattle.one_way_queue.specs.Sides.{side, putting, taking, neither, Agree, Fits, IsOneWay}
+use Rattle.one_way_queue.specs.Sides.{putting, taking, both, knowing, neither, Agree, longer, Waits, Fits, IsOneWay}
 
 module _ {T : Type 0} where
   at_end : (l : List (Side T)) (a b : Side T) (j : ℕ) → get_elem? l j ≢ some b → get_elem? (l ++ a ∷ []) j ≡ some b → j ≡ length l
@@ -23,8 +23,44 @@ module _ {T : Type 0} where
   each_set F views port w mine others j u e = ⊎_elim (λ (x : (j ≡ port) × (w ≡ u)). subst (λ (y : ℕ × Side T). F y.0 y.1) (λ i. (sym x.0 i, x.1 i)) mine)
       (λ (x : (j ≢ port) × (get_elem? views j ≡ some u)). others j u x.0 x.1) (at_set views port j w u e)
 
+  fits_knowing : (writer reader port : ℕ) (put taken known : List T) → IsPrefix known taken → Fits writer reader put taken port (knowing known)
+  fits_knowing writer reader port put taken known begins = record {
+    puts = λ p. absurd (true≢false (sym p));
+    takes = λ p. absurd (true≢false (sym p));
+    told = (put, refl);
+    known = begins;
+  }
+
   fits_neither : (writer reader port : ℕ) (put taken : List T) → Fits writer reader put taken port neither
-  fits_neither writer reader port put taken = record { puts = λ p. absurd (true≢false (sym p)); takes = λ p. absurd (true≢false (sym p)); told = (put, refl) }
+  fits_neither writer reader port put taken = fits_knowing writer reader port put taken [] (taken, refl)
+
+  whole : (xs : List T) → IsPrefix xs xs
+  whole xs = ([], append-nil xs)
+
+  same_begins : (xs ys : List T) → xs ≡ ys → IsPrefix xs ys
+  same_begins xs ys same = ([], append-nil xs ∙ same)
+
+  -- the longer of two beginnings is one
+  longer_begins : (xs ys all : List T) → IsPrefix xs all → IsPrefix ys all → IsPrefix (longer xs ys) all
+  longer_begins [] ys all p q = q
+  longer_begins (x ∷ xs) [] all p q = p
+  longer_begins (x ∷ xs) (y ∷ ys) [] p q = absurd (cc (p.1))
+  longer_begins (x ∷ xs) (y ∷ ys) (z ∷ zs) p q =
+      let r : IsPrefix (longer xs ys) zs = longer_begins xs ys zs (p.0, cc (p.1)) (q.0, cc (q.1)) in (r.0, cc (r.1, p.1))
+
+  -- and no shorter than either
+  pub longer_first : (xs ys : List T) → length xs ≤ length (longer xs ys)
+  longer_first [] ys = omega arith
+  longer_first (x ∷ xs) [] = omega arith
+  longer_first (x ∷ xs) (y ∷ ys) = omega (arith, longer_first xs ys)
+
+  pub longer_second : (xs ys : List T) → length ys ≤ length (longer xs ys)
+  longer_second [] ys = omega arith
+  longer_second (x ∷ xs) [] = omega arith
+  longer_second (x ∷ xs) (y ∷ ys) = omega (arith, longer_second xs ys)
+
+  no_longer : (xs ys : List T) → IsPrefix xs ys → length xs ≤ length ys
+  no_longer xs ys p = omega (arith, ap length p.1, length-append xs p.0)
 
   prefix_longer : (xs ys : List T) (x : T) → IsPrefix xs ys → IsPrefix xs (ys ++ x ∷ [])
   prefix_longer xs ys x p = (p.0 ++ x ∷ [], sym (append_assoc xs p.0 (x ∷ [])) ∙ ap (λ l. l ++ x ∷ []) p.1)
@@ -38,20 +74,20 @@ module _ {T : Type 0} where
       let heads : x ≡ y = cc (p.1, q.1) in
       ⊎_elim (λ (r : IsPrefix xs ys). inl (r.0, cc (heads, r.1))) (λ (r : IsPrefix ys xs). inr (r.0, cc (heads, r.1))) (agree xs ys zs (p.0, cc (p.1)) (q.0, cc (q.1)))
 
-  pub begins : IsOneWay {T = T} [] (side true true [] [] [] ∷ [])
+  pub begins : IsOneWay {T = T} [] (both [] [] [] [] ∷ [])
   begins = (
     0,
     0,
     [],
     [],
     refl,
-    each_set (Fits 0 0 [] []) (side true true [] [] [] ∷ []) 0 (side true true [] [] []) (record { puts = λ _. (refl, refl); takes = λ _. (refl, refl); told = ([], refl) })
+    each_set (Fits 0 0 [] []) (both [] [] [] [] ∷ []) 0 (both [] [] [] []) (record { puts = λ _. (refl, refl); takes = λ _. (refl, refl); told = ([], refl); known = ([], refl) })
         (λ j u other e. absurd (other (at_end [] _ u j (λ x. some-ne-none u (sym x)) e))),
   )
 
-  pub puts : (n port : ℕ) (v : Side T) (x : T) → v.puts ≡ true → Pushes IsOneWay n port v x (λ w. w ≡ putting (v.put ++ x ∷ []))
+  pub puts : (n port : ℕ) (v : Side T) (x : T) → v.puts ≡ true → Pushes IsOneWay n port v x (λ w. w ≡ putting (v.put ++ x ∷ []) v.known)
   puts n port v x may items views _ h at =
-      let w : Side T = putting (v.put ++ x ∷ []) in
+      let w : Side T = putting (v.put ++ x ∷ []) v.known in
       let mine = h.5 port v at in
       let put = h.2 ++ x ∷ [] in (
         w,
@@ -61,8 +97,8 @@ module _ {T : Type 0} where
           put,
           h.3,
           ap (λ l. l ++ x ∷ []) h.4 ∙ append_assoc h.3 items (x ∷ []),
-          each_set (Fits h.0 h.1 put h.3) views port w (record { puts = λ _. ((mine.puts may).0, ap (λ l. l ++ x ∷ []) (mine.puts may).1); takes = λ p. absurd (true≢false (sym p)); told = (put, refl) })
-              (λ j u other e. let f = h.5 j u e in record { puts = λ p. absurd (other ((f.puts p).0 ∙ sym (mine.puts may).0)); takes = f.takes; told = prefix_longer u.told h.2 x f.told }),
+          each_set (Fits h.0 h.1 put h.3) views port w (record { puts = λ _. ((mine.puts may).0, ap (λ l. l ++ x ∷ []) (mine.puts may).1); takes = λ p. absurd (true≢false (sym p)); told = (put, refl); known = mine.known })
+              (λ j u other e. let f = h.5 j u e in record { puts = λ p. absurd (other ((f.puts p).0 ∙ sym (mine.puts may).0)); takes = f.takes; told = prefix_longer u.told h.2 x f.told; known = f.known }),
         ),
         refl,
       )
@@ -80,63 +116,99 @@ module _ {T : Type 0} where
           h.2,
           taken,
           h.4 ∙ sym (append_assoc h.3 (x ∷ []) items),
-          each_set (Fits h.0 h.1 h.2 taken) views port w (record { puts = λ p. absurd (true≢false (sym p)); takes = λ _. ((mine.takes may).0, ap (λ l. l ++ x ∷ []) (mine.takes may).1); told = mine.told })
-              (λ j u other e. let f = h.5 j u e in record { puts = f.puts; takes = λ p. absurd (other ((f.takes p).0 ∙ sym (mine.takes may).0)); told = f.told }),
+          each_set (Fits h.0 h.1 h.2 taken) views port w (record { puts = λ p. absurd (true≢false (sym p)); takes = λ _. ((mine.takes may).0, ap (λ l. l ++ x ∷ []) (mine.takes may).1); told = mine.told; known = (taken, refl) })
+              (λ j u other e. let f = h.5 j u e in record { puts = f.puts; takes = λ p. absurd (other ((f.takes p).0 ∙ sym (mine.takes may).0)); told = f.told; known = prefix_longer u.known h.3 x f.known }),
         ),
         (refl, agree v.told (v.taken ++ x ∷ []) h.2 mine.told (items, all)),
       )
 
-  -- a pass that may do nothing comes beside any other
-  pub admits_neither : (port : ℕ) (v : Side T) → Forks IsOneWay port v v neither
-  admits_neither port v items views h at = (
+  -- a pass that knows no more than was taken comes beside any other
+  knows_beside : (port : ℕ) (v : Side T) (known : List T) → ((writer reader : ℕ) (put taken : List T) → Fits writer reader put taken port v → IsPrefix known taken)
+      → Forks IsOneWay port v v (knowing known)
+  knows_beside port v known begins items views h at = (
     h.0,
     h.1,
     h.2,
     h.3,
     h.4,
     λ j u e. ⊎_elim (λ x. each_set (Fits h.0 h.1 h.2 h.3) views port v (h.5 port v at) (λ i y _ there. h.5 i y there) j u x)
-        (λ (is : neither ≡ u). subst (Fits h.0 h.1 h.2 h.3 j) is (fits_neither h.0 h.1 j h.2 h.3)) (at_snoc (set views port v) neither u j e),
+        (λ (is : knowing known ≡ u). subst (Fits h.0 h.1 h.2 h.3 j) is (fits_knowing h.0 h.1 j h.2 h.3 known (begins h.0 h.1 h.2 h.3 (h.5 port v at)))) (at_snoc (set views port v) (knowing known) u j e),
   )
 
+  pub admits_neither : (port : ℕ) (v : Side T) → Forks IsOneWay port v v neither
+  admits_neither port v = knows_beside port v [] (λ _ _ _ taken _. (taken, refl))
+
+  pub tells : (port : ℕ) (v : Side T) → v.takes ≡ true → Forks IsOneWay port v v (knowing v.taken)
+  tells port v may = knows_beside port v v.taken (λ _ _ _ taken f. same_begins v.taken taken (f.takes may).1)
+
   -- both roles are cut in two
-  pub parts : (port : ℕ) (v : Side T) → v.puts ≡ true → v.takes ≡ true → Forks IsOneWay port v (putting v.put) (taking v.taken v.told)
+  pub parts : (port : ℕ) (v : Side T) → v.puts ≡ true → v.takes ≡ true → Forks IsOneWay port v (putting v.put v.known) (taking v.taken v.told)
   parts port v a b items views h at =
-      let l : Side T = putting v.put in
+      let l : Side T = putting v.put v.known in
       let r : Side T = taking v.taken v.told in
       let mine = h.5 port v at in
       let vs : List (Side T) = set views port l in
-      let Old : ℕ → Side T → Type 0 = λ j u. (u.puts ≡ true → (j ≡ h.0) × (u.put ≡ h.2)) × (u.takes ≢ true) × IsPrefix u.told h.2 in
-      let old : Each Old vs = each_set Old views port l ((λ _. mine.puts a), (λ p. true≢false (sym p)), (h.2, refl))
-      (λ j u other e. let f = h.5 j u e in (f.puts, (λ p. other ((f.takes p).0 ∙ sym (mine.takes b).0)), f.told)) in (
+      let Old : ℕ → Side T → Type 0 = λ j u. (u.puts ≡ true → (j ≡ h.0) × (u.put ≡ h.2)) × (u.takes ≢ true) × IsPrefix u.told h.2 × IsPrefix u.known h.3 in
+      let old : Each Old vs = each_set Old views port l ((λ _. mine.puts a), (λ p. true≢false (sym p)), (h.2, refl), mine.known)
+      (λ j u other e. let f = h.5 j u e in (f.puts, (λ p. other ((f.takes p).0 ∙ sym (mine.takes b).0)), f.told, f.known)) in (
         h.0,
         length vs,
         h.2,
         h.3,
         h.4,
-        λ j u e. ⊎_elim (λ x. let o = old j u x in record { puts = o.0; takes = λ p. absurd (o.1 p); told = o.2 })
+        λ j u e. ⊎_elim (λ x. let o = old j u x in record { puts = o.0; takes = λ p. absurd (o.1 p); told = o.2; known = o.3 })
             (λ (is : r ≡ u). record {
               puts = λ p. absurd (true≢false (sym (ap (λ (y : Side T). y.puts) is ∙ p)));
               takes = λ p. (at_end vs r u j (λ x. (old j u x).1 p) e, ap (λ (y : Side T). y.taken) (sym is) ∙ (mine.takes b).1);
               told = subst (λ (y : Side T). IsPrefix y.told h.2) is mine.told;
+              known = subst (λ (y : Side T). IsPrefix y.known h.3) is (h.3, refl);
             }) (at_snoc vs r u j e),
       )
 
-  -- the two roles come together
-  pub joins : (port : ℕ) (v : Side T) (other : ℕ) (u : Side T) → v.puts ≡ true → u.takes ≡ true → Merges IsOneWay port v other u (side true true v.put u.taken v.put) neither
-  joins port v other u a b items views h at two at' =
-      let both : Side T = side true true v.put u.taken v.put in
-      let mine = h.5 port v at in
-      let vs : List (Side T) = set views port both in
-      let was : get_elem? views other ≡ some u = ⊎_elim (λ x. absurd (two x.0)) (λ x. x.1) (at_set views port other both u at') in
-      let theirs = (h.5 other u was).takes b in
-      let Now : ℕ → Side T → Type 0 = λ j y. j ≢ other → Fits h.0 port h.2 h.3 j y in
-      let all : IsPrefix v.put h.2 = ([], append-nil v.put ∙ (mine.puts a).1) in
-      let now : Each Now vs = each_set Now views port both (λ _. record { puts = λ _. mine.puts a; takes = λ _. (refl, theirs.1); told = all })
-      (λ j y _ e apart. let f = h.5 j y e in record { puts = f.puts; takes = λ p. absurd (apart ((f.takes p).0 ∙ sym theirs.0)); told = f.told }) in
-      (h.0, port, h.2, h.3, h.4, each_set (Fits h.0 port h.2 h.3) vs other neither (fits_neither h.0 port other h.2 h.3) (λ j y apart e. now j y e apart))
+  -- one pass takes in what another knew, which then knows nothing
+  takes_in : (port : ℕ) (v : Side T) (other : ℕ) (u w : Side T)
+      → ((writer reader : ℕ) (put taken : List T) → Fits writer reader put taken port v → Fits writer reader put taken other u
+      → (reader' : ℕ) × Fits writer reader' put taken port w × ((j : ℕ) (y : Side T) → j ≢ other → j ≢ port → Fits writer reader put taken j y → Fits writer reader' put taken j y))
+      → Merges IsOneWay port v other u w neither
+  takes_in port v other u w step items views h at two at' =
+      let vs : List (Side T) = set views port w in
+      let was : get_elem? views other ≡ some u = ⊎_elim (λ x. absurd (two x.0)) (λ x. x.1) (at_set views port other w u at') in
+      let s = step h.0 h.1 h.2 h.3 (h.5 port v at) (h.5 other u was) in
+      let Now : ℕ → Side T → Type 0 = λ j y. j ≢ other → Fits h.0 s.0 h.2 h.3 j y in
+      let now : Each Now vs = each_set Now views port w (λ _. s.1) (λ j y apart e away. s.2 j y away apart (h.5 j y e)) in
+      (h.0, s.0, h.2, h.3, h.4, each_set (Fits h.0 s.0 h.2 h.3) vs other neither (fits_neither h.0 s.0 other h.2 h.3) (λ j y apart e. now j y e apart))
 
-  pub counts : (port : ℕ) (v : Side T) → v.puts ≡ true → Learns IsOneWay port v (λ items. (taken : List T) × (taken ++ items ≡ v.put))
-  counts port v may items views h at = (h.3, sym h.4 ∙ sym ((h.5 port v at).puts may).1)
+  -- the two roles come together
+  pub joins : (port : ℕ) (v : Side T) (other : ℕ) (u : Side T) → v.puts ≡ true → u.takes ≡ true → Merges IsOneWay port v other u (both v.put u.taken v.put v.known) neither
+  joins port v other u a b =
+      takes_in port v other u (both v.put u.taken v.put v.known) (λ writer reader put taken mine theirs.
+      let t = theirs.takes b in (
+        port,
+        record { puts = λ _. mine.puts a; takes = λ _. (refl, t.1); told = same_begins v.put put (mine.puts a).1; known = mine.known },
+        λ j y away _ f. record { puts = f.puts; takes = λ p. absurd (away ((f.takes p).0 ∙ sym t.0)); told = f.told; known = f.known },
+      ))
+
+  -- the end that puts hears what was taken
+  pub hears : (port : ℕ) (v : Side T) (other : ℕ) (u : Side T) → v.puts ≡ true → Merges IsOneWay port v other u (putting v.put (longer v.known u.known)) neither
+  hears port v other u a =
+      takes_in port v other u (putting v.put (longer v.known u.known)) (λ writer reader put taken mine theirs. (
+        reader,
+        record {
+          puts = λ _. mine.puts a;
+          takes = λ p. absurd (true≢false (sym p));
+          told = (put, refl);
+          known = longer_begins v.known u.known taken mine.known theirs.known;
+        },
+        λ j y _ _ f. f,
+      ))
+
+  pub counts : (port : ℕ) (v : Side T) → v.puts ≡ true → Learns IsOneWay port v (Waits v.put v.known)
+  counts port v may items views h at = let mine = h.5 port v at in (h.3, sym h.4 ∙ sym (mine.puts may).1, mine.known)
+
+  pub behind : (port : ℕ) (v : Side T) → v.puts ≡ true → Learns IsOneWay port v (λ items. length v.known ≤ length v.put)
+  behind port v may items views h at =
+      let mine = h.5 port v at in
+      omega (arith, no_longer v.known h.3 mine.known, ap length h.4, length-append h.3 items, ap length (mine.puts may).1)
 
   pub finds : (port : ℕ) (v : Side T) → v.takes ≡ true → Learns IsOneWay port v (λ items. IsPrefix v.told (v.taken ++ items))
   finds port v may items views h at =
@@ -146,3 +218,11 @@ module _ {T : Type 0} where
 
   pub compares : (port : ℕ) (v : Side T) → v.puts ≡ true → v.takes ≡ true → Learns IsOneWay port v (λ items. v.taken ++ items ≡ v.put)
   compares port v a b items views h at = let mine = h.5 port v at in ap (λ l. l ++ items) (mine.takes b).1 ∙ sym h.4 ∙ sym (mine.puts a).1
+
+-- ---- a place that is known to be free
+
+-- hearing of more that were taken leaves no more places free than there are
+pub fits_free : {T : Type 0} (v u : Side T) (free capacity heard taken : ℕ) → free + length v.put ≡ capacity + heard → taken ≤ length u.known
+    → length (longer v.known u.known) ≤ length v.put → heard < taken → free + (taken - heard) ≤ capacity
+fits_free v u free capacity heard taken places counted few more =
+    omega (arith, places, counted, few, more, longer_second v.known u.known)

@@ -1,5 +1,5 @@
 -- The rule of a queue on two items, and the bytes and marks of a few pieces.
-use Rattle.std.proofs.Common.{◌≡◌, ℕ, zero, suc, true≢false, List, [], ◌∷◌, refl, sym, subst, inl, inr}
+use Rattle.std.proofs.Common.{◌≡◌, ℕ, zero, suc, true≢false, List, [], ◌∷◌, ◌++◌, length, length-append, refl, sym, ap, subst, inl, inr, arith}
 use mathlib.Core.Option.{some, some-injective, some-ne-none}
 use mathlib.Core.List.{IsPrefix}
 use lib.ListN.{get_elem?}
@@ -7,7 +7,7 @@ use Rattle.one_way_queue.specs.declared.piece.Piece.{Piece}
 use Rattle.one_way_queue.specs.declared.piece.Piece.TheVariants.{Bytes, Mark}
 use Rattle.one_way_queue.specs.declared.side.Side.{Side}
 use Rattle.one_way_queue.specs.Pieces.{bytes_of, marks_of}
-use Rattle.one_way_queue.specs.Sides.{putting, taking, Agree, Fits, IsOneWay}
+use Rattle.one_way_queue.specs.Sides.{putting, taking, knowing, longer, Agree, Waits, Fits, IsOneWay}
 
 -- ---- the rule, for an end that put 7 and 8 and one that took so many of them, and was told of so many
 
@@ -15,7 +15,7 @@ abbrev items_put : List ℕ
 items_put = 7 ∷ 8 ∷ []
 
 abbrev ends : List ℕ → List ℕ → List (Side ℕ)
-ends taken told = putting items_put ∷ taking taken told ∷ []
+ends taken told = putting items_put [] ∷ taking taken told ∷ []
 
 -- each end fits, wherever one was told of a beginning
 each : (taken told : List ℕ) → IsPrefix told items_put → (port : ℕ) (v : Side ℕ)
@@ -25,12 +25,14 @@ each taken told begins zero v e =
       puts = λ _. (refl, refl);
       takes = λ t. absurd (true≢false (sym t));
       told = (items_put, refl);
+      known = (taken, refl);
     }
 each taken told begins (suc zero) v e =
     subst (Fits 0 1 items_put taken 1) (some-injective _ _ e) record {
       puts = λ p. absurd (true≢false (sym p));
       takes = λ _. (refl, refl);
       told = begins;
+      known = (taken, refl);
     }
 each taken told begins (suc (suc port)) v e = absurd (some-ne-none v (sym e))
 
@@ -45,7 +47,7 @@ one_waits = (0, 1, items_put, 7 ∷ [], refl, each (7 ∷ []) items_put ([], ref
 apart : (items taken told : List ℕ) (rule : IsOneWay items (ends taken told))
     → (items_put ≡ rule.2) × (taken ≡ rule.3)
 apart items taken told rule =
-    let first = (rule.5 0 (putting items_put) refl).puts refl in
+    let first = (rule.5 0 (putting items_put []) refl).puts refl in
     let second = (rule.5 1 (taking taken told) refl).takes refl in
     (first.1, second.1)
 
@@ -70,11 +72,28 @@ none_told rule =
     cc (s.0, t.1)
 
 -- one end at most puts
-one_puts : IsOneWay {T = ℕ} (7 ∷ []) (putting (7 ∷ []) ∷ putting (7 ∷ []) ∷ []) → ⊥
+one_puts : IsOneWay {T = ℕ} (7 ∷ []) (putting (7 ∷ []) [] ∷ putting (7 ∷ []) [] ∷ []) → ⊥
 one_puts rule =
-    let first = (rule.5 0 (putting (7 ∷ [])) refl).puts refl in
-    let second = (rule.5 1 (putting (7 ∷ [])) refl).puts refl in
+    let first = (rule.5 0 (putting (7 ∷ []) []) refl).puts refl in
+    let second = (rule.5 1 (putting (7 ∷ []) []) refl).puts refl in
     cc (first.0, second.0)
+
+-- nobody knows of an item that was taken and wasn't
+none_known : IsOneWay (7 ∷ 8 ∷ []) (ends [] [] ++ knowing (7 ∷ []) ∷ []) → ⊥
+none_known rule =
+    let taken = (rule.5 1 (taking [] []) refl).takes refl in
+    let known = (rule.5 2 (knowing (7 ∷ [])) refl).known in
+    cc (taken.1, known.1)
+
+-- 8 waits, where 7 is known to have been taken; it can't be that both wait then
+one_waits_behind : Waits items_put (7 ∷ []) (8 ∷ [])
+one_waits_behind = (7 ∷ [], refl, ([], refl))
+
+not_both : Waits items_put (7 ∷ []) items_put → ⊥
+not_both w = let few = ap length w.1 in omega (arith, few, length-append w.0 items_put, ap length w.2.1, length-append (7 ∷ []) w.2.0)
+
+the_longer : longer {T = ℕ} (7 ∷ []) (7 ∷ 8 ∷ []) ≡ 7 ∷ 8 ∷ []
+the_longer = refl
 
 -- of two beginnings of one list one begins the other
 begins : Agree {T = ℕ} (7 ∷ []) (7 ∷ 8 ∷ [])

@@ -11,6 +11,10 @@ module _ {T : Type 0} where
   abbrev pub put_of : Producer T → List T
   put_of p = (view p.pass).put
 
+  -- how many places are known to be free, until more is put
+  abbrev pub free_of : Producer T → ℕ
+  free_of p = p.free
+
   -- all that was taken, in order
   abbrev pub taken_of : Consumer T → List T
   taken_of c = (view c.pass).taken

@@ -1,33 +1,52 @@
 -- What each end of a one-way queue knows, and the rule between the two.
-use Rattle.std.specs.Prelude.{◌≡◌, ◌⊎◌, ℕ, Bool, true, false, List, [], ◌++◌}
+use Rattle.std.specs.Prelude.{◌≡◌, ◌⊎◌, ℕ, Bool, true, false, List, [], ◌∷◌, ◌++◌}
 use mathlib.Core.Option.{some}
 use mathlib.Core.List.{IsPrefix}
 use lib.ListN.{get_elem?}
 use Rattle.one_way_queue.specs.declared.side.Side.{Side}
 
 module _ {T : Type 0} where
-  abbrev pub side : Bool → Bool → List T → List T → List T → Side T
-  side puts takes put taken told = record { puts = puts; takes = takes; put = put; taken = taken; told = told }
+  abbrev pub side : Bool → Bool → List T → List T → List T → List T → Side T
+  side puts takes put taken told known =
+      record { puts = puts; takes = takes; put = put; taken = taken; told = told; known = known }
 
-  -- the end that puts, the end that takes, and neither
-  abbrev pub putting : List T → Side T
-  putting put = side true false put [] []
+  -- the end that puts, which knows of items that were taken; the end that takes, which was told of items that were put;
+  -- both at once; a pass that only knows of items that were taken; and one that knows nothing
+  abbrev pub putting : List T → List T → Side T
+  putting put known = side true false put [] [] known
 
   abbrev pub taking : List T → List T → Side T
-  taking taken told = side false true [] taken told
+  taking taken told = side false true [] taken told []
+
+  abbrev pub both : List T → List T → List T → List T → Side T
+  both put taken told known = side true true put taken told known
+
+  abbrev pub knowing : List T → Side T
+  knowing known = side false false [] [] [] known
 
   abbrev pub neither : Side T
-  neither = side false false [] [] []
+  neither = knowing []
 
   -- two beginnings of one list: one of them begins the other
   abbrev pub Agree : List T → List T → Type 0
   Agree xs ys = IsPrefix xs ys ⊎ IsPrefix ys xs
+
+  -- of two beginnings of one list, the longer
+  abbrev pub longer : List T → List T → List T
+  longer [] ys = ys
+  longer (x ∷ xs) [] = x ∷ xs
+  longer (x ∷ xs) (y ∷ ys) = x ∷ longer xs ys
+
+  -- what waits is the end of what was put, behind all that is known to have been taken
+  abbrev pub Waits : List T → List T → List T → Type 0
+  Waits put known items = (taken : List T) × (taken ++ items ≡ put) × IsPrefix known taken
 
   -- what one side knows agrees with what was put and taken in all
   pub record Fits (writer reader : ℕ) (put taken : List T) (port : ℕ) (v : Side T) : Type 0 where
     pub puts : v.puts ≡ true → (port ≡ writer) × (v.put ≡ put)
     pub takes : v.takes ≡ true → (port ≡ reader) × (v.taken ≡ taken)
     pub told : IsPrefix v.told put
+    pub known : IsPrefix v.known taken
 
   -- what was put is what was taken, and behind it what waits; one side at most puts, and one at most takes
   abbrev pub IsOneWay : List T → List (Side T) → Type 0

@@ -1,19 +1,27 @@
-ghost use Rattle.std.specs.Prelude.{◌≡◌, true};
+ghost use Rattle.std.specs.Prelude.{◌≡◌, ◌≤◌, length, true};
 ghost use Rattle.std.specs.Arc.{arc_value};
 ghost use Rattle.crossbeam_queue.specs.Passes.{view, IsPassOf};
+ghost use Rattle.one_way_queue.specs.Credits.{desk_of};
 
-use crate::side::{OneWay, Side, Takes};
-use crossbeam_queue::{Pass, RuledArrayQueue};
+use crate::credit::{Back, BackPass, Credit, Credits};
+use crate::side::{Line, LinePass, Taken, Takes};
 use std::alloc::Global;
 use std::sync::{Arc, Wait};
 
 /// The end of a queue that takes items. It may go to another thread.
 #[derive(Drop)]
 pub struct Consumer<T> {
-    pub(crate) queue: Arc<RuledArrayQueue<T, Side<T>, OneWay>, Global>,
-    pub(crate) pass: Pass<T, Side<T>>,
+    pub(crate) queue: Arc<Line<T>, Global>,
+    pub(crate) pass: LinePass<T>,
+    // Through it goes back what was taken: so many items at least.
+    pub(crate) back: Arc<Back<T>, Global>,
+    pub(crate) telling: BackPass<T>,
+    pub(crate) count: usize,
     ghost of_queue: { IsPassOf (arc_value queue) pass },
     ghost takes: { (view pass).takes ≡ true },
+    ghost of_back: { IsPassOf (arc_value back) telling },
+    ghost tells: { view telling ≡ desk_of pass.table_id },
+    ghost counted: { count ≤ length (view pass).taken },
 }
 
 impl<T> Consumer<T> {
@@ -22,8 +30,8 @@ impl<T> Consumer<T> {
     ghost use Rattle.one_way_queue.specs.Ends.{taken_of, told_of, consumer_queue};
     ghost use Rattle.one_way_queue.specs.Sides.{Agree};
 
-    /// Takes the oldest item that waits. There is none only where the queue was empty at one moment of the call,
-    /// and all that this end was told of had been taken.
+    /// Takes the oldest item that waits, and tells the other end. There is none only where the queue was empty at one
+    /// moment of the call, and all that this end was told of had been taken.
     pub fn take<R: Wait>(&mut self, rt: &R) -> Option<T>
         ensures taken { IfSome result (λ item. taken_of self.new ≡ taken_of self.old ++ item ∷ []) }
         ensures agree { IfSome result (λ item. Agree (told_of self.old) (taken_of self.new)) }
@@ -32,6 +40,23 @@ impl<T> Consumer<T> {
         ensures told { told_of self.new ≡ told_of self.old }
         ensures queue { consumer_queue self.new ≡ consumer_queue self.old }
     {
-        self.queue.pop_as::<Takes, R>(rt, &mut self.pass)
+        let item = self.queue.pop_as::<Takes, R>(rt, &mut self.pass)?;
+        self.count = self.count.saturating_add(1);
+        self.tell(rt);
+        Some(item)
+    }
+
+    // Tells the other end what was taken, in place of what it was told and hasn't heard yet.
+    fn tell<R: Wait>(&mut self, rt: &R)
+        ensures taken { taken_of self.new ≡ taken_of self.old }
+        ensures told { told_of self.new ≡ told_of self.old }
+        ensures queue { consumer_queue self.new ≡ consumer_queue self.old }
+    {
+        let credit = Credit {
+            pass: self.queue.another::<Taken>(&mut self.pass),
+            taken: self.count,
+        };
+        self.back
+            .force_push_as::<Credits, Credits, R>(rt, &mut self.telling, credit);
     }
 }

@@ -1,12 +1,15 @@
 // How a queue is opened, and how its ends meet.
-ghost use Rattle.std.specs.Prelude.{◌≡◌, ◌<◌, [], IfOk};
+ghost use Rattle.std.specs.Prelude.{◌≡◌, ◌<◌, ◌≤◌, [], IfOk};
 ghost use mathlib.Core.List.{IsPrefix};
-ghost use Rattle.one_way_queue.specs.Ends.{put_of, taken_of, told_of, capacity_of, producer_queue, consumer_queue, AreEnds};
+ghost use Rattle.crossbeam_queue.specs.Passes.{view, IsPassOf};
+ghost use Rattle.one_way_queue.specs.Credits.{desk_of, unnamed};
+ghost use Rattle.one_way_queue.specs.Ends.{put_of, taken_of, told_of, free_of, capacity_of, producer_queue, consumer_queue, AreEnds};
 
-use crate::side::{Compares, Ends, Nobody, OneWay, Side};
+use crate::credit::{Back, BackPass, Named, Names};
+use crate::side::{Compares, Ends, Line, Nobody};
 use crate::{Consumer, Producer};
-use crossbeam_queue::RuledArrayQueue;
 use std::alloc::{AllocError, Global};
+use std::marker::Brand;
 use std::mem;
 use std::sync::Arc;
 
@@ -18,21 +21,51 @@ pub fn open<T: Drop>(
     requires { 0 < capacity }
     ensures ends { IfOk result (λ ends. AreEnds ends.0 ends.1) }
     ensures capacity { IfOk result (λ ends. capacity_of ends.0 ≡ capacity) }
+    ensures free { IfOk result (λ ends. free_of ends.0 ≡ capacity) }
     ensures put { IfOk result (λ ends. put_of ends.0 ≡ []) }
     ensures taken { IfOk result (λ ends. taken_of ends.1 ≡ []) }
     ensures told { IfOk result (λ ends. told_of ends.1 ≡ []) }
 {
-    let (queue, mut pass) = RuledArrayQueue::<T, Side<T>, OneWay>::ruled(alloc, capacity)?;
-    let queue = Arc::new(alloc, queue)?;
-    let other = Arc::try_clone(&queue)?;
+    let (queue, mut pass) = Line::<T>::ruled(alloc, capacity)?;
+    let (back, first) = Back::<T>::ruled(alloc, 1)?;
     let taking = queue.another::<Ends>(&mut pass);
+    let (hearing, telling) = ends_back::<T, Brand>(&back, first, &queue);
+    let queue = Arc::new(alloc, queue)?;
+    let back = Arc::new(alloc, back)?;
+    let other = Arc::try_clone(&queue)?;
+    let other_back = Arc::try_clone(&back)?;
     Ok((
-        Producer { queue, pass },
+        Producer {
+            queue,
+            pass,
+            back,
+            hearing,
+            free: capacity,
+            heard: 0,
+        },
         Consumer {
             queue: other,
             pass: taking,
+            back: other_back,
+            telling,
+            count: 0,
         },
     ))
+}
+
+// The two ends of a queue of credits of the given queue.
+fn ends_back<T, N: Named>(
+    back: &Back<T>,
+    mut first: BackPass<T>,
+    _queue: &Line<T>,
+) -> (BackPass<T>, BackPass<T>)
+    requires back { IsPassOf back.now first }
+    requires new { view first ≡ unnamed }
+    ensures back { IsPassOf back.now result.0 × IsPassOf back.now result.1 }
+    ensures named { (view result.0 ≡ desk_of N.queue) × (view result.1 ≡ desk_of N.queue) }
+{
+    let other = back.another::<Names<N>>(&mut first);
+    (first, other)
 }
 
 /// Brings the two ends of one queue together. What was taken is a beginning of what was put, and from now on the
@@ -42,6 +75,7 @@ pub fn meet<T>(producer: &mut Producer<T>, consumer: &mut Consumer<T>)
     ensures in_order { IsPrefix (taken_of consumer.new) (put_of producer.new) }
     ensures told { told_of consumer.new ≡ put_of producer.new }
     ensures put { put_of producer.new ≡ put_of producer.old }
+    ensures free { free_of producer.new ≡ free_of producer.old }
     ensures taken { taken_of consumer.new ≡ taken_of consumer.old }
     ensures producer_queue { producer_queue producer.new ≡ producer_queue producer.old }
     ensures consumer_queue { consumer_queue consumer.new ≡ consumer_queue consumer.old }

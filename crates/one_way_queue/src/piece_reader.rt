@@ -30,7 +30,7 @@ enum Next<M> {
 impl<M> PieceReader<M> {
     ghost use Rattle.std.specs.Prelude.{◌<◌, [], ◌∷◌, take};
     ghost use mathlib.Core.List.{IsPrefix};
-    ghost use Rattle.one_way_queue.specs.Ends.{told_of, put_of, capacity_of, producer_queue, consumer_queue};
+    ghost use Rattle.one_way_queue.specs.Ends.{told_of, put_of, free_of, capacity_of, producer_queue, consumer_queue};
     ghost use Rattle.one_way_queue.specs.Pieces.{OnBytes, OnMark, OnNothing, OnNoBytes, OnNoMark, marks_of, OnNextBytes, OnNextMark, OnNoNextBytes, OnNoNext};
     ghost use Rattle.one_way_queue.specs.Sides.{Agree};
     ghost use Rattle.one_way_queue.specs.Readers.{given_by, taken_by, told_by, reader_queue};
@@ -90,6 +90,7 @@ impl<M> PieceReader<M> {
         ensures bytes { IsPrefix (given_by self.new) (bytes_of (put_of producer.new)) }
         ensures told { told_by self.new ≡ put_of producer.new }
         ensures put { put_of producer.new ≡ put_of producer.old }
+        ensures free { free_of producer.new ≡ free_of producer.old }
         ensures taken { taken_by self.new ≡ taken_by self.old }
         ensures given { given_by self.new ≡ given_by self.old }
         ensures producer_queue { producer_queue producer.new ≡ producer_queue producer.old }

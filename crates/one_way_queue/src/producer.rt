@@ -1,9 +1,10 @@
-ghost use Rattle.std.specs.Prelude.{◌≡◌, true};
+ghost use Rattle.std.specs.Prelude.{◌≡◌, ◌≤◌, ◌+◌, length, true};
 ghost use Rattle.std.specs.Arc.{arc_value};
-ghost use Rattle.crossbeam_queue.specs.Passes.{view, IsPassOf};
+ghost use Rattle.crossbeam_queue.specs.Passes.{view, ruled_capacity, IsPassOf};
+ghost use Rattle.one_way_queue.specs.Credits.{desk_of};
 
-use crate::side::{OneWay, Puts, Side};
-use crossbeam_queue::{Pass, RuledArrayQueue};
+use crate::credit::{Back, BackPass, Credit, Credits};
+use crate::side::{Behind, Line, LinePass, Puts, Taken};
 use std::alloc::Global;
 use std::sync::{Arc, Wait};
 use std::thread;
@@ -11,69 +12,118 @@ use std::thread;
 /// The end of a queue that puts items. It may go to another thread.
 #[derive(Drop)]
 pub struct Producer<T> {
-    pub(crate) queue: Arc<RuledArrayQueue<T, Side<T>, OneWay>, Global>,
-    pub(crate) pass: Pass<T, Side<T>>,
+    pub(crate) queue: Arc<Line<T>, Global>,
+    pub(crate) pass: LinePass<T>,
+    // Through it comes back what was taken.
+    pub(crate) back: Arc<Back<T>, Global>,
+    pub(crate) hearing: BackPass<T>,
+    // How many places are free at least, and of how many items that were taken it heard.
+    pub(crate) free: usize,
+    pub(crate) heard: usize,
     ghost of_queue: { IsPassOf (arc_value queue) pass },
     ghost puts: { (view pass).puts ≡ true },
+    ghost of_back: { IsPassOf (arc_value back) hearing },
+    ghost hears: { view hearing ≡ desk_of pass.table_id },
+    ghost places: { free + length (view pass).put ≡ ruled_capacity (arc_value queue) + heard },
+    ghost known: { heard ≤ length (view pass).known },
 }
 
 impl<T> Producer<T> {
-    ghost use Rattle.std.specs.Prelude.{◌≡◌, ◌≤◌, [], ◌∷◌, ◌++◌, length, Err, MatchResult, OnErr, OnOk};
-    ghost use Rattle.one_way_queue.specs.Ends.{put_of, capacity_of, producer_queue};
+    ghost use Rattle.std.specs.Prelude.{◌<◌, [], ◌∷◌, ◌++◌, Err, IsOk, MatchResult, OnErr, OnOk};
+    ghost use Rattle.one_way_queue.specs.Ends.{put_of, free_of, capacity_of, producer_queue};
 
-    /// Puts an item behind those that wait. It gives the item back where the queue was full at one moment of the
-    /// call.
+    /// Puts an item behind those that wait. It gives the item back where no place is known to be free: then the queue
+    /// was full once as many had been put.
     pub fn put<R: Wait>(&mut self, rt: &R, item: T) -> Result<(), T>
         ensures done { OnOk result (put_of self.new ≡ put_of self.old ++ item ∷ []) }
         ensures back { OnErr result ((result ≡ Err item) × (put_of self.new ≡ put_of self.old)) }
         ensures full { OnErr result (capacity_of self.old ≤ length (put_of self.old)) }
+        ensures free { 0 < free_of self.old → IsOk result }
         ensures queue { producer_queue self.new ≡ producer_queue self.old }
         ensures capacity { capacity_of self.new ≡ capacity_of self.old }
     {
-        self.queue.push_as::<Puts, R>(rt, &mut self.pass, item)
+        if self.free == 0 {
+            self.hear(rt);
+        }
+        if self.free == 0 {
+            return Err(item);
+        }
+        self.put_reserved(rt, item);
+        Ok(())
     }
 
-    /// Puts an item behind those that wait, and waits while the queue is full.
+    /// Puts an item behind those that wait, at a place that is known to be free, whatever waits. It is never refused,
+    /// and tries once; it may spin behind a take that has stalled inside its own step, but never for room.
+    pub fn put_reserved<R: Wait>(&mut self, rt: &R, item: T)
+        requires { 0 < free_of self.old }
+        ensures done { put_of self.new ≡ put_of self.old ++ item ∷ [] }
+        ensures free { free_of self.old ≡ free_of self.new + 1 }
+        ensures queue { producer_queue self.new ≡ producer_queue self.old }
+        ensures capacity { capacity_of self.new ≡ capacity_of self.old }
+    {
+        match self.queue.push_as::<Puts, R>(rt, &mut self.pass, item) {
+            Ok(()) => self.free -= 1,
+            Err(_) => unreachable!(),
+        }
+    }
+
+    /// Puts an item behind those that wait, and waits while no place is free.
     pub fn put_waiting<R: Wait>(&mut self, rt: &R, item: T)
         ensures done { put_of self.new ≡ put_of self.old ++ item ∷ [] }
         ensures queue { producer_queue self.new ≡ producer_queue self.old }
         ensures capacity { capacity_of self.new ≡ capacity_of self.old }
     {
-        let mut waiting = item;
-        for _ in rt.forever() {
-            match self.put(rt, waiting) {
-                Ok(()) => return,
-                Err(back) => waiting = back,
-            }
-            thread::yield_now();
-        }
-        unreachable!()
+        self.put_leaving(rt, 0, item);
     }
 
-    /// Puts an item behind those that wait, and waits while `most` or more wait. Where no other call puts more, the
-    /// places above `most` stay free for [`Producer::put_waiting`].
-    pub fn put_below<R: Wait>(&mut self, rt: &R, most: usize, item: T)
+    /// Puts an item behind those that wait, and waits while at most `places` places are free. So many stay free.
+    pub fn put_leaving<R: Wait>(&mut self, rt: &R, places: usize, item: T)
         ensures done { put_of self.new ≡ put_of self.old ++ item ∷ [] }
+        ensures free { places ≤ free_of self.new }
         ensures queue { producer_queue self.new ≡ producer_queue self.old }
         ensures capacity { capacity_of self.new ≡ capacity_of self.old }
     {
-        self.wait_below(rt, most);
-        self.put_waiting(rt, item);
+        self.wait_for_more(rt, places);
+        self.put_reserved(rt, item);
     }
 
-    // Waits until fewer than `most` items wait.
-    fn wait_below<R: Wait>(&mut self, rt: &R, most: usize)
+    // Waits until more than `places` places are known to be free.
+    fn wait_for_more<R: Wait>(&mut self, rt: &R, places: usize)
+        ensures free { places < free_of self.new }
         ensures same { put_of self.new ≡ put_of self.old }
         ensures queue { producer_queue self.new ≡ producer_queue self.old }
         ensures capacity { capacity_of self.new ≡ capacity_of self.old }
     {
         for _ in rt.forever() {
-            if self.len(rt) < most {
+            if places < self.free {
                 return;
             }
-            thread::yield_now();
+            if !self.hear(rt) {
+                thread::yield_now();
+            }
         }
         unreachable!()
+    }
+
+    // Hears what the other end took, and answers whether it had told anything.
+    fn hear<R: Wait>(&mut self, rt: &R) -> bool
+        ensures free { free_of self.old ≤ free_of self.new }
+        ensures same { put_of self.new ≡ put_of self.old }
+        ensures queue { producer_queue self.new ≡ producer_queue self.old }
+        ensures capacity { capacity_of self.new ≡ capacity_of self.old }
+    {
+        let Some(credit) = self.back.pop_as::<Credits, R>(rt, &mut self.hearing) else {
+            return false;
+        };
+        let Credit { pass, taken } = credit;
+        self.queue.absorb::<Taken>(&mut self.pass, pass);
+        self.queue.learn_as::<Behind>(&mut self.pass);
+        if taken > self.heard {
+            let most = self.queue.capacity();
+            self.free = most.min(self.free + (taken - self.heard));
+            self.heard = taken;
+        }
+        true
     }
 
     /// How many items waited at one moment of the call. From then on at most as many wait until the next is put.
@@ -81,6 +131,7 @@ impl<T> Producer<T> {
         ensures capacity { result ≤ capacity_of self.old }
         ensures put { result ≤ length (put_of self.old) }
         ensures same { put_of self.new ≡ put_of self.old }
+        ensures free { free_of self.new ≡ free_of self.old }
         ensures queue { producer_queue self.new ≡ producer_queue self.old }
         ensures same_capacity { capacity_of self.new ≡ capacity_of self.old }
     {

@@ -1,26 +1,34 @@
 // What each end of a queue knows of it, and the rule between the two.
 use crossbeam_queue::protocol::{Join, Lesson, Outcome, Protocol, Split};
+use crossbeam_queue::{Pass, RuledArrayQueue};
 use std::collections::LinkedList;
 
-// What an end may do, what it has put and taken, and a beginning of what was put. No value of it is made.
+// A queue under the rule, and its passes.
+pub(crate) type Line<T> = RuledArrayQueue<T, Side<T>, OneWay>;
+
+pub(crate) type LinePass<T> = Pass<T, Side<T>>;
+
+// What an end may do, what it has put and taken, a beginning of what was put, and one of what was taken. No value of it
+// is made.
 pub struct Side<T> {
     pub puts: bool,
     pub takes: bool,
     pub put: LinkedList<T>,
     pub taken: LinkedList<T>,
     pub told: LinkedList<T>,
+    pub known: LinkedList<T>,
 }
 
 // What comes out is what was put, in order.
 pub struct OneWay;
 
 impl<T> Protocol<T, Side<T>> for OneWay {
-    ghost use Rattle.std.specs.Prelude.{true, []};
-    ghost use Rattle.one_way_queue.specs.Sides.{side, IsOneWay};
+    ghost use Rattle.one_way_queue.specs.Sides.{both, IsOneWay};
+    ghost use Rattle.std.specs.Prelude.{[]};
 
     ghost holds = { IsOneWay };
 
-    ghost first = { side true true [] [] [] };
+    ghost first = { both [] [] [] [] };
 }
 
 // The two ends, apart and together. Together the one that takes is told of all that was put.
@@ -29,16 +37,15 @@ pub struct Ends;
 impl<T> Split<Side<T>> for Ends {
     ghost use Rattle.one_way_queue.specs.Sides.{putting, taking};
 
-    ghost left = { λ v. putting v.put };
+    ghost left = { λ v. putting v.put v.known };
 
     ghost right = { λ v. taking v.taken v.told };
 }
 
 impl<T> Join<Side<T>> for Ends {
-    ghost use Rattle.std.specs.Prelude.{true};
-    ghost use Rattle.one_way_queue.specs.Sides.{side, neither};
+    ghost use Rattle.one_way_queue.specs.Sides.{both, neither};
 
-    ghost both = { λ v w. side true true v.put w.taken v.put };
+    ghost both = { λ v w. both v.put w.taken v.put v.known };
 
     ghost spent = { neither };
 }
@@ -54,20 +61,48 @@ impl<T> Split<Side<T>> for Nobody {
     ghost right = { λ v. neither };
 }
 
+// A pass that knows what the end that takes has taken, and the end that puts once it was told so.
+pub struct Taken;
+
+impl<T> Split<Side<T>> for Taken {
+    ghost use Rattle.one_way_queue.specs.Sides.{knowing};
+
+    ghost left = { λ v. v };
+
+    ghost right = { λ v. knowing v.taken };
+}
+
+impl<T> Join<Side<T>> for Taken {
+    ghost use Rattle.one_way_queue.specs.Sides.{putting, neither, longer};
+
+    ghost both = { λ v w. putting v.put (longer v.known w.known) };
+
+    ghost spent = { neither };
+}
+
 pub struct Puts;
 
 impl<T> Outcome<T, Side<T>> for Puts {
     ghost use Rattle.std.specs.Prelude.{◌≡◌, [], ◌∷◌, ◌++◌};
     ghost use Rattle.one_way_queue.specs.Sides.{putting};
 
-    ghost then = { λ v x w. w ≡ putting (v.put ++ x ∷ []) };
+    ghost then = { λ v x w. w ≡ putting (v.put ++ x ∷ []) v.known };
 }
 
-// What waits is the end of what was put.
+// What waits is the end of what was put, and behind what is known to have been taken.
 impl<T> Lesson<T, Side<T>> for Puts {
-    ghost use Rattle.std.specs.Prelude.{◌≡◌, ◌++◌, List};
+    ghost use Rattle.one_way_queue.specs.Sides.{Waits};
 
-    ghost fact = { λ v items. (taken : List T) × (taken ++ items ≡ v.put) };
+    ghost fact = { λ v items. Waits v.put v.known items };
+}
+
+// No more are known to have been taken than were put.
+pub struct Behind;
+
+impl<T> Lesson<T, Side<T>> for Behind {
+    ghost use Rattle.std.specs.Prelude.{◌≤◌, length};
+
+    ghost fact = { λ v items. length v.known ≤ length v.put };
 }
 
 pub struct Takes;

@@ -1,4 +1,4 @@
-use Rattle.std.proofs.Common.{◌≡◌, true, List, ℕ, ap, sym, subst, ◌∙◌}
+use Rattle.std.proofs.Common.{◌≡◌, ◌<◌, true, List, ℕ, ap, sym, subst, ◌∙◌}
 use Rattle.std.specs.List.{concat}
 use mathlib.Core.List.{IsPrefix}
 use Rattle.one_way_queue.specs.Ends.{put_of}
@@ -17,6 +17,7 @@ invariant_of-first g c =
       (c.second.inside.finished, subst (IsOutgoing c.second.inside.finished) (sym (e.told ∙ e.put)) c.second.invariant.0),
       λ ended. (met_after_end c.second.inside.finished (put_of from) (put_of c.meet.new.producer) (taken_by to) (taken_by c.meet.new.self) (told_by to) (told_by c.meet.new.self) (given_by to) (given_by c.meet.new.self)
           c.second.invariant.0 e.put e.taken e.given e.told e.in_order (c.first.invariant.2 ended)).2,
+      λ unfinished. subst (λ (n : ℕ). 0 < n) (sym c.meet-2.ensures.free) (c.first.invariant.3 unfinished),
     )
 
 pub invariant_of-second : goal.invariant_of-second
@@ -28,6 +29,7 @@ invariant_of-second g c =
       (c.first.inside.finished, subst (IsOutgoing c.first.inside.finished) (sym (e.told ∙ e.put)) c.first.invariant.0),
       λ ended. (met_after_end c.first.inside.finished (put_of from) (put_of c.meet-2.new.producer) (taken_by to) (taken_by c.meet-2.new.self) (told_by to) (told_by c.meet-2.new.self) (given_by to) (given_by c.meet-2.new.self)
           c.first.invariant.0 e.put e.taken e.given e.told e.in_order (c.second.invariant.2 ended)).2,
+      λ unfinished. subst (λ (n : ℕ). 0 < n) (sym c.meet.ensures.free) (c.second.invariant.3 unfinished),
     )
 
 pub returns-clause-to_second : goal.returns-clause-to_second

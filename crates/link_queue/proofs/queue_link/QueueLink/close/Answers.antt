@@ -11,14 +11,14 @@ invariant_of-result g c =
     let inv = c.self.invariant in
     let fails : (c.eq.result ≡ true → c.self.inside.health ≡ Failed) = search rules in
     record {
-      closed_last = ap is_closed c.put_waiting.ensures.done ∙ closed_snoc_close (put_of c.self.inside.out) inv.unclosed;
+      closed_last = ap is_closed c.put_reserved.ensures.done ∙ closed_snoc_close (put_of c.self.inside.out) inv.unclosed;
       ends = inv.ends;
       gave = inv.gave;
       fails = λ e. inv.fails (fails e);
     }
 
 pub returns-clause-handed : goal.returns-clause-handed
-returns-clause-handed g c = ap frames_of c.put_waiting.ensures.done ∙ frames_snoc_mark (put_of c.self.inside.out) Close ∙ ap (λ v. v.handed) c.self.view_is
+returns-clause-handed g c = ap frames_of c.put_reserved.ensures.done ∙ frames_snoc_mark (put_of c.self.inside.out) Close ∙ ap (λ v. v.handed) c.self.view_is
 
 pub returns-clause-counted : goal.returns-clause-counted
 returns-clause-counted g c = λ some.

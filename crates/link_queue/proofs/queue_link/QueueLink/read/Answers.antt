@@ -11,6 +11,8 @@ invariant_of-self-in-Mark-End g c =
     let e = c.in-Mark-End.ensures in
     record {
       places = inv.places;
+      for_the_end = inv.for_the_end;
+      for_the_closing = inv.for_the_closing;
       unclosed = inv.unclosed;
       finishes = inv.finishes;
       ends = λ _. found_among End _ _ _ e.mark c.in-Mark-End.field-0-is;
@@ -25,6 +27,8 @@ invariant_of-self-in-Mark-Failed g c =
     let e = c.in-Mark-Failed.ensures in
     record {
       places = inv.places;
+      for_the_end = inv.for_the_end;
+      for_the_closing = inv.for_the_closing;
       unclosed = inv.unclosed;
       finishes = inv.finishes;
       ends = λ h. found_too End _ _ _ e.mark (inv.ends h);

@@ -14,6 +14,7 @@ invariant_of-self-in-Mark g c =
       inv.0,
       (inv.1.0, subst (IsOutgoing inv.1.0) (sym e.told) inv.1.1),
       λ _. ends_with_all inv.1.0 (told_by before) (told_by after) (taken_by before) (taken_by after) (given_by after) c.in-Mark.field-0 inv.1.1 e.told e.mark e.agree e.all,
+      inv.3,
     )
 
 pub returns-in-Nothing-clause-told : goal.returns-in-Nothing-clause-told
