@@ -6,4 +6,6 @@ mod pairs;
 #[cfg(test)]
 mod queues;
 #[cfg(test)]
+mod through;
+#[cfg(test)]
 mod writers;
