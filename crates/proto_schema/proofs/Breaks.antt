@@ -1,0 +1,233 @@
+-- Tokens go on to a whole text where the reading isn't at a fault, and not where it is.
+use Rattle.std.proofs.Common.{subst, ◌≡◌, ◌⊎◌, inl, inr, Bool, true, false, List, [], ◌∷◌, ◌++◌, codes, refl, ap, sym, ◌∙◌}
+use Rattle.std.specs.Prelude.{Ok, Err, Result, if◌then◌else◌}
+use Rattle.std.specs.Str.{bytes_eq}
+use Rattle.proto_schema.specs.Lexemes.{Meaning, identifier, integer, number, string, mark, the_end, none, Lexeme, semicolon, equals, says}
+use Rattle.proto_schema.specs.Files.{Draft, Forms, nothing_said}
+use Rattle.proto_schema.specs.Faults.{is_no_token}
+use Rattle.proto_schema.specs.Reading.{fault_at, unexpected, is_mark}
+use Rattle.proto_schema.specs.Running.{place_of, added, statement_step, Outcome, cut_off, read, failed, is_over, behind, run, reading, behind_word, behind_equals, behind_value, behind_syntax}
+use Rattle.proto_schema.proofs.Next.{run_step, run_over}
+use Rattle.proto_schema.specs.declared.file.File.{File}
+use Rattle.proto_schema.specs.declared.fault.ProtoReason.TheVariants as reasons
+use Rattle.proto_schema.specs.declared.fault.ProtoFault.{ProtoFault}
+use Rattle.proto_schema.specs.declared.statement.State.{State}
+use Rattle.proto_schema.specs.declared.statement.State.TheVariants as states
+use Rattle.proto_schema.specs.declared.statement.Step.{Step}
+use Rattle.proto_schema.specs.declared.statement.Step.TheVariants as steps
+use Rattle.std.proofs.lemmas.List.{append-nil}
+use Rattle.proto_schema.specs.Faults.{CanGoOn}
+use Rattle.proto_schema.proofs.RunRest.{not_deep, Begun, begun, reading_reads}
+use Rattle.proto_schema.proofs.RunReads.{forms_read}
+use Rattle.proto_schema.proofs.Finishing.{state_ending, token, a_mark}
+
+-- ---- what comes of further tokens
+
+abbrev pub Continues : Outcome → List Lexeme → Outcome → Type 0
+Continues (cut_off d s) ys o = o ≡ run false d s ys
+Continues (read file) ys o = o ≡ read file
+Continues (failed e) ys o = o ≡ failed e
+
+abbrev On : List Lexeme → List Lexeme → Type 0
+On xs ys = (d : Draft) (s : State) → Continues (run false d s xs) ys (run false d s (xs ++ ys))
+
+behind_on : (xs ys : List Lexeme) (d : Draft) (x : Lexeme) (r : Result Step ProtoFault) → On xs ys
+    → Continues (behind (λ c t. run false c t xs) false d x r) ys (behind (λ c t. run false c t (xs ++ ys)) false d x r)
+behind_on xs ys d x (Ok (steps.More t)) g = g d t
+behind_on xs ys d x (Ok (steps.Done v)) g = rw (not_deep d v) (g (added d v) states.Begin)
+behind_on xs ys d x (Err e) g = refl
+
+nothing_on : (ys : List Lexeme) → On [] ys
+unfolding run
+nothing_on ys d s = refl
+
+token_on : (x : Lexeme) (xs ys : List Lexeme) → On xs ys → On (x ∷ xs) ys
+token_on x xs ys g d s = by (is_over d s x) refl
+  where
+    by : (b : Bool) → is_over d s x ≡ b → Continues (run false d s (x ∷ xs)) ys (run false d s (x ∷ xs ++ ys))
+    by true e = rw (run_over false d s x xs e) (run_over false d s x (xs ++ ys) e)
+    by false e = rw (run_step false d s x xs e) (rw (run_step false d s x (xs ++ ys) e) (behind_on xs ys d x (statement_step (place_of d) s x) g))
+
+pub run_on : (xs ys : List Lexeme) → On xs ys
+run_on [] ys = nothing_on ys
+run_on (x ∷ xs) ys = token_on x xs ys (run_on xs ys)
+
+-- ---- the same of the syntax statement
+
+abbrev Fails : ProtoFault → Outcome → Outcome → Type 0
+Fails e o p = o ≡ failed e → p ≡ failed e
+
+run_fails : (e : ProtoFault) (d : Draft) (s : State) (xs ys : List Lexeme)
+    → Fails e (run false d s xs) (run false d s (xs ++ ys))
+run_fails e d s xs ys h = rw h at (run_on xs ys d s)
+
+syntax_fails : (e : ProtoFault) (xs ys : List Lexeme)
+    → Fails e (behind_syntax false xs) (behind_syntax false (xs ++ ys))
+syntax_fails e [] ys h = absurd (let t : cut_off nothing_said states.Begin ≡ failed e = h in cc)
+syntax_fails e (z ∷ zs) ys h = by (is_mark z.means semicolon) h
+  where
+    by : (b : Bool) → Fails e (if b then run false nothing_said states.Begin zs else failed (unexpected z)) (if b then run false nothing_said states.Begin (zs ++ ys) else failed (unexpected z))
+    by true h = run_fails e nothing_said states.Begin zs ys h
+    by false h = h
+
+value_fails : (e : ProtoFault) (w y : Lexeme) (xs ys : List Lexeme) (m : Meaning)
+    → Fails e (behind_value false w y xs m) (behind_value false w y (xs ++ ys) m)
+value_fails e w y xs ys (string v) h = by (bytes_eq v (codes "proto3")) h
+  where
+    by : (b : Bool) → Fails e (if b then behind_syntax false xs else failed (fault_at reasons.Syntax2 w.span)) (if b then behind_syntax false (xs ++ ys) else failed (fault_at reasons.Syntax2 w.span))
+    by true h = syntax_fails e xs ys h
+    by false h = h
+value_fails e w y xs ys (identifier v) h = h
+value_fails e w y xs ys (integer v) h = h
+value_fails e w y xs ys number h = h
+value_fails e w y xs ys (mark v) h = h
+value_fails e w y xs ys the_end h = h
+value_fails e w y xs ys none h = h
+
+equals_fails : (e : ProtoFault) (w : Lexeme) (xs ys : List Lexeme)
+    → Fails e (behind_equals false w xs) (behind_equals false w (xs ++ ys))
+equals_fails e w [] ys h = absurd (let t : cut_off nothing_said states.Begin ≡ failed e = h in cc)
+equals_fails e w (y ∷ xs) ys h = value_fails e w y xs ys y.means h
+
+word_fails : (e : ProtoFault) (w : Lexeme) (xs ys : List Lexeme)
+    → Fails e (behind_word false w xs) (behind_word false w (xs ++ ys))
+word_fails e w [] ys h = absurd (let t : cut_off nothing_said states.Begin ≡ failed e = h in cc)
+word_fails e w (x ∷ xs) ys h = by (is_mark x.means equals) h
+  where
+    by : (b : Bool) → Fails e (if b then behind_equals false w xs else failed (unexpected x)) (if b then behind_equals false w (xs ++ ys) else failed (unexpected x))
+    by true h = equals_fails e w xs ys h
+    by false h = h
+
+pub reading_fails : (e : ProtoFault) (xs ys : List Lexeme) → Fails e (reading false xs) (reading false (xs ++ ys))
+reading_fails e [] ys h = absurd (let t : cut_off nothing_said states.Begin ≡ failed e = h in cc)
+reading_fails e (w ∷ xs) ys h = by (says w.means (codes "syntax")) h
+  where
+    by : (b : Bool) → Fails e (if b then behind_word false w xs else if is_no_token w.means then failed (unexpected w) else failed (fault_at reasons.Syntax2 w.span))
+        (if b then behind_word false w (xs ++ ys) else if is_no_token w.means then failed (unexpected w) else failed (fault_at reasons.Syntax2 w.span))
+    by true h = word_fails e w xs ys h
+    by false h = h
+
+-- what is at a fault doesn't go on
+pub at_fault : (e : ProtoFault) (xs : List Lexeme) → reading false xs ≡ failed e → CanGoOn xs → ⊥
+at_fault e xs h (ys, file, f) =
+    let a : reading false (xs ++ ys) ≡ read file = ap (reading false) (sym (append-nil (xs ++ ys))) ∙ forms_read [] f in
+    let b : failed e ≡ read file = sym (reading_fails e xs ys h) ∙ a in
+    cc
+
+-- ---- what is cut off goes on
+
+abbrev Ends : List Lexeme → Type 0
+Ends xs = (ys : List Lexeme) × (file : File) × (reading false (xs ++ ys) ≡ read file)
+
+-- one of two fronts of a list is a front of the other
+fronts : (xs ys front rest : List Lexeme) → xs ++ ys ≡ front ++ rest
+    → ((more : List Lexeme) × (front ≡ xs ++ more)) ⊎ ((more : List Lexeme) × (xs ≡ front ++ more))
+fronts [] ys front rest e = inl (front, refl)
+fronts (x ∷ xs) ys [] rest e = inr (x ∷ xs, refl)
+fronts (x ∷ xs) ys (f ∷ front) rest e =
+    let a : ◌≡◌ {A = List Lexeme} (x ∷ xs ++ ys) (f ∷ front ++ rest) = e in
+    let b : x ≡ f = cc in
+    let c : xs ++ ys ≡ front ++ rest = cc in
+    by b (fronts xs ys front rest c)
+  where
+    by : x ≡ f → ((more : List Lexeme) × (front ≡ xs ++ more)) ⊎ ((more : List Lexeme) × (xs ≡ front ++ more))
+        → ((more : List Lexeme) × (f ∷ front ≡ x ∷ xs ++ more)) ⊎ ((more : List Lexeme) × (x ∷ xs ≡ f ∷ front ++ more))
+    by b (inl (more, q)) = inl (more, let g : f ∷ front ≡ x ∷ xs ++ more = (cc) in g)
+    by b (inr (more, q)) = inr (more, let g : x ∷ xs ≡ f ∷ front ++ more = (cc) in g)
+
+-- tokens that aren't a whole text yet, and end with others, go on
+goes_on : (xs ys : List Lexeme) (file : File) → ((f : File) → reading false xs ≡ read f → ⊥)
+    → reading false (xs ++ ys) ≡ read file → CanGoOn xs
+goes_on xs ys file n r = by (reading_reads (xs ++ ys) file r)
+  where
+    at : (front rest : List Lexeme) → Forms front file
+        → ((more : List Lexeme) × (front ≡ xs ++ more)) ⊎ ((more : List Lexeme) × (xs ≡ front ++ more)) → CanGoOn xs
+    at front rest f (inl (more, q)) = (more, file, subst (λ (l : List Lexeme). Forms l file) q f)
+    at front rest f (inr (more, q)) = absurd (n file (ap (reading false) q ∙ forms_read more f))
+
+    by : Begun (xs ++ ys) file → CanGoOn xs
+    by (begun {front = front} rest f q) = at front rest f (fronts xs ys front rest q)
+
+abbrev the_last : List Lexeme
+the_last = token the_end ∷ []
+
+nothing_ends : run false nothing_said states.Begin the_last ≡ read nothing_said.file
+nothing_ends = run_over false nothing_said states.Begin (token the_end) [] refl
+
+abbrev the_path : Lexeme
+the_path = token (string (codes "proto3"))
+
+-- what comes of the tokens, and of these with others
+abbrev Finishes : (List Lexeme → Outcome) → List Lexeme → Type 0
+Finishes o xs = (ys : List Lexeme) × (file : File) × (o (xs ++ ys) ≡ read file)
+
+cut_run : (xs : List Lexeme) (d : Draft) (s : State) → run false nothing_said states.Begin xs ≡ cut_off d s
+    → Finishes (λ l. run false nothing_said states.Begin l) xs
+cut_run xs d s h = by (state_ending d s)
+  where
+    by : (ys : List Lexeme) × (file : File) × (run false d s ys ≡ read file)
+        → Finishes (λ l. run false nothing_said states.Begin l) xs
+    by (ys, file, r) = (ys, file, (let c : Continues (run false nothing_said states.Begin xs) ys (run false nothing_said states.Begin (xs ++ ys)) = run_on xs ys nothing_said states.Begin in rw h at c) ∙ r)
+
+cut_syntax : (xs : List Lexeme) (d : Draft) (s : State) → behind_syntax false xs ≡ cut_off d s
+    → Finishes (λ l. behind_syntax false l) xs
+cut_syntax [] d s h = (a_mark semicolon ∷ the_last, nothing_said.file, nothing_ends)
+cut_syntax (z ∷ zs) d s h = by (is_mark z.means semicolon) refl h
+  where
+    by : (b : Bool) → is_mark z.means semicolon ≡ b
+        → (if b then run false nothing_said states.Begin zs else failed (unexpected z)) ≡ cut_off d s
+        → Finishes (λ l. behind_syntax false l) (z ∷ zs)
+    by true e h = let r : Finishes (λ l. run false nothing_said states.Begin l) zs = cut_run zs d s h in (r.0, r.1, rw e r.2)
+    by false e h = absurd (let t : failed (unexpected z) ≡ cut_off d s = h in cc)
+
+cut_value : (w y : Lexeme) (xs : List Lexeme) (d : Draft) (s : State) (m : Meaning)
+    → behind_value false w y xs m ≡ cut_off d s → Finishes (λ l. behind_value false w y l m) xs
+cut_value w y xs d s (string v) h = by (bytes_eq v (codes "proto3")) refl h
+  where
+    by : (b : Bool) → bytes_eq v (codes "proto3") ≡ b
+        → (if b then behind_syntax false xs else failed (fault_at reasons.Syntax2 w.span)) ≡ cut_off d s
+        → Finishes (λ l. behind_value false w y l (string v)) xs
+    by true e h = let r : Finishes (λ l. behind_syntax false l) xs = cut_syntax xs d s h in (r.0, r.1, rw e r.2)
+    by false e h = absurd (let t : failed (fault_at reasons.Syntax2 w.span) ≡ cut_off d s = h in cc)
+cut_value w y xs d s (identifier v) h = absurd (let t : failed (unexpected y) ≡ cut_off d s = h in cc)
+cut_value w y xs d s (integer v) h = absurd (let t : failed (unexpected y) ≡ cut_off d s = h in cc)
+cut_value w y xs d s number h = absurd (let t : failed (unexpected y) ≡ cut_off d s = h in cc)
+cut_value w y xs d s (mark v) h = absurd (let t : failed (unexpected y) ≡ cut_off d s = h in cc)
+cut_value w y xs d s the_end h = absurd (let t : failed (unexpected y) ≡ cut_off d s = h in cc)
+cut_value w y xs d s none h = absurd (let t : failed (unexpected y) ≡ cut_off d s = h in cc)
+
+cut_equals : (w : Lexeme) (xs : List Lexeme) (d : Draft) (s : State) → behind_equals false w xs ≡ cut_off d s
+    → Finishes (λ l. behind_equals false w l) xs
+cut_equals w [] d s h = (the_path ∷ a_mark semicolon ∷ the_last, nothing_said.file, nothing_ends)
+cut_equals w (y ∷ xs) d s h = cut_value w y xs d s y.means h
+
+cut_word : (w : Lexeme) (xs : List Lexeme) (d : Draft) (s : State) → behind_word false w xs ≡ cut_off d s
+    → Finishes (λ l. behind_word false w l) xs
+cut_word w [] d s h = (a_mark equals ∷ the_path ∷ a_mark semicolon ∷ the_last, nothing_said.file, nothing_ends)
+cut_word w (x ∷ xs) d s h = by (is_mark x.means equals) refl h
+  where
+    by : (b : Bool) → is_mark x.means equals ≡ b
+        → (if b then behind_equals false w xs else failed (unexpected x)) ≡ cut_off d s
+        → Finishes (λ l. behind_word false w l) (x ∷ xs)
+    by true e h = let r : Finishes (λ l. behind_equals false w l) xs = cut_equals w xs d s h in (r.0, r.1, rw e r.2)
+    by false e h = absurd (let t : failed (unexpected x) ≡ cut_off d s = h in cc)
+
+cut_reading : (xs : List Lexeme) (d : Draft) (s : State) → reading false xs ≡ cut_off d s
+    → Finishes (λ l. reading false l) xs
+cut_reading [] d s h = (token (identifier (codes "syntax")) ∷ a_mark equals ∷ the_path ∷ a_mark semicolon ∷ the_last, nothing_said.file, nothing_ends)
+cut_reading (w ∷ xs) d s h = by (says w.means (codes "syntax")) refl h
+  where
+    other : (b : Bool) → (if b then failed (unexpected w) else failed (fault_at reasons.Syntax2 w.span)) ≡ cut_off d s
+        → Finishes (λ l. reading false l) (w ∷ xs)
+    other true h = absurd (let t : failed (unexpected w) ≡ cut_off d s = h in cc)
+    other false h = absurd (let t : failed (fault_at reasons.Syntax2 w.span) ≡ cut_off d s = h in cc)
+
+    by : (b : Bool) → says w.means (codes "syntax") ≡ b → (if b then behind_word false w xs else if is_no_token w.means then failed (unexpected w) else failed (fault_at reasons.Syntax2 w.span)) ≡ cut_off d s → Finishes (λ l. reading false l) (w ∷ xs)
+    by true e h = let r : Finishes (λ l. behind_word false w l) xs = cut_word w xs d s h in (r.0, r.1, rw e r.2)
+    by false e h = other (is_no_token w.means) h
+
+-- what is cut off goes on
+pub cut_goes_on : (xs : List Lexeme) (d : Draft) (s : State) → reading false xs ≡ cut_off d s → CanGoOn xs
+cut_goes_on xs d s h =
+    let r : Finishes (λ l. reading false l) xs = cut_reading xs d s h in
+    goes_on xs r.0 r.1 (λ f e. let t : cut_off d s ≡ read f = sym h ∙ e in cc) r.2

@@ -1,0 +1,303 @@
+-- An option is read: each of its tokens goes on with what was read, and the token behind it ends it.
+use Rattle.std.proofs.Common.{subst, ◌≡◌, ◌≢◌, ◌⊎◌, inl, inr, ℕ, suc, ◌-◌, ◌==◌, nat_le, Bool, true, false, List, [], ◌∷◌, ◌++◌, codes, refl, ap, sym, ◌∙◌, arith, add-one}
+use Rattle.std.specs.Prelude.{Ok, Option, None, ◌&&◌}
+use Rattle.std.proofs.lemmas.Bool.{ne_eqb, lt-leb, and_right}
+use Rattle.std.proofs.lemmas.List.{append_assoc}
+use Rattle.proto_schema.specs.Lexemes.{Meaning, identifier, integer, number, string, mark, the_end, none, Lexeme, dot, comma, semicolon, equals, minus, plus, opening_brace, closing_brace, opening_paren, closing_paren, opening_bracket, closing_bracket, IsWord, IsMark, says}
+use Rattle.proto_schema.specs.Grammar.{FullName, one, more, TypeName, relative, absolute, Closes, last_brace, closing, opening, other, Strings, one_string, strings, AnyNumber, an_integer, a_number, truth, Value, a_name, unsigned, signed, texts, block, OptionPart, plain_part, custom_part, OptionName, one_part, parts, is_packed, OptionOf, option, latest, OptionList, one_option, options, FieldOptions, no_options, bracketed}
+use Rattle.proto_schema.specs.Reading.{is_mark, truth_of, brace_step, option_step, next_option, tail_step, of_option}
+use Rattle.proto_schema.proofs.NameLemmas.{Walks, stay, go, walks_on, walks_in, word_no_mark, is_name}
+use Rattle.proto_schema.proofs.OptionRest.{said_if, untrue, truth_none}
+use Rattle.proto_schema.proofs.TailRest.{latest_assoc, latest_none}
+use Rattle.proto_schema.specs.declared.file.Word.{Word}
+use Rattle.proto_schema.specs.declared.option.OptionState.{OptionState}
+use Rattle.proto_schema.specs.declared.option.OptionState.TheVariants as states
+use Rattle.proto_schema.specs.declared.option.OptionStep.TheVariants as steps
+use Rattle.proto_schema.specs.declared.tail.TailState.{TailState}
+use Rattle.proto_schema.specs.declared.tail.TailState.TheVariants as tails
+use Rattle.proto_schema.specs.declared.tail.TailStep.TheVariants as tail_steps
+
+abbrev pub OptionGoes : OptionState → Lexeme → OptionState → Type 0
+OptionGoes s x t = option_step s x ≡ Ok (steps.More t)
+
+-- another mark than this
+pub mark_not : (m : Meaning) (c d : ℕ) → m ≡ mark c → c ≢ d → is_mark m d ≡ false
+mark_not m c d h n = rw h (ne_eqb c d n)
+
+-- ---- a name in parentheses
+
+inner_goes : (s : OptionState) (x : Lexeme) (n : List ℕ) → (s ≡ states.Open) ⊎ (s ≡ states.OpenName) → IsWord x n
+    → OptionGoes s x states.Inner
+unfolding option_step
+inner_goes s x n (inl e) h = rw e (rw (word_no_mark x.means n dot h) (is_name x (λ n. steps.More states.Inner) n h))
+inner_goes s x n (inr e) h = rw e (is_name x (λ n. steps.More states.Inner) n h)
+
+inner_dot : (x : Lexeme) → IsMark x dot → OptionGoes states.Inner x states.OpenName
+unfolding option_step
+inner_dot x h = rw h refl
+
+open_dot : (x : Lexeme) → IsMark x dot → OptionGoes states.Open x states.OpenName
+unfolding option_step
+open_dot x h = rw h refl
+
+full_open : {ys : List Lexeme} {w : Word} → FullName ys w → Walks OptionGoes states.OpenName ys states.Inner
+full_open (one x n h) = go x [] refl (inner_goes states.OpenName x n (inr refl) h) (stay refl refl)
+full_open (more x y n zs w h d f) = go x (y ∷ zs) refl (inner_goes states.OpenName x n (inr refl) h) (go y zs refl (inner_dot y d) (full_open f))
+
+first_open : {ys : List Lexeme} {w : Word} → FullName ys w → Walks OptionGoes states.Open ys states.Inner
+first_open (one x n h) = go x [] refl (inner_goes states.Open x n (inl refl) h) (stay refl refl)
+first_open (more x y n zs w h d f) = go x (y ∷ zs) refl (inner_goes states.Open x n (inl refl) h) (go y zs refl (inner_dot y d) (full_open f))
+
+type_open : {ys : List Lexeme} {w : Word} → TypeName ys w → Walks OptionGoes states.Open ys states.Inner
+type_open (relative f) = first_open f
+type_open (absolute x {ys = ys} h f) = go x ys refl (open_dot x h) (full_open f)
+
+-- ---- the option's name
+
+opens : (first : Bool) (x : Lexeme) → IsMark x opening_paren → OptionGoes (states.Name first) x states.Open
+unfolding option_step
+opens first x h = rw h refl
+
+closes : (x : Lexeme) → IsMark x closing_paren → OptionGoes states.Inner x (states.Part false)
+unfolding option_step
+closes x h = rw h refl
+
+plain_goes : (first : Bool) (x : Lexeme) (n : List ℕ) → IsWord x n
+    → OptionGoes (states.Name first) x (states.Part (first && says x.means (codes "packed")))
+unfolding option_step
+plain_goes first x n h = rw (word_no_mark x.means n opening_paren h) (is_name x (λ n. steps.More (states.Part (first && says x.means (codes "packed")))) n h)
+
+part_dot : (packed : Bool) (x : Lexeme) → IsMark x dot → OptionGoes (states.Part packed) x (states.Name false)
+unfolding option_step
+part_dot packed x h = rw h refl
+
+part_equals : (packed : Bool) (x : Lexeme) → IsMark x equals → OptionGoes (states.Part packed) x (states.Equals packed)
+unfolding option_step
+part_equals packed x h = rw h refl
+
+mark_packed : (x : Lexeme) (l : List Lexeme) (c : ℕ) → IsMark x c → is_packed (x ∷ l) ≡ false
+mark_packed x [] c e = rw e refl
+mark_packed x (y ∷ l) c e = refl
+
+part_reads : (first : Bool) {ys : List Lexeme} → OptionPart ys
+    → Walks OptionGoes (states.Name first) ys (states.Part (first && is_packed ys))
+part_reads first (plain_part x n h) = go x [] refl (plain_goes first x n h) (stay refl refl)
+part_reads first (custom_part x z {ys = ys} {all = all} p t c e) =
+    subst (λ (l : List Lexeme). Walks OptionGoes (states.Name first) l (states.Part (first && is_packed l))) (sym e)
+    (subst (λ (b : Bool). Walks OptionGoes (states.Name first) (x ∷ ys ++ z ∷ []) (states.Part b)) (sym (and_right first (is_packed (x ∷ ys ++ z ∷ [])) (mark_packed x (ys ++ z ∷ []) opening_paren p)))
+    (go x (ys ++ z ∷ []) refl (opens first x p) (walks_on OptionGoes (type_open t) (go z [] refl (closes z c) (stay refl refl)))))
+
+-- a name of several parts isn't `packed`
+not_packed : (ys zs : List Lexeme) (x : Lexeme) → OptionPart ys → is_packed (ys ++ x ∷ zs) ≡ false
+not_packed ys zs x (plain_part y n h) = refl
+not_packed ys zs x (custom_part y z {ys = us} p t c e) = ap (λ (l : List Lexeme). is_packed (l ++ x ∷ zs)) e ∙ mark_packed y ((us ++ z ∷ []) ++ x ∷ zs) opening_paren p
+
+name_reads : (first : Bool) {ys : List Lexeme} → OptionName ys
+    → Walks OptionGoes (states.Name first) ys (states.Part (first && is_packed ys))
+name_reads first (one_part p) = part_reads first p
+name_reads first (parts x {ys = ys} {zs = zs} p d n e) =
+    subst (λ (l : List Lexeme). Walks OptionGoes (states.Name first) l (states.Part (first && is_packed l))) (sym e)
+    (subst (λ (b : Bool). Walks OptionGoes (states.Name first) (ys ++ x ∷ zs) (states.Part b)) (sym (and_right first (is_packed (ys ++ x ∷ zs)) (not_packed ys zs x p)))
+    (walks_on OptionGoes (part_reads first p) (go x zs refl (part_dot (first && is_packed ys) x d) (name_reads false n))))
+
+-- ---- the value
+
+-- a mark that is no dot stands behind the option
+abbrev pub Ready : OptionState → Option Bool → Type 0
+Ready t b = (x : Lexeme) (c : ℕ) → IsMark x c → c ≢ dot → option_step t x ≡ Ok (steps.Whole b)
+
+pub ready_value : (b : Option Bool) → Ready (states.Value b) b
+unfolding option_step
+ready_value b x c h n = rw (mark_not x.means c dot h n) refl
+
+pub ready_text : Ready states.Text None
+unfolding option_step
+ready_text x c h n = rw h refl
+
+pub ready_end : Ready states.End None
+unfolding option_step
+ready_end x c h n = refl
+
+value_goes : (packed : Bool) (x : Lexeme) (n : List ℕ) → IsWord x n
+    → OptionGoes (states.Equals packed) x (states.Value (truth_of packed (identifier n)))
+unfolding option_step
+value_goes packed x n h = rw h refl
+
+value_dot : (b : Option Bool) (x : Lexeme) → IsMark x dot → OptionGoes (states.Value b) x states.ValueDot
+unfolding option_step
+value_dot b x h = rw h refl
+
+dot_goes : (x : Lexeme) (n : List ℕ) → IsWord x n → OptionGoes states.ValueDot x (states.Value None)
+unfolding option_step
+dot_goes x n h = is_name x (λ n. steps.More (states.Value None)) n h
+
+full_value : {ys : List Lexeme} {w : Word} → FullName ys w → Walks OptionGoes states.ValueDot ys (states.Value None)
+full_value (one x n h) = go x [] refl (dot_goes x n h) (stay refl refl)
+full_value (more x y n zs w h d f) = go x (y ∷ zs) refl (dot_goes x n h) (go y zs refl (value_dot None y d) (full_value f))
+
+number_goes : (packed : Bool) (x : Lexeme) → AnyNumber x → OptionGoes (states.Equals packed) x states.End
+unfolding option_step
+number_goes packed x (an_integer v h) = rw h refl
+number_goes packed x (a_number h) = rw h refl
+
+sign_goes : (packed : Bool) (x : Lexeme) → (IsMark x minus) ⊎ (IsMark x plus)
+    → OptionGoes (states.Equals packed) x states.Sign
+unfolding option_step
+sign_goes packed x (inl h) = rw h refl
+sign_goes packed x (inr h) = rw h refl
+
+signed_goes : (x : Lexeme) → AnyNumber x → OptionGoes states.Sign x states.End
+unfolding option_step
+signed_goes x (an_integer v h) = rw h refl
+signed_goes x (a_number h) = rw h refl
+
+text_goes : (packed : Bool) (x : Lexeme) (v : List ℕ) → x.means ≡ string v
+    → OptionGoes (states.Equals packed) x states.Text
+unfolding option_step
+text_goes packed x v h = rw h refl
+
+text_more : (x : Lexeme) (v : List ℕ) → x.means ≡ string v → OptionGoes states.Text x states.Text
+unfolding option_step
+text_more x v h = rw h refl
+
+strings_more : {ys : List Lexeme} → Strings ys → Walks OptionGoes states.Text ys states.Text
+strings_more (one_string x v h) = go x [] refl (text_more x v h) (stay refl refl)
+strings_more (strings x v {ys = ys} h s) = go x ys refl (text_more x v h) (strings_more s)
+
+block_goes : (packed : Bool) (x : Lexeme) → IsMark x opening_brace
+    → OptionGoes (states.Equals packed) x (states.Braces 1)
+unfolding option_step
+block_goes packed x h = rw h refl
+
+last_goes : (x : Lexeme) → IsMark x closing_brace → OptionGoes (states.Braces 1) x states.End
+unfolding option_step
+last_goes x h = rw h refl
+
+pub closing_goes : (n : ℕ) (x : Lexeme) → IsMark x closing_brace
+    → OptionGoes (states.Braces (suc (suc n))) x (states.Braces (suc n))
+unfolding option_step
+closing_goes n x h =
+    let l : nat_le (suc (suc n)) 1 ≡ false = lt-leb (suc (suc n)) 1 (omega arith) in
+    let e : suc (suc n) - 1 ≡ suc n = omega arith in
+    rw h (rw (l, e) refl)
+
+opening_goes : (n : ℕ) (x : Lexeme) → IsMark x opening_brace → OptionGoes (states.Braces n) x (states.Braces (suc n))
+unfolding option_step
+opening_goes n x h = rw h (ap (λ (k : ℕ). Ok (steps.More (states.Braces k))) (add-one n))
+
+other_goes : (n : ℕ) (x : Lexeme) → x.means ≢ mark closing_brace → x.means ≢ mark opening_brace → x.means ≢ the_end
+    → x.means ≢ none → OptionGoes (states.Braces n) x (states.Braces n)
+unfolding option_step
+other_goes n x i j k l = by x.means refl
+  where
+    by : (m : Meaning) → x.means ≡ m → brace_step n x m ≡ Ok (steps.More (states.Braces n))
+    by (identifier v) e = refl
+    by (integer v) e = refl
+    by number e = refl
+    by (string v) e = refl
+    by (mark c) e =
+        let p : (c == opening_brace) ≡ false = ne_eqb c opening_brace (λ q. j (e ∙ ap mark q)) in
+        let q : (c == closing_brace) ≡ false = ne_eqb c closing_brace (λ q. i (e ∙ ap mark q)) in
+        rw (p, q) refl
+    by the_end e = absurd (k e)
+    by none e = absurd (l e)
+
+closes_reads : {n : ℕ} {ys : List Lexeme} → Closes n ys → Walks OptionGoes (states.Braces n) ys states.End
+closes_reads (last_brace x h) = go x [] refl (last_goes x h) (stay refl refl)
+closes_reads (closing x {n = n} {ys = ys} h c) = go x ys refl (closing_goes n x h) (closes_reads c)
+closes_reads (opening x {n = n} {ys = ys} h c) = go x ys refl (opening_goes n x h) (closes_reads c)
+closes_reads (other x {n = n} {ys = ys} i j k l c) = go x ys refl (other_goes n x i j k l) (closes_reads c)
+
+-- what is read of an option, and what it says
+abbrev pub OptionReads : OptionState → List Lexeme → Option Bool → Type 0
+OptionReads s ys b = (t : OptionState) × Walks OptionGoes s ys t × Ready t b
+
+number_untrue : (x : Lexeme) → AnyNumber x → truth (x ∷ []) ≡ None
+number_untrue x (an_integer v e) = truth_none x [] (rw e refl) (rw e refl)
+number_untrue x (a_number e) = truth_none x [] (rw e refl) (rw e refl)
+
+said_name : (packed : Bool) (x : Lexeme) (n : List ℕ) → IsWord x n
+    → truth_of packed (identifier n) ≡ said_if packed (x ∷ [])
+said_name true x n h = rw h refl
+said_name false x n h = refl
+
+value_reads : (packed : Bool) {zs : List Lexeme} → Value zs → OptionReads (states.Equals packed) zs (said_if packed zs)
+value_reads packed (a_name (one x n h)) =
+    (states.Value (truth_of packed (identifier n)), go x [] refl (value_goes packed x n h) (stay refl refl), subst (λ (b : Option Bool). Ready (states.Value (truth_of packed (identifier n))) b) (said_name packed x n h) (ready_value (truth_of packed (identifier n))))
+value_reads packed (a_name (more x y n zs w h d f)) =
+    (states.Value None, go x (y ∷ zs) refl (value_goes packed x n h) (go y zs refl (value_dot (truth_of packed (identifier n)) y d) (full_value f)), subst (λ (b : Option Bool). Ready (states.Value None) b) (sym (untrue packed (x ∷ y ∷ zs) refl)) (ready_value None))
+value_reads packed (unsigned x n) = (states.End, go x [] refl (number_goes packed x n) (stay refl refl), subst (λ (b : Option Bool). Ready states.End b) (sym (untrue packed (x ∷ []) (number_untrue x n))) ready_end)
+value_reads packed (signed x y h n) =
+    (states.End, go x (y ∷ []) refl (sign_goes packed x h) (go y [] refl (signed_goes y n) (stay refl refl)), subst (λ (b : Option Bool). Ready states.End b) (sym (untrue packed (x ∷ y ∷ []) refl)) ready_end)
+value_reads packed (texts (one_string x v h)) =
+    (states.Text, go x [] refl (text_goes packed x v h) (stay refl refl), subst (λ (b : Option Bool). Ready states.Text b) (sym (untrue packed (x ∷ []) (truth_none x [] (rw h refl) (rw h refl)))) ready_text)
+value_reads packed (texts (strings x v {ys = ys} h s)) =
+    (states.Text, go x ys refl (text_goes packed x v h) (strings_more s), subst (λ (b : Option Bool). Ready states.Text b) (sym (untrue packed (x ∷ ys) (truth_none x ys (rw h refl) (rw h refl)))) ready_text)
+value_reads packed (block x {ys = ys} h c) =
+    (states.End, go x ys refl (block_goes packed x h) (closes_reads c), subst (λ (b : Option Bool). Ready states.End b) (sym (untrue packed (x ∷ ys) (truth_none x ys (rw h refl) (rw h refl)))) ready_end)
+
+pub option_reads : {all : List Lexeme} {b : Option Bool} → OptionOf all b → OptionReads next_option all b
+option_reads (option x {ys = ys} {zs = zs} {all = all} {says_packed = b} n q v e s) =
+    let r : OptionReads (states.Equals (true && is_packed ys)) zs (said_if (is_packed ys) zs) = value_reads (true && is_packed ys) v in (
+      r.0,
+      subst (λ (l : List Lexeme). Walks OptionGoes next_option l r.0) (sym e) (walks_on OptionGoes (name_reads true n) (go x zs refl (part_equals (true && is_packed ys) x q) r.1)),
+      subst (λ (b : Option Bool). Ready r.0 b) (sym s) r.2,
+    )
+
+-- ---- what stands behind a number
+
+abbrev pub TailGoes : TailState → Lexeme → TailState → Type 0
+TailGoes s x t = tail_step s x ≡ Ok (tail_steps.More t)
+
+pub in_options : (p : Option Bool) (s t : OptionState) (x : Lexeme) → OptionGoes s x t
+    → TailGoes (tails.Options p s) x (tails.Options p t)
+unfolding tail_step
+in_options p s t x h = ap (of_option p x) h
+
+options_comma : (p d : Option Bool) (t : OptionState) (x : Lexeme) → IsMark x comma → Ready t d
+    → TailGoes (tails.Options p t) x (tails.Options (latest p d) next_option)
+unfolding tail_step
+options_comma p d t x h r = ap (of_option p x) (r x comma h (omega arith)) ∙ rw h refl
+
+pub options_bracket : (p d : Option Bool) (t : OptionState) (x : Lexeme) → IsMark x closing_bracket → Ready t d
+    → TailGoes (tails.Options p t) x (tails.Closed (latest p d))
+unfolding tail_step
+options_bracket p d t x h r = ap (of_option p x) (r x closing_bracket h (omega arith)) ∙ rw h refl
+
+options_open : (x : Lexeme) → IsMark x opening_bracket → TailGoes tails.Start x (tails.Options None next_option)
+unfolding tail_step
+options_open x h = rw h refl
+
+-- options are read up to the bracket behind them
+list_reads : (p : Option Bool) {all : List Lexeme} {b : Option Bool} (z : Lexeme) → OptionList all b
+    → IsMark z closing_bracket
+    → Walks TailGoes (tails.Options p next_option) (all ++ z ∷ []) (tails.Closed (latest p b))
+list_reads p {all = all} {b = b} z (one_option o) h =
+    let r : OptionReads next_option all b = option_reads o in
+    walks_on TailGoes (walks_in OptionGoes TailGoes (λ s. tails.Options p s) (in_options p) r.1) (go z [] refl (options_bracket p b r.0 z h r.2) (stay refl refl))
+list_reads p z (options x {ys = ys} {zs = zs} {b = b} {d = d} o c l e) h =
+    let r : OptionReads next_option ys b = option_reads o in
+    let w : Walks TailGoes (tails.Options p next_option) (ys ++ x ∷ (zs ++ z ∷ [])) (tails.Closed (latest (latest p b) d)) =
+    walks_on TailGoes (walks_in OptionGoes TailGoes (λ s. tails.Options p s) (in_options p) r.1) (go x (zs ++ z ∷ []) refl (options_comma p b r.0 x c r.2) (list_reads (latest p b) z l h)) in
+    let f : ys ++ x ∷ (zs ++ z ∷ []) ≡ (ys ++ x ∷ zs) ++ z ∷ [] = sym (append_assoc ys (x ∷ zs) (z ∷ [])) in
+    subst (λ (l : List Lexeme). Walks TailGoes (tails.Options p next_option) l (tails.Closed (latest p (latest b d)))) (f ∙ ap (λ (l : List Lexeme). l ++ z ∷ []) (sym e))
+    (subst (λ (q : Option Bool). Walks TailGoes (tails.Options p next_option) (ys ++ x ∷ (zs ++ z ∷ [])) (tails.Closed q)) (latest_assoc p b d) w)
+
+start_done : (z : Lexeme) → IsMark z semicolon → tail_step tails.Start z ≡ Ok (tail_steps.Done None)
+unfolding tail_step
+start_done z h = rw h refl
+
+closed_done : (p : Option Bool) (z : Lexeme) → IsMark z semicolon
+    → tail_step (tails.Closed p) z ≡ Ok (tail_steps.Done p)
+unfolding tail_step
+closed_done p z h = rw h refl
+
+-- options in brackets, or none, and `;`
+pub tail_reads : {os : List Lexeme} {b : Option Bool} (z : Lexeme) → FieldOptions os b → IsMark z semicolon
+    → (t : TailState) × Walks TailGoes tails.Start os t × (tail_step t z ≡ Ok (tail_steps.Done b))
+tail_reads z no_options h = (tails.Start, stay refl refl, start_done z h)
+tail_reads z (bracketed x y {ys = ys} {all = all} {b = b} o l c e) h = (
+  tails.Closed b,
+  subst (λ (q : List Lexeme). Walks TailGoes tails.Start q (tails.Closed b)) (sym e) (go x (ys ++ y ∷ []) refl (options_open x o) (subst (λ (d : Option Bool). Walks TailGoes (tails.Options None next_option) (ys ++ y ∷ []) (tails.Closed d)) (latest_none b) (list_reads None y l c))),
+  closed_done b z h,
+)

@@ -1,0 +1,353 @@
+-- The limit on messages in one another changes nothing where no `{` opens the 33rd. So what a text reads as is what is read of it.
+use Rattle.std.proofs.Common.{subst, ◌≡◌, ℕ, zero, suc, ◌+◌, ◌<◌, ◌≤◌, nat_le, length, take, Bool, true, false, List, [], ◌∷◌, ◌++◌, codes, refl, ap, sym, ◌∙◌, arith}
+use Rattle.std.specs.Prelude.{Ok, Err, Result, Some, if◌then◌else◌}
+use Rattle.std.specs.Str.{bytes_eq}
+use Rattle.std.proofs.lemmas.List.{append_assoc}
+use Rattle.proto_schema.specs.Lexemes.{Meaning, identifier, integer, number, string, mark, the_end, none, Lexeme, semicolon, equals, IsMark, says}
+use Rattle.proto_schema.specs.Files
+use Rattle.proto_schema.specs.Files.{Draft, Block, no_block, a_oneof, an_enum, a_service, an_rpc, Says, Forms, nothing_said}
+use Rattle.proto_schema.specs.Faults.{is_no_token}
+use Rattle.proto_schema.specs.Reading.{fault_at, unexpected, is_mark}
+use Rattle.proto_schema.specs.Running.{place_of, added, statement_step, read, failed, is_over, is_too_deep, behind, run, reading, behind_word, behind_equals, behind_value, behind_syntax}
+use Rattle.proto_schema.proofs.Choices.{either_is}
+use Rattle.proto_schema.proofs.Next.{run_step, run_over}
+use Rattle.proto_schema.specs.declared.file.Word.{Word}
+use Rattle.proto_schema.specs.declared.file.File.{File}
+use Rattle.proto_schema.specs.declared.fault.ProtoReason.TheVariants as reasons
+use Rattle.proto_schema.specs.declared.fault.ProtoFault.{ProtoFault}
+use Rattle.proto_schema.specs.declared.statement.Opening.TheVariants as openings
+use Rattle.proto_schema.specs.declared.statement.State.{State}
+use Rattle.proto_schema.specs.declared.statement.State.TheVariants as states
+use Rattle.proto_schema.specs.declared.statement.Said.{Said}
+use Rattle.proto_schema.specs.declared.statement.Said.TheVariants as said
+use Rattle.proto_schema.specs.declared.statement.Step.{Step}
+use Rattle.proto_schema.specs.declared.statement.Step.TheVariants as steps
+use Rattle.std.specs.Prelude.{slice_get}
+use Rattle.std.proofs.lemmas.Bool.{leb-true, leb-false}
+use Rattle.std.proofs.Math.Seq.{take-append-add}
+use Rattle.proto_tokens.specs.Tokens.{AreTokens, last as last_token, another as further_token, is_last, literal_of}
+use Rattle.proto_tokens.specs.declared.token.Kind.{Kind}
+use Rattle.proto_tokens.specs.declared.token.Kind.TheVariants as kinds
+use Rattle.proto_tokens.specs.declared.token.Token.{Token}
+use Rattle.proto_schema.specs.Lexemes.{opening_brace, lexeme, lexemes, meaning}
+use Rattle.proto_schema.specs.Files.{MOST_OPEN, in_message, in_enum, open_message}
+use Rattle.proto_schema.specs.Faults.{IsNamed, nesting, IsTextOf}
+use Rattle.proto_schema.specs.Running.{is_enum, without_first, closed_with}
+use Rattle.proto_schema.specs.declared.fault.ProtoReason.TheVariants.{Nesting}
+use Rattle.proto_schema.proofs.Takes.{last, next}
+use Rattle.proto_schema.proofs.RunRest.{not_deep, Begun, begun, reading_reads}
+use Rattle.proto_schema.proofs.RunReads.{StepTakes, StatementReads, statement_reads, Shallow, is_shallow, opens_message, statement_is_read, run_goes, run_takes, not_over, syntax_read, whole_is_over}
+
+-- ---- how many messages are open
+
+without_less : (xs : List ℕ) → length (without_first xs) ≤ length xs
+without_less [] = omega arith
+without_less (x ∷ xs) = omega arith
+
+closed_less : (d : Draft) (b : Block) → length (closed_with d b).messages ≤ length d.messages
+closed_less d no_block = without_less d.messages
+closed_less d (a_oneof i filled) = omega arith
+closed_less d (an_enum filled) = omega arith
+closed_less d a_service = omega arith
+closed_less d an_rpc = omega arith
+
+added_less : (d : Draft) (v : Said) → Shallow v → length (added d v).messages ≤ length d.messages
+added_less d said.Nothing h = omega arith
+added_less d (said.Package w) h = omega arith
+added_less d (said.Import i) h = omega arith
+added_less d (said.Open openings.Message w) h = absurd h
+added_less d (said.Open openings.Enum w) h = omega arith
+added_less d (said.Open openings.Service w) h = omega arith
+added_less d (said.Open openings.Oneof w) h = omega arith
+added_less d (said.Field f) h = omega arith
+added_less d (said.Ranges rs) h =
+    either_is (λ (e : Draft). length e.messages ≤ length d.messages) (is_enum d.block) (in_enum d (λ e. record e { ranges = e.ranges ++ rs })) (in_message d (λ m. record m { ranges = m.ranges ++ rs })) (λ t. omega arith) (λ t. omega arith)
+added_less d (said.Names ws) h =
+    either_is (λ (e : Draft). length e.messages ≤ length d.messages) (is_enum d.block) (in_enum d (λ e. record e { names = e.names ++ ws })) (in_message d (λ m. record m { names = m.names ++ ws })) (λ t. omega arith) (λ t. omega arith)
+added_less d (said.Value v) h = omega arith
+added_less d (said.Rpc r true) h = omega arith
+added_less d (said.Rpc r false) h = omega arith
+added_less d said.Close h = closed_less d d.block
+
+shallow_flat : (limited : Bool) (d : Draft) (v : Said) → Shallow v → is_too_deep limited d v ≡ false
+shallow_flat limited d said.Nothing h = refl
+shallow_flat limited d (said.Package w) h = refl
+shallow_flat limited d (said.Import i) h = refl
+shallow_flat limited d (said.Open openings.Message w) h = absurd h
+shallow_flat limited d (said.Open openings.Enum w) h = refl
+shallow_flat limited d (said.Open openings.Service w) h = refl
+shallow_flat limited d (said.Open openings.Oneof w) h = refl
+shallow_flat limited d (said.Field f) h = refl
+shallow_flat limited d (said.Ranges rs) h = refl
+shallow_flat limited d (said.Names ws) h = refl
+shallow_flat limited d (said.Value v) h = refl
+shallow_flat limited d (said.Rpc r block) h = refl
+shallow_flat limited d said.Close h = refl
+
+-- ---- at most 32 are open, or a brace has the fault's name
+
+pub data Deep (ts : List Lexeme) : Type 0 where
+  deep : (k : ℕ) → IsNamed ts k Nesting → Deep ts
+
+get_behind : (xs ys : List Lexeme) (z : Lexeme) → slice_get (xs ++ z ∷ ys) (length xs) ≡ Some z
+get_behind [] ys z = refl
+get_behind (x ∷ xs) ys z = get_behind xs ys z
+
+take_behind : (xs ys : List Lexeme) (z : Lexeme) → take (length xs + 1) (xs ++ z ∷ ys) ≡ xs ++ z ∷ []
+take_behind xs ys z = take-append-add xs (z ∷ ys) 1
+
+opens_deep : (c : Draft) (w : Word) (front rest : List Lexeme) (z : Lexeme) → Says (front ++ z ∷ []) (open_message c w)
+    → IsMark z opening_brace → length c.messages ≡ MOST_OPEN → Deep (front ++ z ∷ rest)
+opens_deep c w front rest z s m l =
+    deep (length front) (nesting z (open_message c w) (get_behind front rest z) m (subst (λ (q : List Lexeme). Says q (open_message c w)) (sym (take_behind front rest z)) s)
+    (refl, λ e. let t : ◌≡◌ {A = List ℕ} (length c.file.messages ∷ c.messages) [] = e in cc) (omega (arith, l)))
+
+pub data SaysWell (front : List Lexeme) (d : Draft) (rest : List Lexeme) : Type 0 where
+  says_well : reading true (front ++ rest) ≡ run true d states.Begin rest → length d.messages ≤ MOST_OPEN
+      → SaysWell front d rest
+  says_deep : Deep (front ++ rest) → SaysWell front d rest
+
+one_statement : (front ys rest : List Lexeme) (c d : Draft) → Says (front ++ ys) d
+    → reading true (front ++ (ys ++ rest)) ≡ run true c states.Begin (ys ++ rest) → length c.messages ≤ MOST_OPEN
+    → StatementReads c ys d → SaysWell (front ++ ys) d rest
+one_statement front ys rest c d s r l (statement_reads v (is_shallow h) t q) =
+    let e : reading true ((front ++ ys) ++ rest) ≡ run true (added c v) states.Begin rest = ap (reading true) (append_assoc front ys rest) ∙ (r ∙ run_takes true c rest t (shallow_flat true c v h)) in
+    let m : length (added c v).messages ≤ MOST_OPEN = (let a : length (added c v).messages ≤ length c.messages = added_less c v h in omega arith) in
+    says_well (e ∙ ap (λ (c : Draft). run true c states.Begin rest) q) (subst (λ (c : Draft). length c.messages ≤ MOST_OPEN) q m)
+one_statement front ys rest c d s r l (statement_reads v (opens_message us z w ev m a) t q) = by (nat_le MOST_OPEN (length c.messages)) refl
+  where
+    opened : open_message c w ≡ d
+    opened = ap (added c) (sym ev) ∙ q
+
+    by : (b : Bool) → nat_le MOST_OPEN (length c.messages) ≡ b → SaysWell (front ++ ys) d rest
+    by true b =
+        let g : MOST_OPEN ≤ length c.messages = leb-true MOST_OPEN (length c.messages) b in
+        let n : length c.messages ≡ MOST_OPEN = omega arith in
+        let p : front ++ ys ≡ (front ++ us) ++ z ∷ [] = ap (λ (l : List Lexeme). front ++ l) a ∙ sym (append_assoc front us (z ∷ [])) in
+        let k : Says ((front ++ us) ++ z ∷ []) (open_message c w) = subst (λ (l : List Lexeme). Says l (open_message c w)) p (subst (λ (x : Draft). Says (front ++ ys) x) (sym opened) s) in
+        let o : (front ++ us) ++ z ∷ rest ≡ (front ++ ys) ++ rest = sym (append_assoc (front ++ us) (z ∷ []) rest) ∙ ap (λ (l : List Lexeme). l ++ rest) (sym p) in
+        says_deep (subst (λ (l : List Lexeme). Deep l) o (opens_deep c w (front ++ us) rest z k m n))
+    by false b =
+        let g : length c.messages < MOST_OPEN = leb-false MOST_OPEN (length c.messages) b in
+        let f : is_too_deep true c v ≡ false = ap (is_too_deep true c) ev ∙ b in
+        let e : reading true ((front ++ ys) ++ rest) ≡ run true (added c v) states.Begin rest = ap (reading true) (append_assoc front ys rest) ∙ (r ∙ run_takes true c rest t f) in
+        let m : length (open_message c w).messages ≤ MOST_OPEN = omega arith in
+        says_well (e ∙ ap (λ (c : Draft). run true c states.Begin rest) q) (subst (λ (c : Draft). length c.messages ≤ MOST_OPEN) opened m)
+
+pub says_well_or : {front : List Lexeme} {d : Draft} (rest : List Lexeme) → Says front d → SaysWell front d rest
+says_well_or rest (Files.start s) = says_well (syntax_read true rest s) (omega arith)
+says_well_or rest (Files.another {xs = front} {ys = ys} {all = all} {c = c} {d = d} s k e) = subst (λ (l : List Lexeme). SaysWell l d rest) (sym e) (by (says_well_or (ys ++ rest) s))
+  where
+    by : SaysWell front c (ys ++ rest) → SaysWell (front ++ ys) d rest
+    by (says_well r l) = one_statement front ys rest c d (Files.another s k refl) r l (statement_is_read k)
+    by (says_deep h) = says_deep (subst (λ (l : List Lexeme). Deep l) (sym (append_assoc front ys rest)) h)
+
+-- a whole text with no such brace is read
+pub forms_well : {all : List Lexeme} {file : File} → Forms all file → (Deep all → ⊥) → reading true all ≡ read file
+forms_well (Files.whole x {xs = front} {all = all} {d = d} s w h e) no_deep = by (says_well_or (x ∷ []) s)
+  where
+    by : SaysWell front d (x ∷ []) → reading true all ≡ read d.file
+    by (says_well r l) = ap (reading true) e ∙ (r ∙ run_over true d states.Begin x [] (whole_is_over d x w h))
+    by (says_deep k) = absurd (no_deep (subst (λ (l : List Lexeme). Deep l) (sym e) k))
+
+-- ---- where a text is read, no brace opens the 33rd
+
+deep_takes : (d : Draft) {s : State} {ys : List Lexeme} {v : Said} (xs : List Lexeme) (file : File)
+    → StepTakes (place_of d) s ys v → is_too_deep true d v ≡ true → run true d s (ys ++ xs) ≡ read file → ⊥
+deep_takes d xs file (last x {s = s} {v = v} h) k r =
+    let e : run true d s (x ∷ xs) ≡ failed (fault_at reasons.Nesting x.span) =
+    run_step true d s x xs (not_over d s x (steps.Done v) h) ∙ (ap (λ (r : Result Step ProtoFault). behind (λ c t. run true c t xs) true d x r) h ∙ rw k refl) in
+    let q : failed (fault_at reasons.Nesting x.span) ≡ read file = sym e ∙ r in
+    cc
+deep_takes d xs file (next x {s = s} {t = t} {ys = ys} h w) k r = deep_takes d xs file w k (sym (run_goes true d s t x (ys ++ xs) h) ∙ r)
+
+pub says_within : {front : List Lexeme} {d : Draft} (rest : List Lexeme) (file : File) → Says front d
+    → reading true (front ++ rest) ≡ read file
+    → (run true d states.Begin rest ≡ read file) × (length d.messages ≤ MOST_OPEN)
+says_within rest file (Files.start s) r = (sym (syntax_read true rest s) ∙ r, omega arith)
+says_within rest file (Files.another {xs = front} {ys = ys} {all = all} {c = c} {d = d} s k e) r =
+    let r1 : reading true (front ++ (ys ++ rest)) ≡ read file = sym (ap (reading true) (append_assoc front ys rest)) ∙ (sym (ap (λ (l : List Lexeme). reading true (l ++ rest)) e) ∙ r) in
+    by (says_within (ys ++ rest) file s r1) (statement_is_read k)
+  where
+    by : (run true c states.Begin (ys ++ rest) ≡ read file) × (length c.messages ≤ MOST_OPEN) → StatementReads c ys d
+        → (run true d states.Begin rest ≡ read file) × (length d.messages ≤ MOST_OPEN)
+    by (r, l) (statement_reads v (is_shallow h) t q) =
+        let a : length (added c v).messages ≤ length c.messages = added_less c v h in
+        let m : length (added c v).messages ≤ MOST_OPEN = omega arith in
+        let f : run true (added c v) states.Begin rest ≡ read file = sym (run_takes true c rest t (shallow_flat true c v h)) ∙ r in
+        (subst (λ (c : Draft). run true c states.Begin rest ≡ read file) q f, subst (λ (c : Draft). length c.messages ≤ MOST_OPEN) q m)
+    by (r, l) (statement_reads v (opens_message us z w ev g a) t q) = at (nat_le MOST_OPEN (length c.messages)) refl
+      where
+        at : (b : Bool) → nat_le MOST_OPEN (length c.messages) ≡ b
+            → (run true d states.Begin rest ≡ read file) × (length d.messages ≤ MOST_OPEN)
+        at true b = absurd (deep_takes c rest file t (ap (is_too_deep true c) ev ∙ b) r)
+        at false b =
+            let g : length c.messages < MOST_OPEN = leb-false MOST_OPEN (length c.messages) b in
+            let f : run true (added c v) states.Begin rest ≡ read file = sym (run_takes true c rest t (ap (is_too_deep true c) ev ∙ b)) ∙ r in
+            let m : length (open_message c w).messages ≤ MOST_OPEN = omega arith in
+            (subst (λ (c : Draft). run true c states.Begin rest ≡ read file) q f, subst (λ (c : Draft). length c.messages ≤ MOST_OPEN) (ap (added c) (sym ev) ∙ q) m)
+
+drop_behind : (k : ℕ) (ts : List Lexeme) → (rest : List Lexeme) × (take k ts ++ rest ≡ ts)
+drop_behind zero ts = (ts, refl)
+drop_behind (suc k) [] = ([], refl)
+drop_behind (suc k) (t ∷ ts) = let r : (rest : List Lexeme) × (take k ts ++ rest ≡ ts) = drop_behind k ts in (r.0, ap (λ (l : List Lexeme). t ∷ l) r.1)
+
+pub read_not_deep : (ts : List Lexeme) (file : File) (k : ℕ) → reading true ts ≡ read file → IsNamed ts k Nesting → ⊥
+read_not_deep ts file k r (nesting x d g m s i l) =
+    let b : (rest : List Lexeme) × (take (k + 1) ts ++ rest ≡ ts) = drop_behind (k + 1) ts in
+    let w : (run true d states.Begin b.0 ≡ read file) × (length d.messages ≤ MOST_OPEN) = says_within b.0 file s (ap (reading true) b.1 ∙ r) in
+    let n : length d.messages ≤ MOST_OPEN = w.1 in
+    omega (arith, l)
+
+-- ---- what is read with the limit is read without it
+
+abbrev Lifts : List Lexeme → File → Type 0
+Lifts xs file = (d : Draft) (s : State) → run true d s xs ≡ read file → run false d s xs ≡ read file
+
+step_lifts : (d : Draft) (x : Lexeme) (xs : List Lexeme) (file : File) (r : Result Step ProtoFault) → Lifts xs file
+    → behind (λ c t. run true c t xs) true d x r ≡ read file → behind (λ c t. run false c t xs) false d x r ≡ read file
+step_lifts d x xs file (Ok (steps.More t)) g h = g d t h
+step_lifts d x xs file (Ok (steps.Done v)) g h = rw (not_deep d v) (at (is_too_deep true d v) refl)
+  where
+    at : (b : Bool) → is_too_deep true d v ≡ b → run false (added d v) states.Begin xs ≡ read file
+    at true e = absurd (let t : failed (fault_at reasons.Nesting x.span) ≡ read file = rw e at h in cc)
+    at false e = g (added d v) states.Begin (rw e at h)
+step_lifts d x xs file (Err e) g h = absurd (let t : failed e ≡ read file = h in cc)
+
+token_lifts : (x : Lexeme) (xs : List Lexeme) (file : File) → Lifts xs file → Lifts (x ∷ xs) file
+token_lifts x xs file g d s h = by (is_over d s x) refl
+  where
+    by : (b : Bool) → is_over d s x ≡ b → run false d s (x ∷ xs) ≡ read file
+    by true e = run_over false d s x xs e ∙ (sym (run_over true d s x xs e) ∙ h)
+    by false e = run_step false d s x xs e ∙ step_lifts d x xs file (statement_step (place_of d) s x) g (sym (run_step true d s x xs e) ∙ h)
+
+nothing_lifts : (file : File) → Lifts [] file
+unfolding run
+nothing_lifts file d s h = h
+
+limit_lifts : (xs : List Lexeme) (file : File) → Lifts xs file
+limit_lifts [] file = nothing_lifts file
+limit_lifts (x ∷ xs) file = token_lifts x xs file (limit_lifts xs file)
+
+syntax_lifts : (zs : List Lexeme) (file : File) → behind_syntax true zs ≡ read file → behind_syntax false zs ≡ read file
+syntax_lifts [] file h = h
+syntax_lifts (z ∷ zs) file h = by (is_mark z.means semicolon) h
+  where
+    by : (b : Bool) → (if b then run true nothing_said states.Begin zs else failed (unexpected z)) ≡ read file
+        → (if b then run false nothing_said states.Begin zs else failed (unexpected z)) ≡ read file
+    by true h = limit_lifts zs file nothing_said states.Begin h
+    by false h = h
+
+value_lifts : (w y : Lexeme) (zs : List Lexeme) (file : File) (m : Meaning) → behind_value true w y zs m ≡ read file
+    → behind_value false w y zs m ≡ read file
+value_lifts w y zs file (string v) h = by (bytes_eq v (codes "proto3")) h
+  where
+    by : (b : Bool) → (if b then behind_syntax true zs else failed (fault_at reasons.Syntax2 w.span)) ≡ read file
+        → (if b then behind_syntax false zs else failed (fault_at reasons.Syntax2 w.span)) ≡ read file
+    by true h = syntax_lifts zs file h
+    by false h = h
+value_lifts w y zs file (identifier v) h = h
+value_lifts w y zs file (integer v) h = h
+value_lifts w y zs file number h = h
+value_lifts w y zs file (mark v) h = h
+value_lifts w y zs file the_end h = h
+value_lifts w y zs file none h = h
+
+equals_lifts : (w : Lexeme) (zs : List Lexeme) (file : File) → behind_equals true w zs ≡ read file
+    → behind_equals false w zs ≡ read file
+equals_lifts w [] file h = h
+equals_lifts w (y ∷ zs) file h = value_lifts w y zs file y.means h
+
+word_lifts : (w : Lexeme) (zs : List Lexeme) (file : File) → behind_word true w zs ≡ read file
+    → behind_word false w zs ≡ read file
+word_lifts w [] file h = h
+word_lifts w (x ∷ zs) file h = by (is_mark x.means equals) h
+  where
+    by : (b : Bool) → (if b then behind_equals true w zs else failed (unexpected x)) ≡ read file
+        → (if b then behind_equals false w zs else failed (unexpected x)) ≡ read file
+    by true h = equals_lifts w zs file h
+    by false h = h
+
+pub reading_lifts : (xs : List Lexeme) (file : File) → reading true xs ≡ read file → reading false xs ≡ read file
+reading_lifts [] file h = h
+reading_lifts (w ∷ zs) file h = by (says w.means (codes "syntax")) h
+  where
+    by : (b : Bool) → (if b then behind_word true w zs else if is_no_token w.means then failed (unexpected w) else failed (fault_at reasons.Syntax2 w.span)) ≡ read file
+        → (if b then behind_word false w zs else if is_no_token w.means then failed (unexpected w) else failed (fault_at reasons.Syntax2 w.span)) ≡ read file
+    by true h = word_lifts w zs file h
+    by false h = h
+
+-- ---- the end of a text is its last token
+
+end_is_last : (k : Kind) (literal : List ℕ) → meaning k literal ≡ the_end → is_last k ≡ true
+end_is_last kinds.End literal h = refl
+end_is_last kinds.Identifier literal h = absurd (let t : identifier literal ≡ the_end = h in cc)
+end_is_last (kinds.Integer v) literal h = absurd (let t : integer v ≡ the_end = h in cc)
+end_is_last kinds.Number literal h = absurd (let t : number ≡ the_end = h in cc)
+end_is_last kinds.Text literal h = absurd cc
+end_is_last (kinds.Mark c) literal h = absurd (let t : mark c ≡ the_end = h in cc)
+end_is_last kinds.Bad literal h = absurd (let t : none ≡ the_end = h in cc)
+
+nothing_behind : (text : List ℕ) (place : ℕ) (ts : List Token) (front rest : List Lexeme) (x : Lexeme)
+    → AreTokens text place ts → x.means ≡ the_end → lexemes text ts ≡ front ++ x ∷ rest → rest ≡ []
+nothing_behind text place ts [] rest x (last_token t e n l) m q =
+    let a : ◌≡◌ {A = List Lexeme} (lexeme text t ∷ []) (x ∷ rest) = sym (ap (lexemes text) e) ∙ q in
+    cc
+nothing_behind text place ts (y ∷ front) rest x (last_token t e n l) m q =
+    let a : ◌≡◌ {A = List Lexeme} (lexeme text t ∷ []) (y ∷ front ++ x ∷ rest) = sym (ap (lexemes text) e) ∙ q in
+    let b : ◌≡◌ {A = List Lexeme} [] (front ++ x ∷ rest) = cc in
+    absurd (by front b)
+  where
+    by : (front : List Lexeme) → [] ≡ front ++ x ∷ rest → ⊥
+    by [] b = let c : ◌≡◌ {A = List Lexeme} [] (x ∷ rest) = b in cc
+    by (z ∷ zs) b = let c : ◌≡◌ {A = List Lexeme} [] (z ∷ zs ++ x ∷ rest) = b in cc
+nothing_behind text place ts [] rest x (further_token t us e n l o) m q =
+    let a : ◌≡◌ {A = List Lexeme} (lexeme text t ∷ lexemes text us) (x ∷ rest) = sym (ap (lexemes text) e) ∙ q in
+    let b : lexeme text t ≡ x = cc in
+    let c : meaning t.kind (literal_of text t) ≡ the_end = ap (λ (z : Lexeme). z.means) b ∙ m in
+    absurd (let d : true ≡ false = sym (end_is_last t.kind (literal_of text t) c) ∙ l in cc)
+nothing_behind text place ts (y ∷ front) rest x (further_token t us e n l o) m q =
+    let a : ◌≡◌ {A = List Lexeme} (lexeme text t ∷ lexemes text us) (y ∷ front ++ x ∷ rest) = sym (ap (lexemes text) e) ∙ q in
+    let b : ◌≡◌ {A = List Lexeme} (lexemes text us) (front ++ x ∷ rest) = cc in
+    nothing_behind text t.end us front rest x o m b
+
+-- what is read of a text's tokens is a whole text, to its last token
+pub forms_exactly : (text : List ℕ) (ts : List Token) (file : File) → AreTokens text 0 ts
+    → reading false (lexemes text ts) ≡ read file → Forms (lexemes text ts) file
+forms_exactly text ts file a r = by (reading_reads (lexemes text ts) file r)
+  where
+    exact : (front rest : List Lexeme) (f : File) → Forms front f → lexemes text ts ≡ front ++ rest
+        → Forms (lexemes text ts) f
+    exact front rest f (Files.whole x {xs = xs} {d = d} s w m e) q =
+        let p : lexemes text ts ≡ xs ++ x ∷ rest = q ∙ (ap (λ (l : List Lexeme). l ++ rest) e ∙ append_assoc xs (x ∷ []) rest) in
+        let n : rest ≡ [] = nothing_behind text 0 ts xs rest x a m p in
+        Files.whole x s w m (p ∙ ap (λ (l : List Lexeme). xs ++ x ∷ l) n)
+
+    by : Begun (lexemes text ts) file → Forms (lexemes text ts) file
+    by (begun {front = front} rest h q) = exact front rest file h q
+
+-- ---- texts
+
+pub text_of : (text : List ℕ) (ts : List Token) (file : File) → AreTokens text 0 ts
+    → reading true (lexemes text ts) ≡ read file → IsTextOf text file
+text_of text ts file a r = record {
+  tokens = ts;
+  of_text = a;
+  reads = forms_exactly text ts file a (reading_lifts (lexemes text ts) file r);
+  shallow = λ k n. read_not_deep (lexemes text ts) file k r n;
+}
+
+pub read_of : (text : List ℕ) (file : File) (h : IsTextOf text file) → reading true (lexemes text h.tokens) ≡ read file
+read_of text file h = forms_well h.reads no_deep
+  where
+    no_deep : Deep (lexemes text h.tokens) → ⊥
+    no_deep (deep k n) = h.shallow k n
+
+-- a text reads as one file
+pub one_reading : (text : List ℕ) (f g : File)
+    → ((place : ℕ) (ts us : List Token) → AreTokens text place ts → AreTokens text place us → ts ≡ us)
+    → IsTextOf text f → IsTextOf text g → f ≡ g
+one_reading text f g one h k =
+    let e : h.tokens ≡ k.tokens = one 0 h.tokens k.tokens h.of_text k.of_text in
+    let q : read f ≡ read g = sym (read_of text f h) ∙ (ap (λ (ts : List Token). reading true (lexemes text ts)) e ∙ read_of text g k) in
+    cc

@@ -1,0 +1,57 @@
+-- Small files, and what they say.
+use Rattle.std.proofs.Common.{ℕ, false, List, [], ◌∷◌, ◌++◌, codes, refl}
+use Rattle.std.specs.Prelude.{None}
+use Rattle.mrpc_table.specs.declared.words.Decimal.TheVariants.{Small}
+use Rattle.proto_schema.specs.Lexemes.{Meaning, Lexeme, identifier, integer, string, mark, the_end, word_at, number_at}
+use Rattle.proto_schema.specs.Grammar
+use Rattle.proto_schema.specs.Files
+use Rattle.proto_schema.specs.declared.file.Span.{Span}
+use Rattle.proto_schema.specs.declared.file.FieldLabel.TheVariants.{Plain}
+use Rattle.proto_schema.specs.declared.file.FieldType.TheVariants.{Named}
+use Rattle.proto_schema.specs.declared.file.File.{File}
+
+abbrev at : ℕ → Meaning → Lexeme
+at n m = record { means = m; span = record { start = n; end = n; line = 1 } }
+
+abbrev here : ℕ → Span
+here n = record { start = n; end = n; line = 1 }
+
+-- syntax = "proto3"; message M { uint64 a = 1; }
+abbrev header : List Lexeme
+header = at 0 (identifier (codes "syntax")) ∷ at 1 (mark 61) ∷ at 2 (string (codes "proto3")) ∷ at 3 (mark 59) ∷ []
+
+abbrev opens : List Lexeme
+opens = at 4 (identifier (codes "message")) ∷ at 5 (identifier (codes "M")) ∷ at 6 (mark 123) ∷ []
+
+abbrev a_field : List Lexeme
+a_field = at 7 (identifier (codes "uint64")) ∷ at 8 (identifier (codes "a")) ∷ at 9 (mark 61) ∷ at 10 (integer (Small 1)) ∷ at 11 (mark 59) ∷ []
+
+abbrev closes : List Lexeme
+closes = at 12 (mark 125) ∷ []
+
+abbrev small_says : File
+small_says = record {
+  «package» = None;
+  imports = [];
+  messages = record {
+    name = word_at (codes "M") (here 5);
+    parent = None;
+    fields = record { name = word_at (codes "a") (here 8); number = number_at false (Small 1) (here 10); kind = Named (word_at (codes "uint64") (here 7)); label = Plain; oneof = None; packed = None } ∷ [];
+    oneofs = [];
+    ranges = [];
+    names = [];
+  } ∷ [];
+  enums = [];
+  services = [];
+}
+
+pub small_file : Files.Forms (header ++ opens ++ a_field ++ closes ++ at 13 the_end ∷ []) small_says
+small_file =
+    Files.whole (at 13 the_end)
+    (Files.another
+    (Files.another
+    (Files.another (Files.start (Files.proto3 _ _ _ _ refl refl refl refl)) (Files.message (at 4 (identifier (codes "message"))) (at 5 (identifier (codes "M"))) (at 6 (mark 123)) (codes "M") refl refl refl refl refl) refl)
+    (Files.a_field (refl, λ e. absurd cc) Files.plain (Grammar.named (Grammar.relative (Grammar.one (at 7 (identifier (codes "uint64"))) (codes "uint64") refl)) refl)
+    (Files.field_end (at 8 (identifier (codes "a"))) (at 9 (mark 61)) (at 11 (mark 59)) (codes "a") refl refl (Grammar.whole (at 10 (integer (Small 1))) (Small 1) refl) Grammar.no_options refl refl) refl) refl)
+    (Files.close (at 12 (mark 125)) refl refl (Files.message_ends 0 [] refl refl)) refl)
+    (refl, refl) refl refl

@@ -1,0 +1,8 @@
+use Rattle.proto_schema.proofs.Texts.{answer_reads, answer_is_file}
+use Rattle.proto_schema.proofs.read.read_proto.Goals as goal
+
+pub returns-clause-reads : goal.returns-clause-reads
+returns-clause-reads c = answer_reads c.args.text.now c.read_tokens.result (c.one_list.ensures.some c.args.text.now) c.read_tokens.ensures
+
+pub returns-clause-only : goal.returns-clause-only
+returns-clause-only c = λ f h. answer_is_file c.args.text.now c.read_tokens.result f c.read_tokens.ensures h

@@ -1,0 +1,17 @@
+use Rattle.std.proofs.Common.{◌≡◌, ◌≤◌, ◌-◌, length}
+use Rattle.proto_tokens.specs.Tokens.{line_at}
+use Rattle.proto_schema.specs.Running.{depth, draft_of}
+use Rattle.proto_schema.proofs.Next.{Goes}
+use Rattle.proto_schema.proofs.read.read_statements.Given as goal
+
+-- the next token is asked for behind the last one, and what comes of the tokens behind it comes of the text
+abbrev pub invariant-tokens : goal.invariant-tokens
+invariant-tokens l = record {
+  within : l.last.end ≤ length l.text;
+  line : l.last.line ≡ line_at l.text l.last.end;
+  depth : depth l.state ≤ l.last.end;
+  comes : Goes l.text l.fn.semicolon.end l.last.end (draft_of l.draft) l.state;
+}
+
+abbrev pub decreases-tokens : goal.decreases-tokens
+decreases-tokens l = length l.text - l.last.end

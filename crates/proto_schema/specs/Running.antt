@@ -1,0 +1,382 @@
+-- A text is read token by token: statements, and the whole text.
+use Rattle.std.specs.Prelude.{◌≡◌, ℕ, ◌==◌, nat_le, Bool, true, false, not, ◌&&◌, ◌||◌, if◌then◌else◌, List, [], ◌∷◌, ◌++◌, codes, length, Option, Some, None, is_some, Result, Ok, Err}
+use Rattle.std.specs.Str.{bytes_eq}
+use Rattle.proto_tokens.specs.Tokens.{AreTokens, is_last}
+use Rattle.proto_tokens.specs.declared.token.Token.{Token}
+use Rattle.proto_schema.specs.Lexemes.{Meaning, identifier, string, mark, the_end, Lexeme, says, dot, semicolon, equals, opening_brace, closing_brace, word_at}
+use Rattle.proto_schema.specs.Files.{Draft, Block, no_block, a_oneof, an_enum, a_service, an_rpc, with_file, with_block, in_message, in_enum, open_message, open_enum, open_service, open_oneof, add_field, add_rpc, nothing_said, MOST_OPEN}
+use Rattle.proto_schema.specs.Faults.{is_no_token}
+use Rattle.proto_schema.specs.Reading.{fault_at, unexpected, wrong, if_name, is_mark, full_step, option_step, next_option, field_step, reserved_step, value_step, rpc_step, option_depth, field_depth, value_depth}
+use Rattle.proto_schema.specs.declared.file.Span.{Span}
+use Rattle.proto_schema.specs.declared.file.Word.{Word}
+use Rattle.proto_schema.specs.declared.file.Import.{Import}
+use Rattle.proto_schema.specs.declared.file.FieldLabel.{FieldLabel}
+use Rattle.proto_schema.specs.declared.file.FieldLabel.TheVariants as labels
+use Rattle.proto_schema.specs.declared.file.FieldDecl.{FieldDecl}
+use Rattle.proto_schema.specs.declared.file.File.{File}
+use Rattle.proto_schema.specs.declared.fault.ProtoReason.TheVariants as reasons
+use Rattle.proto_schema.specs.declared.fault.ProtoFault.{ProtoFault}
+use Rattle.proto_schema.specs.declared.fault.ProtoFault.TheVariants as fault
+use Rattle.proto_schema.specs.declared.name.NameState.TheVariants as names
+use Rattle.proto_schema.specs.declared.name.NameStep.{NameStep}
+use Rattle.proto_schema.specs.declared.name.NameStep.TheVariants as name_steps
+use Rattle.proto_schema.specs.declared.option.OptionStep.{OptionStep}
+use Rattle.proto_schema.specs.declared.option.OptionStep.TheVariants as option_steps
+use Rattle.proto_schema.specs.declared.field.FieldState.TheVariants as fields
+use Rattle.proto_schema.specs.declared.field.FieldStep.{FieldStep}
+use Rattle.proto_schema.specs.declared.field.FieldStep.TheVariants as field_steps
+use Rattle.proto_schema.specs.declared.value.ValueState.TheVariants as values
+use Rattle.proto_schema.specs.declared.value.ValueStep.{ValueStep}
+use Rattle.proto_schema.specs.declared.value.ValueStep.TheVariants as value_steps
+use Rattle.proto_schema.specs.declared.rpc.RpcState.TheVariants as rpcs
+use Rattle.proto_schema.specs.declared.rpc.RpcStep.{RpcStep}
+use Rattle.proto_schema.specs.declared.rpc.RpcStep.TheVariants as rpc_steps
+use Rattle.proto_schema.specs.declared.reserved.ReservedPart.TheVariants as parts
+use Rattle.proto_schema.specs.declared.reserved.ReservedStep.{ReservedStep}
+use Rattle.proto_schema.specs.declared.reserved.ReservedStep.TheVariants as reserved_steps
+use Rattle.proto_schema.specs.declared.draft.Block.{Block as CodeBlock}
+use Rattle.proto_schema.specs.declared.draft.Block.TheVariants as block
+use Rattle.proto_schema.specs.declared.draft.Draft.{Draft as CodeDraft}
+use Rattle.proto_schema.specs.declared.statement.Place.{Place}
+use Rattle.proto_schema.specs.declared.statement.Place.TheVariants as places
+use Rattle.proto_schema.specs.declared.statement.Opening.{Opening}
+use Rattle.proto_schema.specs.declared.statement.Opening.TheVariants as openings
+use Rattle.proto_schema.specs.declared.statement.State.{State}
+use Rattle.proto_schema.specs.declared.statement.State.TheVariants as states
+use Rattle.proto_schema.specs.declared.statement.Said.{Said}
+use Rattle.proto_schema.specs.declared.statement.Said.TheVariants as said
+use Rattle.proto_schema.specs.declared.statement.Step.{Step}
+use Rattle.proto_schema.specs.declared.statement.Step.TheVariants as steps
+
+-- ---- where a statement stands
+
+abbrev pub place_in : List ℕ → Option Word → Place
+place_in [] p = places.File (is_some p)
+place_in (i ∷ is) p = places.Message
+
+abbrev pub place_with : Block → List ℕ → Option Word → Place
+place_with no_block is p = place_in is p
+place_with (a_oneof i filled) is p = places.Oneof filled
+place_with (an_enum filled) is p = places.Enum filled
+place_with a_service is p = places.Service
+place_with an_rpc is p = places.Rpc
+
+abbrev pub block_of : CodeBlock → Block
+block_of block.None = no_block
+block_of (block.Oneof i filled) = a_oneof i filled
+block_of (block.Enum filled) = an_enum filled
+block_of block.Service = a_service
+block_of block.Rpc = an_rpc
+
+-- a stack whose top is the list's end
+abbrev pub stack : List ℕ → List ℕ
+stack [] = []
+stack (x ∷ xs) = stack xs ++ x ∷ []
+
+-- what a draft of the code stands for
+abbrev pub draft_of : CodeDraft → Draft
+draft_of d = record {
+  file = record {
+    «package» = d.package;
+    imports = d.imports;
+    messages = d.messages.items;
+    enums = d.enums.items;
+    services = d.services.items;
+  };
+  messages = stack d.nested.items;
+  block = block_of d.block;
+}
+
+abbrev pub place_of : Draft → Place
+place_of d = place_with d.block d.messages d.file.package
+
+-- ---- the first token of a statement
+
+abbrev pub more : State → Result Step ProtoFault
+more s = Ok (steps.More s)
+
+abbrev pub done : Said → Result Step ProtoFault
+done s = Ok (steps.Done s)
+
+abbrev pub closes_in : Place → Bool
+closes_in (places.File p) = false
+closes_in places.Message = true
+closes_in (places.Oneof filled) = filled
+closes_in (places.Enum filled) = filled
+closes_in places.Service = true
+closes_in places.Rpc = true
+
+-- where `;` is a statement
+abbrev pub is_body : Place → Bool
+is_body (places.File p) = true
+is_body places.Message = true
+is_body p = false
+
+-- where a field without a label begins
+abbrev pub has_fields : Place → Bool
+has_fields places.Message = true
+has_fields (places.Oneof filled) = true
+has_fields p = false
+
+abbrev pub of_field : Result FieldStep ProtoFault → Result Step ProtoFault
+of_field (Ok (field_steps.More s)) = more (states.Field s)
+of_field (Ok (field_steps.Done f)) = done (said.Field f)
+of_field (Err e) = Err e
+
+abbrev pub field_begins : Lexeme → Result Step ProtoFault
+field_begins x = of_field (field_step (fields.Type labels.Plain names.Start) x)
+
+abbrev pub mark_begins : Place → Lexeme → ℕ → Result Step ProtoFault
+mark_begins p x c =
+    if c == dot && has_fields p then field_begins x
+    else if c == semicolon && is_body p then done said.Nothing
+    else if c == closing_brace && closes_in p then done said.Close
+    else wrong x
+
+-- `message`, `enum`, `service` and `oneof`, where they may stand
+abbrev pub opening_of : Bool → List ℕ → Option Opening
+opening_of in_file n =
+    if bytes_eq n (codes "message") then Some openings.Message
+    else if bytes_eq n (codes "enum") then Some openings.Enum
+    else if in_file && bytes_eq n (codes "service") then Some openings.Service
+    else if not in_file && bytes_eq n (codes "oneof") then Some openings.Oneof
+    else None
+
+abbrev pub is_extend : List ℕ → Bool
+is_extend n = bytes_eq n (codes "extend") || bytes_eq n (codes "extensions")
+
+abbrev pub file_begins : Bool → List ℕ → Lexeme → Option Opening → Result Step ProtoFault
+file_begins p n x (Some o) = more (states.Opening o)
+file_begins p n x None =
+    if is_extend n then Err (fault_at reasons.Extend x.span)
+    else if not p && bytes_eq n (codes "package") then more (states.Package names.Start)
+    else if bytes_eq n (codes "import") then more (states.Import false)
+    else wrong x
+
+abbrev pub reserved_begins : Bool → Result Step ProtoFault
+reserved_begins signed = more (states.Reserved (record { signed = signed; part = parts.Start }))
+
+abbrev pub labelled : FieldLabel → Result Step ProtoFault
+labelled label = more (states.Field (fields.Type label names.Start))
+
+abbrev pub message_begins : List ℕ → Lexeme → Option Opening → Result Step ProtoFault
+message_begins n x (Some o) = more (states.Opening o)
+message_begins n x None =
+    if is_extend n then Err (fault_at reasons.Extend x.span)
+    else if bytes_eq n (codes "reserved") then reserved_begins false
+    else if bytes_eq n (codes "optional") then labelled labels.Optional
+    else if bytes_eq n (codes "repeated") then labelled labels.Repeated
+    else field_begins x
+
+abbrev pub word_begins : Place → Lexeme → List ℕ → Result Step ProtoFault
+word_begins (places.File p) x n = file_begins p n x (opening_of true n)
+word_begins places.Message x n = message_begins n x (opening_of false n)
+word_begins (places.Oneof filled) x n = field_begins x
+word_begins (places.Enum filled) x n =
+    if bytes_eq n (codes "reserved") then reserved_begins true
+    else more (states.Value (values.Named (word_at n x.span)))
+word_begins places.Service x n = if bytes_eq n (codes "rpc") then more (states.Rpc rpcs.Start) else wrong x
+word_begins places.Rpc x n = wrong x
+
+abbrev pub begins : Place → Lexeme → Meaning → Result Step ProtoFault
+begins p x (identifier n) = if bytes_eq n (codes "option") then more (states.Option next_option) else word_begins p x n
+begins p x (mark c) = mark_begins p x c
+begins p x m = wrong x
+
+-- ---- further tokens
+
+-- the `;` behind what a statement says
+abbrev pub ended : Said → Lexeme → Result Step ProtoFault
+ended s x = if is_mark x.means semicolon then done s else wrong x
+
+abbrev pub of_package : Lexeme → Result NameStep ProtoFault → Result Step ProtoFault
+of_package x (Ok (name_steps.More s)) = more (states.Package s)
+of_package x (Ok (name_steps.Whole w)) = ended (said.Package w) x
+of_package x (Err e) = Err e
+
+abbrev pub imported : Bool → List ℕ → Span → Import
+imported public path s = record { path = path; public = public; span = s }
+
+abbrev pub import_step : Bool → Lexeme → Meaning → Result Step ProtoFault
+import_step public x (string path) = more (states.Imported (imported public path x.span))
+import_step public x the_end = wrong x
+import_step public x m =
+    if not public && says m (codes "public") then more (states.Import true)
+    else if is_no_token m || public then wrong x
+    else Err (fault_at reasons.Import x.span)
+
+abbrev pub of_options : Lexeme → Result OptionStep ProtoFault → Result Step ProtoFault
+of_options x (Ok (option_steps.More s)) = more (states.Option s)
+of_options x (Ok (option_steps.Whole says_packed)) = ended said.Nothing x
+of_options x (Err e) = Err e
+
+abbrev pub of_reserved : Result ReservedStep ProtoFault → Result Step ProtoFault
+of_reserved (Ok (reserved_steps.More s)) = more (states.Reserved s)
+of_reserved (Ok (reserved_steps.Ranges rs)) = done (said.Ranges rs)
+of_reserved (Ok (reserved_steps.Names ws)) = done (said.Names ws)
+of_reserved (Err e) = Err e
+
+abbrev pub of_value : Result ValueStep ProtoFault → Result Step ProtoFault
+of_value (Ok (value_steps.More s)) = more (states.Value s)
+of_value (Ok (value_steps.Done v)) = done (said.Value v)
+of_value (Err e) = Err e
+
+abbrev pub of_rpc : Result RpcStep ProtoFault → Result Step ProtoFault
+of_rpc (Ok (rpc_steps.More s)) = more (states.Rpc s)
+of_rpc (Ok (rpc_steps.Done r block)) = done (said.Rpc r block)
+of_rpc (Err e) = Err e
+
+unfoldable pub statement_step : Place → State → Lexeme → Result Step ProtoFault
+statement_step p states.Begin x = begins p x x.means
+statement_step p (states.Package s) x = of_package x (full_step s x)
+statement_step p (states.Import public) x = import_step public x x.means
+statement_step p (states.Imported i) x = ended (said.Import i) x
+statement_step p (states.Option s) x = of_options x (option_step s x)
+statement_step p (states.Opening o) x = if_name x (λ n. steps.More (states.Opened o (word_at n x.span)))
+statement_step p (states.Opened o w) x = if is_mark x.means opening_brace then done (said.Open o w) else wrong x
+statement_step p (states.Field s) x = of_field (field_step s x)
+statement_step p (states.Reserved s) x = of_reserved (reserved_step s x)
+statement_step p (states.Value s) x = of_value (value_step s x)
+statement_step p (states.Rpc s) x = of_rpc (rpc_step s x)
+
+-- how many braces of an option, or maps of a type, are open
+abbrev pub depth : State → ℕ
+depth (states.Option s) = option_depth s
+depth (states.Field s) = field_depth s
+depth (states.Value s) = value_depth s
+depth s = 0
+
+-- ---- what a statement adds
+
+abbrev pub in_oneof : Block → FieldDecl → FieldDecl
+in_oneof (a_oneof i filled) f = record f { oneof = Some i }
+in_oneof b f = f
+
+abbrev pub filled_with : Block → Block
+filled_with (a_oneof i filled) = a_oneof i true
+filled_with b = b
+
+abbrev pub is_enum : Block → Bool
+is_enum (an_enum filled) = true
+is_enum b = false
+
+abbrev pub without_first : List ℕ → List ℕ
+without_first [] = []
+without_first (i ∷ is) = is
+
+abbrev pub closed_with : Draft → Block → Draft
+closed_with d no_block = record { file = d.file; messages = without_first d.messages; block = no_block }
+closed_with d an_rpc = with_block d a_service
+closed_with d b = with_block d no_block
+
+abbrev pub added : Draft → Said → Draft
+added d said.Nothing = d
+added d (said.Package w) = with_file d (record d.file { «package» = Some w })
+added d (said.Import i) = with_file d (record d.file { imports = d.file.imports ++ i ∷ [] })
+added d (said.Open openings.Message w) = open_message d w
+added d (said.Open openings.Enum w) = open_enum d w
+added d (said.Open openings.Service w) = open_service d w
+added d (said.Open openings.Oneof w) = open_oneof d w
+added d (said.Field f) = with_block (add_field d (in_oneof d.block f)) (filled_with d.block)
+added d (said.Ranges rs) =
+    if is_enum d.block then in_enum d (λ e. record e { ranges = e.ranges ++ rs })
+    else in_message d (λ m. record m { ranges = m.ranges ++ rs })
+added d (said.Names ws) =
+    if is_enum d.block then in_enum d (λ e. record e { names = e.names ++ ws })
+    else in_message d (λ m. record m { names = m.names ++ ws })
+added d (said.Value v) = with_block (in_enum d (λ e. record e { values = e.values ++ v ∷ [] })) (an_enum true)
+added d (said.Rpc r true) = with_block (add_rpc d r) an_rpc
+added d (said.Rpc r false) = add_rpc d r
+added d said.Close = closed_with d d.block
+
+-- ---- the whole text
+
+-- what has come of the tokens: they are used up, the text ends and says a file, or one of them is at fault
+pub data Outcome : Type 0 where
+  cut_off : Draft → State → Outcome
+  read : File → Outcome
+  failed : ProtoFault → Outcome
+
+abbrev pub is_begin : State → Bool
+is_begin states.Begin = true
+is_begin s = false
+
+abbrev pub is_file : Place → Bool
+is_file (places.File p) = true
+is_file p = false
+
+abbrev pub is_end : Meaning → Bool
+is_end the_end = true
+is_end m = false
+
+-- whether a statement opens a message in as many others as may be open
+abbrev pub is_too_deep : Bool → Draft → Said → Bool
+is_too_deep limited d (said.Open openings.Message w) = limited && nat_le MOST_OPEN (length d.messages)
+is_too_deep limited d s = false
+
+-- what comes of the tokens behind, by what a token does
+abbrev pub behind : (Draft → State → Outcome) → Bool → Draft → Lexeme → Result Step ProtoFault → Outcome
+behind go limited d x (Ok (steps.More t)) = go d t
+behind go limited d x (Ok (steps.Done t)) =
+    if is_too_deep limited d t then failed (fault_at reasons.Nesting x.span) else go (added d t) states.Begin
+behind go limited d x (Err e) = failed e
+
+-- the text ends here, where nothing is open
+abbrev pub is_over : Draft → State → Lexeme → Bool
+is_over d s x = is_end x.means && (is_begin s && is_file (place_of d))
+
+-- the tokens from a place on, where messages may nest without limit or not
+unfoldable pub run : Bool → Draft → State → List Lexeme → Outcome
+run limited d s [] = cut_off d s
+run limited d s (x ∷ xs) =
+    if is_over d s x then read d.file
+    else behind (λ c t. run limited c t xs) limited d x (statement_step (place_of d) s x)
+
+-- ---- the syntax statement
+
+-- the tokens of a text are its syntax statement, and then statements
+abbrev pub behind_syntax : Bool → List Lexeme → Outcome
+behind_syntax limited [] = cut_off nothing_said states.Begin
+behind_syntax limited (z ∷ zs) =
+    if is_mark z.means semicolon then run limited nothing_said states.Begin zs else failed (unexpected z)
+
+abbrev pub behind_value : Bool → Lexeme → Lexeme → List Lexeme → Meaning → Outcome
+behind_value limited w y zs (string value) =
+    if bytes_eq value (codes "proto3") then behind_syntax limited zs else failed (fault_at reasons.Syntax2 w.span)
+behind_value limited w y zs m = failed (unexpected y)
+
+abbrev pub behind_equals : Bool → Lexeme → List Lexeme → Outcome
+behind_equals limited w [] = cut_off nothing_said states.Begin
+behind_equals limited w (y ∷ zs) = behind_value limited w y zs y.means
+
+abbrev pub behind_word : Bool → Lexeme → List Lexeme → Outcome
+behind_word limited w [] = cut_off nothing_said states.Begin
+behind_word limited w (x ∷ zs) = if is_mark x.means equals then behind_equals limited w zs else failed (unexpected x)
+
+abbrev pub reading : Bool → List Lexeme → Outcome
+reading limited [] = cut_off nothing_said states.Begin
+reading limited (w ∷ zs) =
+    if says w.means (codes "syntax") then behind_word limited w zs
+    else if is_no_token w.means then failed (unexpected w)
+    else failed (fault_at reasons.Syntax2 w.span)
+
+-- ---- what the code answers
+
+-- a part of the code answered as reading does, unless memory ran out
+abbrev pub Failed : ProtoFault → Outcome → Type 0
+Failed fault.Memory o = Unit {0}
+Failed e o = o ≡ failed e
+
+abbrev pub Comes : Result File ProtoFault → Outcome → Type 0
+Comes (Ok f) o = o ≡ read f
+Comes (Err e) o = Failed e o
+
+-- what comes of the tokens behind one, by what it does to a statement
+abbrev pub behind_step : Draft → Lexeme → List Lexeme → Result Step ProtoFault → Outcome
+behind_step d x xs r = behind (λ c t. run true c t xs) true d x r
+
+-- a list of tokens begins with this one, and the others are those behind it
+pub data Begins (text : List ℕ) (t : Token) : List Token → Type 0 where
+  alone : {ts : List Token} → ts ≡ t ∷ [] → is_last t.kind ≡ true → Begins text t ts
+  with_others : {ts : List Token} (others : List Token) → ts ≡ t ∷ others → is_last t.kind ≡ false
+      → AreTokens text t.end others → Begins text t ts

@@ -1,0 +1,400 @@
+//! What the statements so far say.
+
+ghost use Rattle.std.specs.Prelude.{◌≡◌, ◌∷◌, ◌++◌, [], OnOk, length, nat_le, slice_get};
+ghost use Rattle.proto_schema.specs.Files.{edit, first_of, oneofs_of, nothing_said, MOST_OPEN};
+ghost use Rattle.proto_schema.specs.Running.{draft_of, place_of, added};
+ghost use Rattle.proto_schema.specs.declared.statement.Opening.TheVariants as openings;
+ghost use Rattle.proto_schema.specs.declared.statement.Said.TheVariants as said;
+
+use crate::file::{
+    EnumDecl, EnumDecls, FieldDecl, FieldDecls, File, Import, Imports, MessageDecl, MessageDecls,
+    Ranges, RpcDecl, RpcDecls, ServiceDecl, ServiceDecls, ValueDecl, ValueDecls, Word, Words,
+};
+use crate::statement::{Opening, Place, Said};
+use mrpc_table::{Memory, Sequence};
+use std::alloc::Global;
+use std::mem;
+
+/// How deep messages nest at most.
+pub const MAX_OPEN: usize = 32;
+
+/// The block that is open in the file, or in the innermost open message.
+#[derive(Clone, Copy)]
+pub enum Block {
+    None,
+    /// A oneof, by its place in its message, and whether it has a field.
+    Oneof(usize, bool),
+    /// An enum, and whether it has a value.
+    Enum(bool),
+    Service,
+    /// The options of an rpc.
+    Rpc,
+}
+
+/// A file while it is read.
+#[derive(Drop)]
+pub struct Draft {
+    package: Option<Word>,
+    imports: Imports,
+    messages: Vec<MessageDecl>,
+    enums: Vec<EnumDecl>,
+    services: Vec<ServiceDecl>,
+    /// The places of the messages that are open, the outermost first.
+    nested: Vec<usize>,
+    block: Block,
+}
+
+// Items behind others.
+fn append<T: Drop>(alloc: Global, items: &mut Sequence<T>, more: Sequence<T>) -> Result<(), Memory>
+    ensures { OnOk result (items.new ≡ items.old ++ more) }
+{
+    let mut all = mem::replace(items, Sequence::new(alloc)).into_vec();
+    let mut more = more.into_vec();
+    all.append(&mut more)?;
+    *items = Sequence::from_vec(all);
+    Ok(())
+}
+
+fn push_field(messages: &mut [MessageDecl], place: usize, field: FieldDecl) -> Result<(), Memory>
+    ensures { OnOk result (messages.new ≡ edit place (λ m. record m { fields = m.fields ++ field ∷ [] }) messages.old) }
+{
+    if place < messages.len() {
+        let message = &mut messages[place];
+        message.fields.push(field)?;
+    }
+    Ok(())
+}
+
+fn push_oneof(messages: &mut [MessageDecl], place: usize, name: Word) -> Result<(), Memory>
+    ensures { OnOk result (messages.new ≡ edit place (λ m. record m { oneofs = m.oneofs ++ name ∷ [] }) messages.old) }
+{
+    if place < messages.len() {
+        let message = &mut messages[place];
+        message.oneofs.push(name)?;
+    }
+    Ok(())
+}
+
+fn push_ranges(
+    alloc: Global,
+    messages: &mut [MessageDecl],
+    place: usize,
+    ranges: Ranges,
+) -> Result<(), Memory>
+    ensures { OnOk result (messages.new ≡ edit place (λ m. record m { ranges = m.ranges ++ ranges }) messages.old) }
+{
+    if place < messages.len() {
+        let message = &mut messages[place];
+        append(alloc, &mut message.ranges, ranges)?;
+    }
+    Ok(())
+}
+
+fn push_names(
+    alloc: Global,
+    messages: &mut [MessageDecl],
+    place: usize,
+    names: Words,
+) -> Result<(), Memory>
+    ensures { OnOk result (messages.new ≡ edit place (λ m. record m { names = m.names ++ names }) messages.old) }
+{
+    if place < messages.len() {
+        let message = &mut messages[place];
+        append(alloc, &mut message.names, names)?;
+    }
+    Ok(())
+}
+
+fn push_value(enums: &mut [EnumDecl], place: usize, value: ValueDecl) -> Result<(), Memory>
+    ensures { OnOk result (enums.new ≡ edit place (λ e. record e { values = e.values ++ value ∷ [] }) enums.old) }
+{
+    if place < enums.len() {
+        let last = &mut enums[place];
+        last.values.push(value)?;
+    }
+    Ok(())
+}
+
+fn push_value_ranges(
+    alloc: Global,
+    enums: &mut [EnumDecl],
+    place: usize,
+    ranges: Ranges,
+) -> Result<(), Memory>
+    ensures { OnOk result (enums.new ≡ edit place (λ e. record e { ranges = e.ranges ++ ranges }) enums.old) }
+{
+    if place < enums.len() {
+        let last = &mut enums[place];
+        append(alloc, &mut last.ranges, ranges)?;
+    }
+    Ok(())
+}
+
+fn push_value_names(
+    alloc: Global,
+    enums: &mut [EnumDecl],
+    place: usize,
+    names: Words,
+) -> Result<(), Memory>
+    ensures { OnOk result (enums.new ≡ edit place (λ e. record e { names = e.names ++ names }) enums.old) }
+{
+    if place < enums.len() {
+        let last = &mut enums[place];
+        append(alloc, &mut last.names, names)?;
+    }
+    Ok(())
+}
+
+fn push_rpc(services: &mut [ServiceDecl], place: usize, rpc: RpcDecl) -> Result<(), Memory>
+    ensures { OnOk result (services.new ≡ edit place (λ s. record s { rpcs = s.rpcs ++ rpc ∷ [] }) services.old) }
+{
+    if place < services.len() {
+        let last = &mut services[place];
+        last.rpcs.push(rpc)?;
+    }
+    Ok(())
+}
+
+// How many oneofs a message has.
+fn oneofs_in(messages: &[MessageDecl], place: usize) -> usize
+    ensures { result ≡ oneofs_of (slice_get messages.now place) }
+{
+    match messages.get(place) {
+        Some(message) => message.oneofs.len(),
+        None => 0,
+    }
+}
+
+#[tactic(auto, using(crate::proofs::Drafts::draft_lemmas))]
+impl Draft {
+    /// Nothing is said.
+    pub fn new(alloc: Global) -> Draft
+        ensures { draft_of result ≡ nothing_said }
+    {
+        Draft {
+            package: None,
+            imports: Imports::new(alloc),
+            messages: Vec::new(alloc),
+            enums: Vec::new(alloc),
+            services: Vec::new(alloc),
+            nested: Vec::new(alloc),
+            block: Block::None,
+        }
+    }
+
+    /// Where the next statement stands.
+    pub fn place(&self) -> Place
+        ensures { result ≡ place_of (draft_of self.now) }
+    {
+        match self.block {
+            Block::Oneof(_, filled) => Place::Oneof { filled },
+            Block::Enum(filled) => Place::Enum { filled },
+            Block::Service => Place::Service,
+            Block::Rpc => Place::Rpc,
+            Block::None if self.nested.is_empty() => Place::File {
+                package: self.package.is_some(),
+            },
+            Block::None => Place::Message,
+        }
+    }
+
+    /// Whether a message can't be opened, since 32 are open.
+    pub fn is_deep(&self) -> bool
+        ensures { result ≡ nat_le MOST_OPEN (length (draft_of self.now).messages) }
+    {
+        self.nested.len() >= MAX_OPEN
+    }
+
+    /// The file, where nothing is open.
+    pub fn into_file(self) -> File
+        ensures { result ≡ (draft_of self).file }
+    {
+        let Draft {
+            package,
+            imports,
+            messages,
+            enums,
+            services,
+            nested: _,
+            block: _,
+        } = self;
+        File {
+            package,
+            imports,
+            messages: MessageDecls::from_vec(messages),
+            enums: EnumDecls::from_vec(enums),
+            services: ServiceDecls::from_vec(services),
+        }
+    }
+
+    // The place of the innermost message.
+    fn innermost(&self) -> Option<usize>
+        ensures { result ≡ first_of (draft_of self.now).messages }
+    {
+        self.nested.last().copied()
+    }
+
+    fn open_message(&mut self, alloc: Global, name: Word) -> Result<(), Memory>
+        ensures { OnOk result (draft_of self.new ≡ added (draft_of self.old) (said.Open openings.Message name)) }
+    {
+        let place = self.messages.len();
+        let parent = self.innermost();
+        self.messages.push(MessageDecl {
+            name,
+            parent,
+            fields: FieldDecls::new(alloc),
+            oneofs: Words::new(alloc),
+            ranges: Ranges::new(alloc),
+            names: Words::new(alloc),
+        })?;
+        self.nested.push(place)?;
+        self.block = Block::None;
+        Ok(())
+    }
+
+    fn open_enum(&mut self, alloc: Global, name: Word) -> Result<(), Memory>
+        ensures { OnOk result (draft_of self.new ≡ added (draft_of self.old) (said.Open openings.Enum name)) }
+    {
+        let parent = self.innermost();
+        self.enums.push(EnumDecl {
+            name,
+            parent,
+            values: ValueDecls::new(alloc),
+            ranges: Ranges::new(alloc),
+            names: Words::new(alloc),
+        })?;
+        self.block = Block::Enum(false);
+        Ok(())
+    }
+
+    fn open_service(&mut self, alloc: Global, name: Word) -> Result<(), Memory>
+        ensures { OnOk result (draft_of self.new ≡ added (draft_of self.old) (said.Open openings.Service name)) }
+    {
+        self.services.push(ServiceDecl {
+            name,
+            rpcs: RpcDecls::new(alloc),
+        })?;
+        self.block = Block::Service;
+        Ok(())
+    }
+
+    fn open_oneof(&mut self, name: Word) -> Result<(), Memory>
+        ensures { OnOk result (draft_of self.new ≡ added (draft_of self.old) (said.Open openings.Oneof name)) }
+    {
+        match self.innermost() {
+            Some(message) => {
+                let place = oneofs_in(&self.messages, message);
+                push_oneof(&mut self.messages, message, name)?;
+                self.block = Block::Oneof(place, false);
+            }
+            None => self.block = Block::Oneof(0, false),
+        }
+        Ok(())
+    }
+
+    fn add_field(&mut self, mut field: FieldDecl) -> Result<(), Memory>
+        ensures { OnOk result (draft_of self.new ≡ added (draft_of self.old) (said.Field field)) }
+    {
+        if let Block::Oneof(place, _) = self.block {
+            field.oneof = Some(place);
+            self.block = Block::Oneof(place, true);
+        }
+        match self.innermost() {
+            Some(message) => push_field(&mut self.messages, message, field),
+            None => Ok(()),
+        }
+    }
+
+    fn add_value(&mut self, value: ValueDecl) -> Result<(), Memory>
+        ensures { OnOk result (draft_of self.new ≡ added (draft_of self.old) (said.Value value)) }
+    {
+        let last = self.enums.len().saturating_sub(1);
+        push_value(&mut self.enums, last, value)?;
+        self.block = Block::Enum(true);
+        Ok(())
+    }
+
+    fn add_ranges(&mut self, alloc: Global, ranges: Ranges) -> Result<(), Memory>
+        ensures { OnOk result (draft_of self.new ≡ added (draft_of self.old) (said.Ranges ranges)) }
+    {
+        if let Block::Enum(_) = self.block {
+            let last = self.enums.len().saturating_sub(1);
+            return push_value_ranges(alloc, &mut self.enums, last, ranges);
+        }
+        match self.innermost() {
+            Some(message) => push_ranges(alloc, &mut self.messages, message, ranges),
+            None => Ok(()),
+        }
+    }
+
+    fn add_names(&mut self, alloc: Global, names: Words) -> Result<(), Memory>
+        ensures { OnOk result (draft_of self.new ≡ added (draft_of self.old) (said.Names names)) }
+    {
+        if let Block::Enum(_) = self.block {
+            let last = self.enums.len().saturating_sub(1);
+            return push_value_names(alloc, &mut self.enums, last, names);
+        }
+        match self.innermost() {
+            Some(message) => push_names(alloc, &mut self.messages, message, names),
+            None => Ok(()),
+        }
+    }
+
+    fn add_rpc(&mut self, rpc: RpcDecl, block: bool) -> Result<(), Memory>
+        ensures { OnOk result (draft_of self.new ≡ added (draft_of self.old) (said.Rpc rpc block)) }
+    {
+        let last = self.services.len().saturating_sub(1);
+        push_rpc(&mut self.services, last, rpc)?;
+        if block {
+            self.block = Block::Rpc;
+        }
+        Ok(())
+    }
+
+    fn close(&mut self)
+        ensures { draft_of self.new ≡ added (draft_of self.old) said.Close }
+    {
+        match self.block {
+            Block::None => {
+                let _ = self.nested.pop();
+            }
+            Block::Rpc => self.block = Block::Service,
+            _ => self.block = Block::None,
+        }
+    }
+
+    fn open(&mut self, alloc: Global, opening: Opening, name: Word) -> Result<(), Memory>
+        ensures { OnOk result (draft_of self.new ≡ added (draft_of self.old) (said.Open opening name)) }
+    {
+        match opening {
+            Opening::Message => self.open_message(alloc, name),
+            Opening::Enum => self.open_enum(alloc, name),
+            Opening::Service => self.open_service(alloc, name),
+            Opening::Oneof => self.open_oneof(name),
+        }
+    }
+
+    /// Adds what a statement says.
+    pub fn add(&mut self, alloc: Global, says: Said) -> Result<(), Memory>
+        ensures { OnOk result (draft_of self.new ≡ added (draft_of self.old) says) }
+    {
+        match says {
+            Said::Nothing => Ok(()),
+            Said::Package(name) => {
+                self.package = Some(name);
+                Ok(())
+            }
+            Said::Import(import) => self.imports.push(import),
+            Said::Open(opening, name) => self.open(alloc, opening, name),
+            Said::Field(field) => self.add_field(field),
+            Said::Ranges(ranges) => self.add_ranges(alloc, ranges),
+            Said::Names(names) => self.add_names(alloc, names),
+            Said::Value(value) => self.add_value(value),
+            Said::Rpc(rpc, block) => self.add_rpc(rpc, block),
+            Said::Close => {
+                self.close();
+                Ok(())
+            }
+        }
+    }
+}

@@ -1,0 +1,77 @@
+//! Why a text is no proto file.
+
+ghost use Rattle.std.specs.Prelude.{◌≡◌};
+ghost use Rattle.proto_schema.specs.declared.fault.ProtoFault.TheVariants.{Memory as NoMemory};
+
+use mrpc_table::Memory;
+use std::alloc::{AllocError, AllocFailed};
+use thiserror::Error;
+
+/// What is wrong with a token.
+#[derive(Clone, Copy, Debug, PartialEq, Eq, Error)]
+pub enum ProtoReason {
+    /// No token stands there. `:` and `/` are tokens in the braces of an option's value alone.
+    #[error("Token")]
+    Token,
+    /// The token can't stand there.
+    #[error("Expected")]
+    Expected,
+    /// Behind `import` stands neither a string nor `public`.
+    #[error("Import")]
+    Import,
+    /// `stream` before the type of an rpc.
+    #[error("Stream")]
+    Stream,
+    /// `group` in a type's place.
+    #[error("Group")]
+    Group,
+    /// `extend` or `extensions`, where a statement of a file or of a message begins.
+    #[error("Extend")]
+    Extend,
+    /// The file doesn't begin with `syntax = "proto3";`.
+    #[error("Syntax2")]
+    Syntax2,
+    /// A 33rd level of messages in one another.
+    #[error("Nesting")]
+    Nesting,
+}
+
+/// Why no file was read.
+#[derive(Clone, Copy, Debug, PartialEq, Eq, Error)]
+pub enum ProtoFault {
+    /// The first token at fault, with its place and its line.
+    #[error("line {line}: {reason}")]
+    At {
+        reason: ProtoReason,
+        start: usize,
+        end: usize,
+        line: u64,
+    },
+    /// No memory was found.
+    #[error("out of memory")]
+    Memory,
+}
+
+impl From<Memory> for ProtoFault {
+    ghost from_gives = { λ _ e. e ≡ NoMemory };
+
+    fn from(_: Memory) -> ProtoFault {
+        ProtoFault::Memory
+    }
+}
+
+impl From<AllocError> for ProtoFault {
+    ghost from_gives = { λ _ e. e ≡ NoMemory };
+
+    fn from(_: AllocError) -> ProtoFault {
+        ProtoFault::Memory
+    }
+}
+
+impl<T: Drop> From<AllocFailed<T>> for ProtoFault {
+    ghost from_gives = { λ _ e. e ≡ NoMemory };
+
+    fn from(_: AllocFailed<T>) -> ProtoFault {
+        ProtoFault::Memory
+    }
+}

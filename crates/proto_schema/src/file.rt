@@ -1,0 +1,168 @@
+//! What a proto file says.
+//!
+//! All messages and enums of a file stand in one list each, nested ones too, in the order of their names in the text; a
+//! nested one has the place of the message that it stands in. So nothing here is recursive.
+
+use mrpc_table::{Decimal, Name, Sequence};
+
+/// Where something stands in a text.
+#[derive(Clone, Copy, Debug, PartialEq, Eq)]
+pub struct Span {
+    /// The place of its first byte, from 0.
+    pub start: usize,
+    /// The place behind its last byte.
+    pub end: usize,
+    /// The line in which it starts, from 1.
+    pub line: u64,
+}
+
+/// A name as it is written, without what stands between its parts, and where it stands.
+#[derive(Debug, Drop)]
+pub struct Word {
+    /// A name, or names joined by dots; a type's name may begin with a dot.
+    pub name: Name,
+    pub span: Span,
+}
+
+/// Names with their places.
+pub type Words = Sequence<Word>;
+
+/// A whole number as it is written, and where it stands.
+#[derive(Clone, Copy, Debug, PartialEq, Eq)]
+pub struct Number {
+    /// Whether a `-` stands before it; the span begins there.
+    pub negative: bool,
+    pub value: Decimal,
+    pub span: Span,
+}
+
+/// An import of another file.
+#[derive(Debug, Drop)]
+pub struct Import {
+    /// What the path's string stands for.
+    pub path: Name,
+    pub public: bool,
+    /// Where the path stands.
+    pub span: Span,
+}
+
+/// Imports in the order of their statements.
+pub type Imports = Sequence<Import>;
+
+/// The label of a field.
+#[derive(Clone, Copy, Debug, PartialEq, Eq)]
+pub enum FieldLabel {
+    Plain,
+    Optional,
+    Repeated,
+}
+
+/// The type of a field, as it is written.
+#[derive(Debug, Drop)]
+pub enum FieldType {
+    /// A scalar, or the name of a message or an enum.
+    Named(Word),
+    /// `map<KEY, VALUE>`
+    Map { key: Word, value: Word },
+    /// `map<KEY, map<..>>`, whose parts aren't kept: no map is a map's value.
+    NestedMap,
+}
+
+/// A field of a message.
+#[derive(Debug, Drop)]
+pub struct FieldDecl {
+    pub name: Word,
+    pub number: Number,
+    pub kind: FieldType,
+    pub label: FieldLabel,
+    /// The place of its oneof among those of its message.
+    pub oneof: Option<usize>,
+    /// What its last option `packed` says, of those that are `true` or `false`.
+    pub packed: Option<bool>,
+}
+
+/// Fields in the order of the text.
+pub type FieldDecls = Sequence<FieldDecl>;
+
+/// Reserved numbers, from the first to the last.
+#[derive(Clone, Copy, Debug, PartialEq, Eq)]
+pub struct Range {
+    pub first: Number,
+    /// The last one, none for `max`.
+    pub last: Option<Number>,
+}
+
+/// Ranges of reserved numbers, in the order of the text.
+pub type Ranges = Sequence<Range>;
+
+/// A message.
+#[derive(Debug, Drop)]
+pub struct MessageDecl {
+    pub name: Word,
+    /// The place of the message that it stands in, among those of the file.
+    pub parent: Option<usize>,
+    pub fields: FieldDecls,
+    pub oneofs: Words,
+    pub ranges: Ranges,
+    /// Reserved names.
+    pub names: Words,
+}
+
+/// Messages in the order of their names in the text.
+pub type MessageDecls = Sequence<MessageDecl>;
+
+/// A value of an enum.
+#[derive(Debug, Drop)]
+pub struct ValueDecl {
+    pub name: Word,
+    pub number: Number,
+}
+
+/// Values in the order of the text.
+pub type ValueDecls = Sequence<ValueDecl>;
+
+/// An enum.
+#[derive(Debug, Drop)]
+pub struct EnumDecl {
+    pub name: Word,
+    /// The place of the message that it stands in, among those of the file.
+    pub parent: Option<usize>,
+    pub values: ValueDecls,
+    pub ranges: Ranges,
+    /// Reserved names.
+    pub names: Words,
+}
+
+/// Enums in the order of their names in the text.
+pub type EnumDecls = Sequence<EnumDecl>;
+
+/// A method of a service.
+#[derive(Debug, Drop)]
+pub struct RpcDecl {
+    pub name: Word,
+    pub input: Word,
+    pub output: Word,
+}
+
+/// Methods in the order of the text.
+pub type RpcDecls = Sequence<RpcDecl>;
+
+/// A service.
+#[derive(Debug, Drop)]
+pub struct ServiceDecl {
+    pub name: Word,
+    pub rpcs: RpcDecls,
+}
+
+/// Services in the order of the text.
+pub type ServiceDecls = Sequence<ServiceDecl>;
+
+/// What a proto file says.
+#[derive(Debug, Drop)]
+pub struct File {
+    pub package: Option<Word>,
+    pub imports: Imports,
+    pub messages: MessageDecls,
+    pub enums: EnumDecls,
+    pub services: ServiceDecls,
+}
