@@ -1,8 +1,12 @@
--- Each element and each entry weighs no more than all of them.
-use Rattle.std.proofs.Common.{◌≡◌, ℕ, zero, suc, ◌+◌, ◌<◌, ◌≤◌, List, [], ◌∷◌, length, get_or, ap, arith}
+-- The parts of a list that are left, one by one.
+use Rattle.std.proofs.Common.{◌≡◌, ℕ, zero, suc, ◌+◌, ◌<◌, ◌≤◌, List, [], ◌∷◌, length, drop, get_or, sym, ap, arith, add-one, drop-cons}
 use Rattle.mrpc_table.specs.View.{item_of, items_of, pairs_of}
 use Rattle.mrpc_table.specs.Weight.{item_weight, items_weight, pairs_weight}
 use Rattle.mrpc_table.specs.declared.tree.Value.{Value}
+
+-- the next part, where `x` is what stands at the place
+pub next_part : {X : Type 0} (xs : List X) (i : ℕ) (x : X) → i < length xs → x ≡ get_or xs i x → drop i xs ≡ x ∷ drop (i + 1) xs
+next_part xs i x within is = rw (add-one, drop-cons xs i x) (ap (λ y. y ∷ drop (suc i) xs) (sym is))
 
 element_at : (xs : List Value) (i : ℕ) (d : Value) → i < length xs → item_weight (item_of (get_or xs i d)) ≤ items_weight (items_of xs)
 element_at [] i d h = absurd (omega (arith, h))

@@ -1,2 +1,4 @@
+pub mod Content
+pub mod Laid
 pub mod Size
 pub mod Stored

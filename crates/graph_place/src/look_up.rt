@@ -1,14 +1,19 @@
-//! What a table says of a message, and how its values lie in words.
+//! What a table and a tree say of a message.
 
-ghost use Rattle.std.specs.Prelude.{◌≡◌, ◌≤◌, ◌<◌, IfNone, IfSome, Some, None, slice_get};
+ghost use Rattle.std.specs.Prelude.{◌≡◌, ◌≢◌, ◌≤◌, ◌<◌, ◌+◌, ◌*◌, ℕ, length, IfNone, IfSome, MatchOption, Some, None, slice_get, slice_index, if◌then◌else◌};
 ghost use Rattle.std.specs.Option.{option_copied};
+ghost use Rattle.mrpc_table.specs.Node.{Item, one};
 ghost use Rattle.mrpc_table.specs.Normal.{fields_of, field_at};
 ghost use Rattle.mrpc_table.specs.Valid.{IsValid};
-ghost use Rattle.graph_form.specs.Roles.{size_words, member_kind, element_words, run_words};
+ghost use Rattle.mrpc_table.specs.View.{content_of, item_of};
+ghost use Rattle.mrpc_table.specs.declared.table.Label.TheVariants.{Member};
+ghost use Rattle.mrpc_table.specs.Weight.{weight, content_weight, item_weight};
+ghost use Rattle.graph_form.specs.Roles.{own_slots, oneofs_of, size_words, is_member, member_kind, element_words, run_words};
+ghost use Rattle.graph_place.specs.Content.{content_at, Ascends, is_of, is_member_of, member_of};
 ghost use Rattle.graph_place.specs.Size.{message_of};
 
 use graph_form::size_words;
-use mrpc_table::{Field, Kind, Message, Table};
+use mrpc_table::{Field, FieldValue, Kind, Label, MAX_FIELDS, Message, Table, Tree, Value};
 
 /// The message at a place of the table.
 fn message_at(table: &Table, message: u32) -> Option<&Message>
@@ -16,6 +21,28 @@ fn message_at(table: &Table, message: u32) -> Option<&Message>
     ensures none { IfNone result (slice_get table.now.messages message ≡ None) }
 {
     table.messages.as_slice().get(message as usize)
+}
+
+/// The fields of the message at a place of the table; none where there is no such message.
+pub fn fields_of(table: &Table, message: u32) -> &[Field]
+    ensures { result.now ≡ fields_of table.now message }
+{
+    match message_at(table, message) {
+        Some(message) => message.fields.as_slice(),
+        None => &[],
+    }
+}
+
+/// The number of oneofs of the message at a place of the table.
+pub fn oneofs_of(table: &Table, message: u32) -> u32
+    requires { IsValid table.now }
+    ensures number { result ≡ oneofs_of table.now message }
+    ensures few { result ≤ 128 }
+{
+    match message_at(table, message) {
+        Some(message) => message.oneofs.len() as u32,
+        None => 0,
+    }
 }
 
 /// How many words a node of the message at a place of the table takes.
@@ -52,6 +79,13 @@ pub fn kind_of(table: &Table, message: u32, number: u32) -> Kind
     }
 }
 
+/// Whether the label is that of a member of a oneof.
+pub fn is_member(label: Label) -> bool
+    ensures { result ≡ is_member label }
+{
+    matches!(label, Label::Member(_))
+}
+
 /// The message that a kind names.
 pub fn message_of(kind: Kind) -> u32
     ensures { result ≡ message_of kind }
@@ -82,5 +116,72 @@ pub fn run_words(bytes: u64) -> u64
         bytes / 8
     } else {
         bytes / 8 + 1
+    }
+}
+
+/// What a tree has under a number, in time by the logarithm of its fields.
+pub fn content_of(tree: &Tree, number: u32) -> Option<&FieldValue>
+    requires { Ascends 0 tree.now }
+    ensures some { IfSome result (λ content. content_at number tree.now ≡ Some (content_of content.now)) }
+    ensures less { IfSome result (λ content. content_weight (content_of content.now) < weight tree.now) }
+    ensures none { IfNone result (content_at number tree.now ≡ None) }
+{
+    let fields = tree.fields.as_slice();
+    match fields.binary_search_by_key(&number, |field| field.0) {
+        Ok(place) => Some(&fields[place].1),
+        Err(_) => None,
+    }
+}
+
+/// The value that a tree has under a number, if it has a single one there.
+pub fn value_of(tree: &Tree, number: u32) -> Option<&Value>
+    requires { Ascends 0 tree.now }
+    ensures some { IfSome result (λ value. content_at number tree.now ≡ Some (one (item_of value.now))) }
+    ensures less { IfSome result (λ value. item_weight (item_of value.now) < weight tree.now) }
+    ensures none { IfNone result ((i : Item) → content_at number tree.now ≢ Some (one i)) }
+{
+    match content_of(tree, number) {
+        Some(content) => match content {
+            FieldValue::One(value) => Some(value),
+            FieldValue::Many(_) | FieldValue::Pairs(_) => None,
+        },
+        None => None,
+    }
+}
+
+/// For each oneof of a message, the number of the member that the tree has, or 0.
+pub fn members_of(table: &Table, message: u32, tree: &Tree) -> [u32; MAX_FIELDS]
+    requires { IsValid table.now }
+    ensures { (oneof : ℕ) → slice_index result oneof ≡ member_of (fields_of table.now message) oneof 0 tree.now }
+{
+    let mut members = [0; MAX_FIELDS];
+    for (number, _) in &tree.fields {
+        note_number(&mut members, table, message, *number);
+    }
+    members
+}
+
+/// Notes a number in the place of the oneof of which its field is a member.
+fn note_number(members: &mut [u32], table: &Table, message: u32, number: u32)
+    requires valid { IsValid table.now }
+    requires places { length members.old ≡ 128 }
+    ensures { (oneof : ℕ) → slice_index members.new oneof
+        ≡ (if is_member_of (fields_of table.now message) oneof number then number else slice_index members.old oneof) }
+{
+    match field_of(table, message, number) {
+        Some(field) => note_label(members, field.label, number),
+        None => (),
+    }
+}
+
+/// Notes a number in the place of the oneof of a label.
+fn note_label(members: &mut [u32], label: Label, number: u32)
+    requires { (oneof : ℕ) → label ≡ Member oneof → oneof < length members.old }
+    ensures { (oneof : ℕ) → slice_index members.new oneof
+        ≡ (if is_of oneof label then number else slice_index members.old oneof) }
+{
+    match label {
+        Label::Member(oneof) => members[oneof as usize] = number,
+        _ => (),
     }
 }

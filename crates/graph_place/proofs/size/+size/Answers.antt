@@ -1,10 +1,10 @@
-use Rattle.std.proofs.Common.{◌≡◌, ◌∙◌, ◌+◌, ◌^◌, ◌-◌, min, drop, ap, sym, arith}
+use Rattle.std.proofs.Common.{◌≡◌, ◌∙◌, drop, ap, arith}
 use Rattle.std.proofs.lemmas.List.{drop_all}
 use Rattle.mrpc_table.specs.Normal.{fields_of}
 use Rattle.mrpc_table.specs.View.{items_of, pairs_of, node_of}
 use Rattle.mrpc_table.specs.Weight.{weight, items_weight, pairs_weight}
 use Rattle.graph_place.specs.Size.{fields_words, many_words, pairs_words}
-use Rattle.graph_place.proofs.Weights.{field_weight}
+use Rattle.graph_place.proofs.Found.{field_weight}
 use Rattle.graph_place.proofs.Parts.{element_weight, entry_weight}
 use Rattle.graph_place.proofs.size.+size.Goals as goal
 

@@ -1,0 +1,442 @@
+//! The list of the words of a message, each at its place.
+
+ghost use Rattle.std.specs.Prelude.{◌≡◌, ◌≢◌, ◌≤◌, ◌<◌, ◌+◌, ◌*◌, ◌^◌, ℕ, Bool, true, false, List, [], ◌∷◌, ◌++◌, length, All, IfOk, OnOk, Some, IsTrue, Option};
+ghost use Rattle.std.specs.Str.{IsUtf8};
+ghost use Rattle.mrpc_table.specs.Node.{Node, one};
+ghost use Rattle.mrpc_table.specs.Normal.{fields_of, field_at, HasFields, OneMemberEach, IsItem, AreItems, ArePairs, depth, content_depth, item_depth, items_depth, pairs_depth};
+ghost use Rattle.mrpc_table.specs.Valid.{IsValid, IsField};
+ghost use Rattle.mrpc_table.specs.View.{item_of, items_of, pairs_of, content_of};
+ghost use Rattle.mrpc_table.specs.declared.table.Kind.{Kind};
+ghost use Rattle.mrpc_table.specs.declared.table.Field.{Field};
+ghost use Rattle.mrpc_table.specs.declared.table.Label.TheVariants.{Map};
+ghost use Rattle.mrpc_table.specs.declared.table.Table.{Table};
+ghost use Rattle.graph_form.specs.Roles.{Expected, elements_address, entries_address, case_word, plain_role, optional_role, slot_role, slots_from, cases_from, node_words, own_slots, oneofs_of, is_member, member_kind, element_words, run_words};
+ghost use Rattle.graph_form.specs.Placed.{Placed};
+ghost use Rattle.graph_form.specs.Forgotten.{run_at, slot_content, slots_tree, with_field, with_member, elements_at, entries_at, tree_of};
+ghost use Rattle.graph_place.specs.Content.{content_at};
+ghost use Rattle.graph_place.specs.Laid.{Puts, PutsWord, Begun, HoldsItem, members, found_words, listed, IsMemberOf, HoldsContent, run_words_of, NoMessage, run_expected, HasBytes};
+ghost use Rattle.graph_place.specs.Size.{tree_words, fields_words, content_words, item_words, many_words, pairs_words};
+
+use crate::look_up::{
+    content_of, element_words, fields_of, is_member, kind_of, members_of, message_of, node_size,
+    oneofs_of, run_words, value_of,
+};
+use mrpc_table::{Entries, Field, FieldValue, Kind, Label, Memory, Table, Tree, Value, Values};
+use std::alloc::Global;
+
+/// The words so far, in the order in which they are loaded, and the place from which on nothing stands yet.
+#[derive(Drop)]
+pub struct Builder {
+    /// Each a place and a value.
+    pub words: Vec<(u64, u64)>,
+    pub free: u64,
+}
+
+impl Builder {
+    /// No words, with room for so many.
+    pub fn new(alloc: Global, free: u64, room: u64) -> Result<Builder, Memory>
+        ensures words { IfOk result (λ builder. builder.words.items ≡ []) }
+        ensures free { IfOk result (λ builder. builder.free ≡ free) }
+    {
+        Ok(Builder {
+            words: Vec::with_capacity(alloc, room as usize)?,
+            free,
+        })
+    }
+
+    /// Appends a word.
+    fn put(&mut self, place: u64, value: u64) -> Result<(), Memory>
+        ensures words { OnOk result (self.new.words.items ≡ self.old.words.items ++ (place, value) ∷ []) }
+        ensures free { self.new.free ≡ self.old.free }
+    {
+        self.words.push((place, value))?;
+        Ok(())
+    }
+
+    /// The first of so many places that are taken now.
+    fn take(&mut self, words: u64) -> u64
+        requires { self.old.free + words < 2 ^ 64 }
+        ensures first { result ≡ self.old.free }
+        ensures free { self.new.free ≡ self.old.free + words }
+        ensures words { self.new.words ≡ self.old.words }
+    {
+        let place = self.free;
+        self.free += words;
+        place
+    }
+
+    /// A message: the slots of its fields, and then those of its oneofs, each with its content.
+    #[cycle(builder)]
+    pub fn node(&mut self, table: &Table, message: u32, tree: &Tree) -> Result<(), Memory>
+        requires valid { IsValid table.now }
+        requires fields { HasFields table.now (fields_of table.now message) 0 tree.now }
+        requires oneofs { OneMemberEach (fields_of table.now message) tree.now }
+        requires from_one { 1 ≤ self.old.free }
+        requires room { self.old.free + tree_words table.now message tree.now < 2 ^ 64 }
+        ensures free { OnOk result (self.new.free ≡ self.old.free + tree_words table.now message tree.now) }
+        ensures puts { OnOk result ((H level : ℕ) → self.new.free ≤ H → level + depth tree.now ≤ 33
+            → Puts table.now H (node_words table.now message level self.old.free)
+            self.old.free self.old.free self.old.free self.new.free self.old.words.items self.new.words.items
+            (λ P. tree_of table.now message P ≡ tree.now)) }
+    {
+        let at = self.take(node_size(table, message));
+        let place = self.slots(table, message, tree, at)?;
+        self.cases(table, message, tree, place)
+    }
+
+    /// The slots of the fields that are no members, from a place on. The place behind them.
+    #[cycle(builder)]
+    fn slots(&mut self, table: &Table, message: u32, tree: &Tree, at: u64) -> Result<u64, Memory>
+        requires valid { IsValid table.now }
+        requires fields { HasFields table.now (fields_of table.now message) 0 tree.now }
+        requires from_one { 1 ≤ at }
+        requires slots { at + 2 * length (own_slots (fields_of table.now message)) ≤ self.old.free }
+        requires room { self.old.free + fields_words table.now (fields_of table.now message) tree.now < 2 ^ 64 }
+        ensures place { IfOk result (λ place. place ≡ at + 2 * length (own_slots (fields_of table.now message))) }
+        ensures free { OnOk result (self.new.free
+            + fields_words table.now (fields_of table.now message) (members (fields_of table.now message) tree.now)
+            ≡ self.old.free + fields_words table.now (fields_of table.now message) tree.now) }
+        ensures puts { OnOk result (let fs = fields_of table.now message in
+            (H level : ℕ) (others : Expected) → self.new.free ≤ H → level + depth tree.now ≤ 33
+            → Begun table.now H (slots_from (own_slots fs) level at ++ others) others
+            at (at + 2 * length (own_slots fs)) self.old.free self.new.free self.old.words.items self.new.words.items
+            (λ P. slots_tree table.now fs (own_slots fs) P ≡ tree.now)
+            (λ Q. slots_tree table.now fs [] Q ≡ members fs tree.now)) }
+    {
+        let fields = fields_of(table, message);
+        let mut place = at;
+        for field in fields {
+            place = self.field(table, field, tree, place)?;
+        }
+        Ok(place)
+    }
+
+    /// The slot of a field, if it has one of its own. The place behind it.
+    #[cycle(builder)]
+    fn field(
+        &mut self,
+        table: &Table,
+        field: &Field,
+        tree: &Tree,
+        place: u64,
+    ) -> Result<u64, Memory>
+        requires valid { IsValid table.now }
+        requires fields { (fs : List Field) × HasFields table.now fs 0 tree.now
+            × (field_at fs field.now.number ≡ Some field.now) }
+        requires field { (oneofs : ℕ) × IsField table.now oneofs field.now }
+        requires from_one { 1 ≤ place }
+        requires slot { is_member field.now.label ≡ false → place + 2 ≤ self.old.free }
+        requires room { is_member field.now.label ≡ false
+            → self.old.free + found_words table.now field.now.kind (content_at field.now.number tree.now) < 2 ^ 64 }
+        ensures member { is_member field.now.label ≡ true
+            → IfOk result (λ next. (next ≡ place) × (self.new ≡ self.old)) }
+        ensures place { is_member field.now.label ≡ false → IfOk result (λ next. next ≡ place + 2) }
+        ensures free { is_member field.now.label ≡ false → OnOk result (self.new.free
+            ≡ self.old.free + found_words table.now field.now.kind (content_at field.now.number tree.now)) }
+        ensures puts { is_member field.now.label ≡ false → OnOk result ((H level : ℕ)
+            → self.new.free ≤ H → level + depth tree.now ≤ 33
+            → PutsWord table.now H (slot_role field.now.label field.now.kind level, place)
+            (place + 2) self.old.free self.new.free self.old.words.items self.new.words.items
+            (λ w. slot_content table.now field.now.label field.now.kind w ≡ content_at field.now.number tree.now)) }
+    {
+        if is_member(field.label) {
+            return Ok(place);
+        }
+        match content_of(tree, field.number) {
+            Some(content) => {
+                self.slot(table, field.label, field.kind, content, place)?;
+                Ok(place + 2)
+            }
+            None => {
+                self.put(place, 0)?;
+                Ok(place + 2)
+            }
+        }
+    }
+
+    /// The slots of the oneofs, from a place on.
+    #[cycle(builder)]
+    fn cases(&mut self, table: &Table, message: u32, tree: &Tree, at: u64) -> Result<(), Memory>
+        requires valid { IsValid table.now }
+        requires fields { HasFields table.now (fields_of table.now message) 0 tree.now }
+        requires oneofs { OneMemberEach (fields_of table.now message) tree.now }
+        requires from_one { 1 ≤ at }
+        requires slots { at + 3 * oneofs_of table.now message ≤ self.old.free }
+        requires room { self.old.free
+            + fields_words table.now (fields_of table.now message) (members (fields_of table.now message) tree.now)
+            < 2 ^ 64 }
+        ensures free { OnOk result (self.new.free ≡ self.old.free
+            + fields_words table.now (fields_of table.now message) (members (fields_of table.now message) tree.now)) }
+        ensures puts { OnOk result (let fs = fields_of table.now message in
+            (H level : ℕ) → self.new.free ≤ H → level + depth tree.now ≤ 33
+            → Puts table.now H (cases_from (oneofs_of table.now message) fs 0 level at)
+            at (at + 3 * oneofs_of table.now message) self.old.free self.new.free
+            self.old.words.items self.new.words.items
+            (λ P. slots_tree table.now fs [] P ≡ members fs tree.now)) }
+    {
+        let members = members_of(table, message, tree);
+        let mut place = at;
+        for oneof in 0..oneofs_of(table, message) {
+            self.case(table, message, tree, members[oneof as usize], place)?;
+            place += 3;
+        }
+        Ok(())
+    }
+
+    /// The slot of a oneof that has the member of a number, or none where it is 0.
+    #[cycle(builder)]
+    fn case(
+        &mut self,
+        table: &Table,
+        message: u32,
+        tree: &Tree,
+        member: u32,
+        place: u64,
+    ) -> Result<(), Memory>
+        requires valid { IsValid table.now }
+        requires fields { HasFields table.now (fields_of table.now message) 0 tree.now }
+        requires member { (oneof : ℕ) × IsMemberOf (fields_of table.now message) oneof tree.now member }
+        requires from_one { 1 ≤ place }
+        requires slot { place + 3 ≤ self.old.free }
+        requires room { self.old.free
+            + found_words table.now (member_kind (fields_of table.now message) member) (content_at member tree.now)
+            < 2 ^ 64 }
+        ensures free { OnOk result (self.new.free ≡ self.old.free
+            + found_words table.now (member_kind (fields_of table.now message) member) (content_at member tree.now)) }
+        ensures puts { OnOk result ((H level oneof : ℕ) → self.new.free ≤ H → level + depth tree.now ≤ 33
+            → IsMemberOf (fields_of table.now message) oneof tree.now member
+            → PutsWord table.now H (case_word (fields_of table.now message) oneof level, place)
+            (place + 3) self.old.free self.new.free self.old.words.items self.new.words.items
+            (λ w. (t : Node) → with_member table.now (fields_of table.now message) w t
+            ≡ with_field member (content_at member tree.now) t)) }
+    {
+        self.put(place, u64::from(member))?;
+        if member == 0 {
+            return Ok(());
+        }
+        match value_of(tree, member) {
+            Some(value) => self.item(table, kind_of(table, message, member), value, place + 1),
+            None => Ok(()),
+        }
+    }
+
+    /// The slot of a field that has this content.
+    #[cycle(builder)]
+    fn slot(
+        &mut self,
+        table: &Table,
+        label: Label,
+        kind: Kind,
+        content: &FieldValue,
+        place: u64,
+    ) -> Result<(), Memory>
+        requires valid { IsValid table.now }
+        requires own { is_member label ≡ false }
+        requires content { HoldsContent table.now label kind (content_of content.now) }
+        requires from_one { 1 ≤ place }
+        requires slot { place + 2 ≤ self.old.free }
+        requires room { self.old.free + content_words table.now kind (content_of content.now) < 2 ^ 64 }
+        ensures free { OnOk result (self.new.free
+            ≡ self.old.free + content_words table.now kind (content_of content.now)) }
+        ensures puts { OnOk result ((H level : ℕ) → self.new.free ≤ H
+            → level + content_depth (content_of content.now) ≤ 33
+            → PutsWord table.now H (slot_role label kind level, place)
+            (place + 2) self.old.free self.new.free self.old.words.items self.new.words.items
+            (λ w. slot_content table.now label kind w ≡ Some (content_of content.now))) }
+    {
+        match content {
+            FieldValue::One(value) => match label {
+                Label::Optional => self.optional(value, place),
+                _ => self.item(table, kind, value, place),
+            },
+            FieldValue::Many(values) => {
+                self.put(place, values.len() as u64)?;
+                self.elements(table, kind, values, place + 1)
+            }
+            FieldValue::Pairs(entries) => {
+                self.put(place, entries.len() as u64)?;
+                self.entries(table, key_kind(label), kind, entries, place + 1)
+            }
+        }
+    }
+
+    /// The address of elements, and they with their content.
+    #[cycle(builder)]
+    fn elements(
+        &mut self,
+        table: &Table,
+        kind: Kind,
+        values: &Values,
+        place: u64,
+    ) -> Result<(), Memory>
+        requires valid { IsValid table.now }
+        requires items { AreItems table.now kind (items_of values.now.items) }
+        requires from_one { 1 ≤ place }
+        requires slot { place + 1 ≤ self.old.free }
+        requires room { self.old.free + many_words table.now kind (items_of values.now.items) < 2 ^ 64 }
+        ensures free { OnOk result (self.new.free
+            ≡ self.old.free + many_words table.now kind (items_of values.now.items)) }
+        ensures puts { OnOk result ((H level : ℕ) → self.new.free ≤ H
+            → level + items_depth (items_of values.now.items) ≤ 33
+            → Puts table.now H ((elements_address kind (length values.now.items) level, place) ∷ [])
+            place (place + 1) self.old.free self.new.free self.old.words.items self.new.words.items
+            (λ P. elements_at table.now kind P ≡ items_of values.now.items)) }
+    {
+        let width = element_words(kind);
+        let at = self.take(values.len() as u64 * width);
+        self.put(place, at)?;
+        let mut next = at;
+        for value in values {
+            self.item(table, kind, value, next)?;
+            next += width;
+        }
+        Ok(())
+    }
+
+    /// The address of entries, and they with the content of their keys and values.
+    #[cycle(builder)]
+    fn entries(
+        &mut self,
+        table: &Table,
+        key: Kind,
+        kind: Kind,
+        entries: &Entries,
+        place: u64,
+    ) -> Result<(), Memory>
+        requires valid { IsValid table.now }
+        requires pairs { ArePairs table.now key kind (pairs_of entries.now.items) }
+        requires key { (m : ℕ) → key ≢ Kind.Message m }
+        requires from_one { 1 ≤ place }
+        requires slot { place + 1 ≤ self.old.free }
+        requires room { self.old.free + pairs_words table.now kind (pairs_of entries.now.items) < 2 ^ 64 }
+        ensures free { OnOk result (self.new.free
+            ≡ self.old.free + pairs_words table.now kind (pairs_of entries.now.items)) }
+        ensures puts { OnOk result ((H level : ℕ) → self.new.free ≤ H
+            → level + pairs_depth (pairs_of entries.now.items) ≤ 33
+            → Puts table.now H ((entries_address key kind (length entries.now.items) level, place) ∷ [])
+            place (place + 1) self.old.free self.new.free self.old.words.items self.new.words.items
+            (λ P. entries_at table.now key kind P ≡ listed (pairs_of entries.now.items))) }
+    {
+        let at = self.take(4 * entries.len() as u64);
+        self.put(place, at)?;
+        let mut next = at;
+        for entry in entries {
+            self.item(table, key, &entry.0, next)?;
+            self.item(table, kind, &entry.1, next + 2)?;
+            next += 4;
+        }
+        Ok(())
+    }
+
+    /// A value in a slot that begins with its number, its length or its address, with its content.
+    #[cycle(builder)]
+    fn item(&mut self, table: &Table, kind: Kind, value: &Value, place: u64) -> Result<(), Memory>
+        requires valid { IsValid table.now }
+        requires item { IsItem table.now kind (item_of value.now) }
+        requires from_one { 1 ≤ place }
+        requires slot { place + element_words kind ≤ self.old.free }
+        requires room { self.old.free + item_words table.now kind (item_of value.now) < 2 ^ 64 }
+        ensures free { OnOk result (self.new.free ≡ self.old.free + item_words table.now kind (item_of value.now)) }
+        ensures puts { OnOk result ((H level : ℕ) (needed : Bool) → self.new.free ≤ H
+            → level + item_depth (item_of value.now) ≤ 33
+            → PutsWord table.now H (plain_role kind level needed, place)
+            (place + element_words kind) self.old.free self.new.free self.old.words.items self.new.words.items
+            (HoldsItem table.now kind (item_of value.now))) }
+    {
+        match value {
+            Value::Number(number) => self.put(place, *number),
+            Value::Run(bytes) => {
+                self.put(place, bytes.len() as u64)?;
+                self.run(bytes.as_slice(), place + 1)
+            }
+            Value::Node(tree) => {
+                self.put(place, self.free)?;
+                self.node(table, message_of(kind), tree)
+            }
+        }
+    }
+
+    /// A number behind its presence, or a run behind its length and one more.
+    fn optional(&mut self, value: &Value, place: u64) -> Result<(), Memory>
+        requires from_one { 1 ≤ place }
+        requires slot { place + 2 ≤ self.old.free }
+        requires room { self.old.free + run_words_of (item_of value.now) < 2 ^ 64 }
+        ensures free { OnOk result (NoMessage (item_of value.now)
+            → self.new.free ≡ self.old.free + run_words_of (item_of value.now)) }
+        ensures puts { OnOk result ((T : Table) (H : ℕ) (kind : Kind) → self.new.free ≤ H
+            → ((m : ℕ) → kind ≢ Kind.Message m) → IsItem T kind (item_of value.now)
+            → PutsWord T H (optional_role kind, place)
+            (place + 2) self.old.free self.new.free self.old.words.items self.new.words.items
+            (λ w. slot_content T Label.Optional kind w ≡ Some (one (item_of value.now)))) }
+    {
+        match value {
+            Value::Number(number) => {
+                self.put(place, 1)?;
+                self.put(place + 1, *number)
+            }
+            Value::Run(bytes) => {
+                let bytes = bytes.as_slice();
+                self.put(place, bytes.len() as u64 + 1)?;
+                self.run(bytes, place + 1)
+            }
+            Value::Node(_) => Ok(()),
+        }
+    }
+
+    /// The address of a run, and its words; nothing where it has no byte.
+    fn run(&mut self, bytes: &[u8], place: u64) -> Result<(), Memory>
+        requires from_one { 1 ≤ place }
+        requires slot { place + 1 ≤ self.old.free }
+        requires room { self.old.free + run_words (length bytes.now) < 2 ^ 64 }
+        ensures free { OnOk result (self.new.free ≡ self.old.free + run_words (length bytes.now)) }
+        ensures puts { OnOk result ((T : Table) (H : ℕ) (kind : Kind) → self.new.free ≤ H
+            → (kind ≡ Kind.Text → IsUtf8 bytes.now)
+            → Puts T H (run_expected kind (length bytes.now) place)
+            place (place + 1) self.old.free self.new.free self.old.words.items self.new.words.items
+            (λ P. run_at (length bytes.now) P ≡ bytes.now)) }
+    {
+        if bytes.is_empty() {
+            return Ok(());
+        }
+        self.put(place, self.free)?;
+        let mut rest = bytes;
+        while rest.len() > 8 {
+            let (word, others) = rest.split_at(8);
+            self.run_word(word)?;
+            rest = others;
+        }
+        self.run_word(rest)
+    }
+
+    /// A word of a run.
+    fn run_word(&mut self, bytes: &[u8]) -> Result<(), Memory>
+        requires few { length bytes.now ≤ 8 }
+        requires room { self.old.free + 1 < 2 ^ 64 }
+        ensures free { self.new.free ≡ self.old.free + 1 }
+        ensures word { OnOk result ((v : ℕ) × HasBytes v bytes.now
+            × (self.new.words.items ≡ self.old.words.items ++ (self.old.free, v) ∷ [])) }
+    {
+        let place = self.take(1);
+        self.put(place, word_of(bytes))
+    }
+}
+
+/// The word that has these bytes, at most eight, in its low ones, and 0 in the others.
+fn word_of(bytes: &[u8]) -> u64
+    requires { length bytes.now ≤ 8 }
+    ensures { HasBytes result bytes.now }
+{
+    let mut word = [0; 8];
+    word[..bytes.len()].copy_from_slice(bytes);
+    u64::from_le_bytes(word)
+}
+
+/// The kind of a map's keys.
+fn key_kind(label: Label) -> Kind
+    ensures { (key : Kind) → label ≡ Map key → result ≡ key }
+{
+    match label {
+        Label::Map(key) => key,
+        _ => Kind::Uint64,
+    }
+}

@@ -1,0 +1,109 @@
+//! Placing a message into a heap: first all its words are laid out, then they are stored.
+
+ghost use Rattle.std.specs.Prelude.{◌≡◌, ◌≤◌, ◌<◌, ◌+◌, ◌^◌, ◌++◌, ℕ, List, length, All, IfOk, OnErr};
+ghost use Rattle.mrpc_table.specs.Normal.{IsNormal};
+ghost use Rattle.mrpc_table.specs.Valid.{IsValid};
+ghost use Rattle.graph_place.specs.Size.{tree_words};
+ghost use Rattle.graph_place.specs.Stored.{HoldsTree, StandWithin, StandApart};
+
+use crate::builder::Builder;
+use crate::size::place_words;
+use graph_form::{Loads, Placed};
+use mrpc_base::{Room, Stores};
+use mrpc_table::{Memory, Table, Tree};
+use std::alloc::Global;
+
+/// Stores a normal tree of the message at the place `msg` of the table into a heap, from the place `at` on, in as many
+/// places as [`place_words`] says. It stores exactly the words that a copy from `at` loads, in that order, and tells
+/// them.
+///
+/// The only error is `Memory`, and it comes before the first store.
+pub fn place<H: Stores>(
+    alloc: Global,
+    tree: &Tree,
+    table: &Table,
+    msg: u32,
+    at: u64,
+    heap: &mut H,
+) -> Result<Placed, Memory>
+    requires valid { IsValid table.now }
+    requires known { msg < length table.now.messages }
+    requires normal { IsNormal table.now msg tree.now }
+    requires from_one { 1 ≤ at }
+    requires in_heap { at + tree_words table.now msg tree.now ≤ H.words heap.old }
+    requires few { length (H.stores heap.old) + tree_words table.now msg tree.now ≤ 2 ^ 63 }
+
+    // The words are the loads of a sound placed tree at `at`, whose tree is this one, and they are what is stored.
+    ensures tree { IfOk result (λ placed. HoldsTree table.now (H.words heap.old) msg tree.now placed) }
+    ensures address { IfOk result (λ placed. placed.address ≡ at) }
+    ensures stores { IfOk result (λ placed. H.stores heap.new ≡ H.stores heap.old ++ placed.words) }
+
+    // They take no other places, and each place once.
+    ensures within { IfOk result (λ placed. StandWithin at (tree_words table.now msg tree.now) placed.words) }
+    ensures apart { IfOk result (λ placed. StandApart placed.words) }
+
+    ensures memory { OnErr result (H.stores heap.new ≡ H.stores heap.old) }
+    ensures size { H.words heap.new ≡ H.words heap.old }
+{
+    let _size = heap.size();
+    let placed = layout(alloc, tree, table, msg, at)?;
+    match heap.room_stores(placed.words.len() as u64) {
+        Room::Memory => Err(Memory),
+        Room::Made => {
+            store(heap, &placed);
+            Ok(placed)
+        }
+    }
+}
+
+/// The words of a normal tree of the message at the place `msg` of the table, each with its place, from the place `at`
+/// on. Nothing is stored yet: [`store`] does it, and takes no memory. They are at most as many as [`place_words`]
+/// says.
+///
+/// The only error is `Memory`.
+pub fn layout(
+    alloc: Global,
+    tree: &Tree,
+    table: &Table,
+    msg: u32,
+    at: u64,
+) -> Result<Placed, Memory>
+    requires valid { IsValid table.now }
+    requires known { msg < length table.now.messages }
+    requires normal { IsNormal table.now msg tree.now }
+    requires from_one { 1 ≤ at }
+    requires in_range { at + tree_words table.now msg tree.now < 2 ^ 64 }
+
+    // In each heap that has these places, the words are the loads of a sound placed tree at `at`, whose tree is this
+    // one.
+    ensures tree { IfOk result (λ placed. (H : ℕ) → at + tree_words table.now msg tree.now ≤ H
+        → HoldsTree table.now H msg tree.now placed) }
+    ensures address { IfOk result (λ placed. placed.address ≡ at) }
+
+    // They take no other places, and each place once.
+    ensures within { IfOk result (λ placed. StandWithin at (tree_words table.now msg tree.now) placed.words) }
+    ensures apart { IfOk result (λ placed. StandApart placed.words) }
+    ensures few { IfOk result (λ placed. length placed.words ≤ tree_words table.now msg tree.now) }
+{
+    let room = place_words(tree, table, msg);
+    let mut builder = Builder::new(alloc, at, room)?;
+    builder.node(table, msg, tree)?;
+    Ok(Placed {
+        address: at,
+        words: Loads::from_vec(builder.words),
+    })
+}
+
+/// Stores exactly the words of a message that is laid out, in their order. It takes no memory.
+pub fn store<H: Stores>(heap: &mut H, placed: &Placed)
+    requires in_heap { All (λ word. (1 ≤ word.0) × (word.0 < H.words heap.old)) placed.now.words }
+    requires few { length (H.stores heap.old) + length placed.now.words ≤ 2 ^ 63 }
+    requires room { length placed.now.words ≤ H.room heap.old }
+    ensures stores { H.stores heap.new ≡ H.stores heap.old ++ placed.now.words }
+    ensures size { H.words heap.new ≡ H.words heap.old }
+{
+    let words = placed.words.as_slice();
+    for word in words {
+        heap.store(word.0, word.1);
+    }
+}
