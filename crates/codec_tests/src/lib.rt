@@ -1,8 +1,10 @@
-//! Tests that need a table and several crates at once: the codec, the sizes of graphs, and the lines of the audit. It
-//! has no code of its own, and nothing stands on it.
+//! Tests that need a table and several crates at once: the codec, placed graphs and their sizes, and the lines of the
+//! audit. It has no code of its own, and nothing stands on it.
 #![tactic(auto)]
 
 #[cfg(test)]
 mod graphs;
+#[cfg(test)]
+mod places;
 #[cfg(test)]
 mod tests;

@@ -45,6 +45,7 @@ pub fn place<H: Stores>(
     ensures memory { OnErr result (H.stores heap.new ≡ H.stores heap.old) }
     ensures size { H.words heap.new ≡ H.words heap.old }
 {
+    // A heap's size is a u64, so each of these places is one.
     let _size = heap.size();
     let placed = layout(alloc, tree, table, msg, at)?;
     match heap.room_stores(placed.words.len() as u64) {
