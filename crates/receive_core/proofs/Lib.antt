@@ -1,0 +1,5 @@
+mod Fated
+mod Firsts
+mod Rows
+mod Taken
+mod Turned

@@ -1,0 +1,53 @@
+-- What was taken in.
+use Rattle.std.proofs.Common.{◌≡◌, ℕ, ◌+◌, ◌<◌, ◌≤◌, List, [], ◌∷◌, ◌++◌, sym, ap, subst, ◌∙◌, arith}
+use Rattle.std.proofs.lemmas.List.Elements.{All-weaker}
+use Rattle.mrpc_table.specs.Calls.{message_at}
+use Rattle.mrpc_table.specs.Node.{Node}
+use Rattle.mrpc_table.specs.declared.table.Table.{Table}
+use Rattle.graph_form.specs.declared.placed.Placed.{Placed as PlacedWords}
+use Rattle.graph_place.specs.Size.{tree_words, capped}
+use Rattle.frame_transport.specs.declared.format.Frame.{Frame}
+use Rattle.policy_access.specs.declared.call.Call.{Call}
+use Rattle.receive_heap.specs.Layout.{Layout, IsFirstFit}
+use Rattle.receive_heap.specs.declared.extents.Block.{Block}
+use Rattle.receive_core.specs.Fates.{message_of, block_words}
+use Rattle.receive_core.specs.Opening.{IsOpened}
+use Rattle.graph_place.specs.Stored.{HoldsTree, StandWithin}
+use Rattle.receive_core.specs.Turns.{IsPlaced}
+use Rattle.receive_core.specs.declared.opened.Opened.{Opened}
+
+-- the message of an opened call is that of its frame
+pub message_is : (T : Table) (conn : ℕ) (f : Frame) (o : Opened) → IsOpened T conn f o → message_at T o.call.method o.call.number ≡ message_of T f
+message_is T conn f o is = ap (λ (c : Call). message_at T c.method c.number) is.call
+
+-- a number of words that is small is the number itself
+pub uncapped : (n words : ℕ) → words ≡ capped n → words ≤ 65536 → words ≡ n
+uncapped n words is small = omega (arith, is, small)
+
+wider : (at words more : ℕ) (xs : List (ℕ × ℕ)) → words ≤ more → StandWithin at words xs → StandWithin at more xs
+wider at words more xs le all =
+    All-weaker (λ (w : ℕ × ℕ). (at ≤ w.0) × (w.0 < at + words)) (λ (w : ℕ × ℕ). (at ≤ w.0) × (w.0 < at + more)) (λ w h. (h.0, omega (arith, h.1, le))) xs all
+
+pub placed_is : (T : Table) (msg : ℕ) (tree : Node) (old new : Layout) (stores after : List (ℕ × ℕ)) (block : Block) (placed : PlacedWords) (at words : ℕ)
+    → block.words ≡ words → words ≡ capped (block_words T msg tree) → at + words ≤ old.words → old.words ≤ 65536
+    → block.number ≡ old.next → IsFirstFit old.holes words block.at → block.at ≡ at
+    → new.held ≡ old.held ++ block ∷ [] → new.next ≡ old.next + 1 → new.words ≡ old.words → placed.address ≡ at
+    → ((H : ℕ) → at + tree_words T msg tree ≤ H → HoldsTree T H msg tree placed) → StandWithin at (tree_words T msg tree) placed.words
+    → after ≡ stores ++ placed.words → IsPlaced T msg tree old new stores after block
+placed_is T msg tree old new stores after block placed at words is cap inside small number front same held next size address holds within stored =
+    let exact : words ≡ block_words T msg tree = uncapped (block_words T msg tree) words cap (omega (arith, inside, small)) in
+    let most : tree_words T msg tree ≤ words = omega (arith, exact) in
+    record {
+      words = is ∙ exact;
+      number = number;
+      front = subst (λ n. IsFirstFit old.holes n block.at) (sym is) front;
+      held = held;
+      next = next;
+      size = size;
+      placed = placed;
+      address = address ∙ sym same;
+      holds = holds old.words (omega (arith, inside, most));
+      within = subst (λ a. StandWithin a block.words placed.words) (sym same)
+          (wider at (tree_words T msg tree) block.words placed.words (omega (arith, most, is)) within);
+      stored = stored;
+    }

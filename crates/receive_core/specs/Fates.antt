@@ -1,0 +1,74 @@
+-- What becomes of a received frame (this project's own).
+use Rattle.std.specs.Prelude.{◌≡◌, ◌≢◌, ℕ, ◌-◌, ◌<◌, ◌≤◌, ◌==◌, if◌then◌else◌, false, true, max, length, Option, Some, None}
+use Rattle.mrpc_table.specs.Node.{Node}
+use Rattle.mrpc_table.specs.Calls.{message_at}
+use Rattle.mrpc_table.specs.declared.table.Table.{Table}
+use Rattle.wire_decode.specs.Means.{Means}
+use Rattle.wire_decode.specs.Faults.{IsFirstFault}
+use Rattle.wire_decode.specs.declared.fault.DecodeReason.{DecodeReason}
+use Rattle.graph_place.specs.Size.{tree_words, capped}
+use Rattle.frame_transport.specs.declared.format.Frame.{Frame}
+use Rattle.policy_access.specs.Verdict.{AccessPolicy, verdict}
+use Rattle.policy_access.specs.declared.call.Call.{Call}
+use Rattle.receive_core.specs.declared.arrival.DropCause.{DropCause}
+use Rattle.receive_core.specs.declared.arrival.DropCause.TheVariants.{Hello, NoMethod, Decode, Denied, Oversize}
+
+-- The number by which the call of a frame is judged. A request has the number 0, and a reply that of the request which
+-- it answers; an answer to none is judged as one to the first.
+abbrev pub judged_number : Frame → ℕ
+judged_number f = if f.kind == 2 then max 1 f.number else 0
+
+-- the message of a frame's payload, by its place in the table
+abbrev pub message_of : Table → Frame → ℕ
+message_of T f = message_at T f.method (judged_number f)
+
+-- the call that came on a connection, as policies judge it
+abbrev pub call_of : ℕ → Frame → Node → Call
+call_of conn f t = record { conn = conn; seq = f.number; method = f.method; number = judged_number f; tree = t }
+
+-- the words of the block in which a message is placed: that of a message of no words has one
+abbrev pub block_words : Table → ℕ → Node → ℕ
+block_words T msg t = max 1 (tree_words T msg t)
+
+-- a request or a reply of one of the table's methods
+pub record IsCall (T : Table) (f : Frame) : Type 0 where
+  pub kind : f.kind ≢ 3
+  pub method : f.method < length T.methods
+
+-- the policy allows the call, or there is none
+abbrev pub Allows : Option AccessPolicy → Call → Type 0
+Allows None call = Unit {0}
+Allows (Some policy) call = (verdict policy call).allow ≡ true
+
+-- A frame is dropped for a cause, or a message arrives.
+pub data Fate : Type 0 where
+  drops : DropCause → Fate
+  arrives : Node → Fate
+
+-- What becomes of a frame on a connection, under a table, a policy, and a heap of so many words, whose place 0 holds
+-- nothing. The causes are judged in this order, and the policy before the size.
+pub data IsFate (T : Table) (policy : Option AccessPolicy) (conn words : ℕ) (f : Frame) (fate : Fate) : Type 0 where
+  is_hello : f.kind ≡ 3 → fate ≡ drops Hello → IsFate T policy conn words f fate
+  has_no_method : f.kind ≢ 3 → length T.methods ≤ f.method → fate ≡ drops NoMethod → IsFate T policy conn words f fate
+  is_faulty : IsCall T f → (reason : DecodeReason) (place : ℕ)
+      → IsFirstFault T (message_of T f) f.payload reason place
+      → fate ≡ drops (Decode reason place) → IsFate T policy conn words f fate
+  is_denied : IsCall T f → (t : Node) → Means T (message_of T f) f.payload t
+      → (p : AccessPolicy) → policy ≡ Some p → (verdict p (call_of conn f t)).allow ≡ false
+      → fate ≡ drops (Denied (verdict p (call_of conn f t)).rule) → IsFate T policy conn words f fate
+  is_too_large : IsCall T f → (t : Node) → Means T (message_of T f) f.payload t → Allows policy (call_of conn f t)
+      → words - 1 < block_words T (message_of T f) t
+      → fate ≡ drops (Oversize (capped (block_words T (message_of T f) t)) words) → IsFate T policy conn words f fate
+  arrived : IsCall T f → (t : Node) → Means T (message_of T f) f.payload t → Allows policy (call_of conn f t)
+      → block_words T (message_of T f) t ≤ words - 1
+      → fate ≡ arrives t → IsFate T policy conn words f fate
+
+-- each frame has a fate
+abbrev pub HasFate : Type 0
+HasFate = (T : Table) (policy : Option AccessPolicy) (conn words : ℕ) (f : Frame)
+    → (fate : Fate) × IsFate T policy conn words f fate
+
+-- and no other
+abbrev pub HasOneFate : Type 0
+HasOneFate = (T : Table) (policy : Option AccessPolicy) (conn words : ℕ) (f : Frame) (fate other : Fate)
+    → IsFate T policy conn words f fate → IsFate T policy conn words f other → fate ≡ other

@@ -1,0 +1,34 @@
+-- How the fate of a frame is found: its call is read, and then it is refused or not.
+use Rattle.std.specs.Prelude.{◌≡◌, ℕ, ◌-◌, ◌<◌, ◌≤◌, ◌⊎◌, false, Option, Some, None}
+use Rattle.mrpc_table.specs.Normal.{IsNormal}
+use Rattle.mrpc_table.specs.declared.table.Table.{Table}
+use Rattle.wire_decode.specs.Means.{Means}
+use Rattle.graph_place.specs.Size.{capped}
+use Rattle.frame_transport.specs.declared.format.Frame.{Frame}
+use Rattle.policy_access.specs.Verdict.{AccessPolicy, verdict}
+use Rattle.receive_core.specs.Fates.{IsFate, drops, IsCall, Allows, call_of, message_of, block_words}
+use Rattle.receive_core.specs.declared.arrival.DropCause.{DropCause}
+use Rattle.receive_core.specs.declared.arrival.DropCause.TheVariants.{Denied, Oversize}
+use Rattle.receive_core.specs.declared.opened.Opened.{Opened}
+use Rattle.receive_core.specs.declared.opened.Reading.{Reading}
+use Rattle.receive_core.specs.declared.opened.Reading.TheVariants.{Call as Reads, Dropped}
+
+-- a frame was read as the call that it is, with the words of its block
+pub record IsOpened (T : Table) (conn : ℕ) (f : Frame) (o : Opened) : Type 0 where
+  pub is_call : IsCall T f
+  pub means : Means T (message_of T f) f.payload o.call.tree
+  pub normal : IsNormal T (message_of T f) o.call.tree
+  pub call : o.call ≡ call_of conn f o.call.tree
+  pub words : o.words ≡ capped (block_words T (message_of T f) o.call.tree)
+
+-- what a frame is read as: its call, or the cause for which it is dropped under each policy and on each heap
+abbrev pub IsReading : Table → ℕ → Frame → Reading → Type 0
+IsReading T conn f (Reads o) = IsOpened T conn f o
+IsReading T conn f (Dropped why) = (policy : Option AccessPolicy) (words : ℕ) → IsFate T policy conn words f (drops why)
+
+-- why a call is refused on a heap of so many words, or that it isn't
+abbrev pub IsRefusal : Option AccessPolicy → ℕ → Opened → Option DropCause → Type 0
+IsRefusal policy words o None = Allows policy o.call × (o.words ≤ words - 1)
+IsRefusal policy words o (Some why) = ((p : AccessPolicy) × (policy ≡ Some p)
+    × ((verdict p o.call).allow ≡ false) × (why ≡ Denied (verdict p o.call).rule))
+    ⊎ (Allows policy o.call × (words - 1 < o.words) × (why ≡ Oversize o.words words))

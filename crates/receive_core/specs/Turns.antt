@@ -1,0 +1,109 @@
+-- What a connection's receiver holds, and what a turn makes of it.
+use Rattle.std.specs.Prelude.{◌≡◌, ℕ, ◌+◌, ◌<◌, List, [], ◌∷◌, ◌++◌, All, Option, IfSome}
+use Rattle.mrpc_table.specs.Node.{Node}
+use Rattle.mrpc_table.specs.declared.table.Table.{Table}
+use Rattle.graph_form.specs.declared.placed.Placed.{Placed as PlacedWords}
+use Rattle.graph_place.specs.Stored.{HoldsTree, StandWithin}
+use Rattle.receive_core.specs.Opening.{IsOpened}
+use Rattle.frame_transport.specs.Feed.{Fed, Gives}
+use Rattle.frame_transport.specs.Frames.{IsFrame, IsPartial, Splits, bytes_of}
+use Rattle.frame_transport.specs.declared.format.Frame.{Frame}
+use Rattle.policy_access.specs.Verdict.{AccessPolicy}
+use Rattle.receive_heap.specs.Layout.{Layout, IsFirstFit, IsLargest}
+use Rattle.receive_heap.specs.declared.extents.Block.{Block}
+use Rattle.receive_core.specs.Fates.{drops, arrives, IsFate, message_of, block_words}
+use Rattle.receive_core.specs.declared.arrival.Arrival.{Arrival}
+use Rattle.receive_core.specs.declared.arrival.Arrival.TheVariants.{None as NoFrame, Arrived, Dropped, Waiting}
+use Rattle.receive_core.specs.declared.arrival.DropCause.{DropCause}
+use Rattle.receive_core.specs.declared.opened.Opened.{Opened}
+
+-- A receiver: its connection, what was fed and lies in no frame that was taken, the held blocks and the holes of its
+-- heap, and the call of the first frame where it was read already.
+pub record Receiving : Type 0 where
+  pub conn : ℕ
+  pub fed : Fed
+  pub heap : Layout
+  pub opened : Option Opened
+
+-- the first whole frame of what was fed
+pub record IsFirst (fed : Fed) (f : Frame) : Type 0 where
+  pub rest : List ℕ
+  pub frame : IsFrame f
+  pub bytes : fed.bytes ≡ bytes_of f ++ rest
+  pub place : f.place ≡ fed.place
+
+-- what was fed is whole frames and a rest
+abbrev pub IsSplit : Fed → Type 0
+IsSplit fed = (frames : List Frame) × (rest : List ℕ) × Splits fed.place fed.bytes frames rest
+
+-- what was read already is the first frame, under this table
+abbrev pub IsReady : Table → Receiving → Type 0
+IsReady T r = IfSome r.opened (λ o. (f : Frame) × IsFirst r.fed f × IsOpened T r.conn f o)
+
+-- The first frame is dropped: its fate says why, and it is gone.
+pub record DropsFirst (T : Table) (policy : Option AccessPolicy) (old new : Receiving) (kind method number : ℕ)
+    (why : DropCause) : Type 0 where
+  pub frame : Frame
+  pub taken : Gives old.fed frame new.fed
+  pub says : (frame.kind ≡ kind) × (frame.method ≡ method) × (frame.number ≡ number)
+  pub fate : IsFate T policy old.conn old.heap.words frame (drops why)
+  pub heap : new.heap ≡ old.heap
+
+-- The first frame waits: it may arrive, no hole has the words of its block, and it stays first.
+pub record LetsWait (T : Table) (policy : Option AccessPolicy) (old new : Receiving) (need largest : ℕ) : Type 0 where
+  pub frame : Frame
+  pub first : IsFirst old.fed frame
+  pub tree : Node
+  pub fate : IsFate T policy old.conn old.heap.words frame (arrives tree)
+  pub words : need ≡ block_words T (message_of T frame) tree
+  pub no_hole : All (λ hole. hole.words < need) old.heap.holes
+  pub hole : IsLargest old.heap.holes largest
+  pub stays : new.fed ≡ old.fed
+  pub heap : new.heap ≡ old.heap
+
+-- A message was placed: its block is the front of the first hole that fits, and the words that were stored are those
+-- of a placed tree of it, all of them within the block.
+pub record IsPlaced (T : Table) (msg : ℕ) (tree : Node) (old new : Layout) (stores after : List (ℕ × ℕ))
+    (block : Block) : Type 0 where
+  pub words : block.words ≡ block_words T msg tree
+  pub number : block.number ≡ old.next
+  pub front : IsFirstFit old.holes block.words block.at
+  pub held : new.held ≡ old.held ++ block ∷ []
+  pub next : new.next ≡ old.next + 1
+  pub size : new.words ≡ old.words
+  pub placed : PlacedWords
+  pub address : placed.address ≡ block.at
+  pub holds : HoldsTree T old.words msg tree placed
+  pub within : StandWithin block.at block.words placed.words
+  pub stored : after ≡ stores ++ placed.words
+
+-- The first frame arrives, and its message was placed.
+pub record TakesIn (T : Table) (policy : Option AccessPolicy) (old new : Receiving) (stores after : List (ℕ × ℕ))
+    (kind method number : ℕ) (block : Block) (tree : Node) : Type 0 where
+  pub frame : Frame
+  pub taken : Gives old.fed frame new.fed
+  pub says : (frame.kind ≡ kind) × (frame.method ≡ method) × (frame.number ≡ number)
+  pub fate : IsFate T policy old.conn old.heap.words frame (arrives tree)
+  pub placed : IsPlaced T (message_of T frame) tree old.heap new.heap stores after block
+
+-- what a turn answers, and what it makes of the receiver and of the stores to its heap
+abbrev pub Turns : Table → Option AccessPolicy → Receiving → Receiving → List (ℕ × ℕ) → List (ℕ × ℕ) → Arrival → Type 0
+Turns T policy old new stores after NoFrame = IsPartial old.fed.bytes × (new ≡ old) × (after ≡ stores)
+Turns T policy old new stores after (Dropped kind method number why) =
+    DropsFirst T policy old new kind method number why × (after ≡ stores)
+Turns T policy old new stores after (Waiting need largest) = LetsWait T policy old new need largest × (after ≡ stores)
+Turns T policy old new stores after (Arrived kind method number block tree) =
+    TakesIn T policy old new stores after kind method number block tree
+
+-- the call of the first frame was taken in
+abbrev pub TakesCall : Table → Receiving → Receiving → Frame → Opened → List (ℕ × ℕ) → List (ℕ × ℕ) → Arrival → Type 0
+TakesCall T old new f o stores after (Arrived kind method number block tree) = Gives old.fed f new.fed
+    × ((f.kind ≡ kind) × (f.method ≡ method) × (f.number ≡ number)) × (tree ≡ o.call.tree)
+    × IsPlaced T (message_of T f) tree old.heap new.heap stores after block
+TakesCall T old new f o stores after _ = ⊥
+
+-- all is as it was, but for what was read of the first frame
+pub record HasStayed (old new : Receiving) : Type 0 where
+  pub conn : new.conn ≡ old.conn
+  pub fed : new.fed ≡ old.fed
+  pub heap : new.heap ≡ old.heap

@@ -1,0 +1,341 @@
+//! A connection's receiver.
+
+ghost use Rattle.std.specs.Prelude.{◌≡◌, ◌≢◌, ◌<◌, ◌≤◌, ◌+◌, ◌-◌, ◌++◌, ◌^◌, ◌↔◌, ◌⊎◌, [], ◌∷◌, ℕ, List, length, All, IfOk, OnOk, IfErr, OnErr, IsErr, IsErrOf, IfSome, IfNone, Some, None, Ok, Err, slice_get};
+ghost use Rattle.std.specs.Option.{option_copied};
+ghost use Rattle.mrpc_table.specs.Valid.{IsValid};
+ghost use Rattle.mrpc_table.specs.declared.table.Table.{Table as TheTable};
+ghost use Rattle.frame_transport.specs.Feed.{total, Gives, GoesOn, StopsAt};
+ghost use Rattle.frame_transport.specs.Frames.{Ends, IsPartial, Splits};
+ghost use Rattle.frame_transport.specs.declared.format.Frame.{Frame as TheFrame};
+ghost use Rattle.frame_transport.specs.declared.fault.FeedFault.{FeedFault as TheFault};
+ghost use Rattle.receive_heap.specs.Layout.{IsFirstFit, IsLargest, IsWithout};
+ghost use Rattle.receive_core.specs.Opening.{IsOpened, IsReading};
+ghost use Rattle.receive_core.specs.Turns.{Receiving, IsFirst, IsSplit, IsReady, Turns, TakesCall, HasStayed};
+
+use crate::arrival::{Arrival, DropCause};
+use crate::opened::{Opened, Reading, read_frame, refusal};
+use frame_transport::{Feed, FeedFault, Frame, one_frame, one_split};
+use graph_place::{layout, store};
+use mrpc_base::{Room, Stores};
+use mrpc_table::{Memory, Table};
+use policy_access::Access;
+use receive_heap::{Extents, NotHeld};
+use std::alloc::Global;
+use std::marker::Model;
+
+/// The receiver of a connection. A clause sees it as the data of `specs/Turns.antt`.
+#[derive(Drop)]
+pub struct Inbound {
+    alloc: Global,
+    conn: u32,
+    feed: Feed,
+    extents: Extents,
+    // The call of the first frame, where it was read and waits for a hole.
+    opened: Option<Opened>,
+}
+
+impl Model for Inbound {
+    ghost use Rattle.std.specs.Prelude.{◌≤◌};
+    ghost use Rattle.receive_core.specs.Turns.{Receiving, IsSplit};
+
+    ghost Value = { Receiving };
+
+    ghost use Rattle.std.specs.Coded.{codes};
+    ghost use Rattle.receive_core.specs.contracts.opened.Opened as o;
+
+    ghost coded = { Prim.hlevel (codes, o.the_row.coded) };
+
+    ghost view = { λ i. record { conn = i.conn; fed = i.feed; heap = i.extents; opened = i.opened } };
+
+    ghost invariant = { λ i. (4 ≤ i.extents.words) × (i.extents.words ≤ 65536) × IsSplit i.feed };
+}
+
+impl Inbound {
+    /// The receiver of a connection, counted from 1, with a heap of so many words, 4 to 65536.
+    pub fn open(alloc: Global, conn: u32, words: u64) -> Result<Inbound, Memory>
+        requires least { 4 ≤ words }
+        requires most { words ≤ 65536 }
+        ensures conn { IfOk result (λ inbound. inbound.conn ≡ conn) }
+        ensures fed { IfOk result (λ inbound. inbound.fed ≡ record { place = 0; bytes = []; behind = 0 }) }
+        ensures size { IfOk result (λ inbound. inbound.heap.words ≡ words) }
+        ensures hole { IfOk result (λ inbound. inbound.heap.holes ≡ record { at = 1; words = words - 1 } ∷ []) }
+        ensures held { IfOk result (λ inbound. inbound.heap.held ≡ []) }
+        ensures next { IfOk result (λ inbound. inbound.heap.next ≡ 1) }
+        ensures ready { IfOk result (λ inbound. (T : TheTable) → IsReady T inbound) }
+    {
+        Ok(Inbound {
+            alloc,
+            conn,
+            feed: Feed::new(alloc),
+            extents: Extents::open(alloc, words)?,
+            opened: None,
+        })
+    }
+
+    /// Takes the next piece of the stream, of which fewer than 2^63 bytes may come. It answers the first fault of the
+    /// stream so far, as [`Feed::feed`] does; the frames in front of it still get their fates. `Memory` leaves the
+    /// receiver as it was.
+    pub fn bytes(&mut self, piece: &[u8]) -> Result<(), FeedFault>
+        requires { total self.old.fed + length piece.now < 2 ^ 63 }
+
+        // The stream goes on, and there is no fault in it so far.
+        ensures ok { OnOk result (GoesOn self.old.fed piece.now self.new.fed) }
+        ensures clean { OnOk result (Ends self.old.fed.place (self.old.fed.bytes ++ piece.now) None) }
+
+        // A fault is the first one of the stream with the piece.
+        ensures fault { IfErr result (λ fault. (fault ≡ FeedFault.Memory)
+            ⊎ Ends self.old.fed.place (self.old.fed.bytes ++ piece.now) (Some fault)) }
+        ensures stops { IfErr result (λ fault. (fault ≡ FeedFault.Memory)
+            ⊎ StopsAt self.old.fed piece.now fault self.new.fed) }
+        ensures memory { IsErrOf result FeedFault.Memory → self.new ≡ self.old }
+
+        ensures total { total self.new.fed ≤ total self.old.fed + length piece.now }
+        ensures conn { self.new.conn ≡ self.old.conn }
+        ensures heap { self.new.heap ≡ self.old.heap }
+        ensures ready { (T : TheTable) → IsReady T self.old → IsReady T self.new }
+    {
+        one_split();
+        one_frame();
+        self.feed.feed(piece)
+    }
+
+    /// Gives the first whole frame its fate, under a table and a policy, and tells it. A message that arrives is placed
+    /// in the heap, which is this receiver's alone and has as many words as [`Inbound::open`] was told.
+    ///
+    /// The only error is `Memory`. It leaves the frame first and the heap as it was.
+    pub fn turn<H: Stores>(
+        &mut self,
+        table: &Table,
+        policy: Option<&Access>,
+        heap: &mut H,
+    ) -> Result<Arrival, Memory>
+        requires valid { IsValid table.now }
+        requires ready { IsReady table.now self.old }
+        requires size { H.words heap.old ≡ self.old.heap.words }
+        requires few { length (H.stores heap.old) ≤ 2 ^ 62 }
+        requires blocks { self.old.heap.next < 2 ^ 32 }
+
+        ensures turns { IfOk result (Turns table.now (option_copied policy.entry) self.old self.new
+            (H.stores heap.old) (H.stores heap.new)) }
+        ensures none { (result ≡ Ok Arrival.None) ↔ IsPartial self.old.fed.bytes }
+
+        ensures memory { OnErr result (HasStayed self.old self.new) }
+        ensures no_store { OnErr result (H.stores heap.new ≡ H.stores heap.old) }
+
+        ensures total { total self.new.fed ≡ total self.old.fed }
+        ensures conn { self.new.conn ≡ self.old.conn }
+        ensures places { self.new.heap.words ≡ self.old.heap.words }
+        ensures next { self.new.heap.next ≤ self.old.heap.next + 1 }
+        ensures ready { IsReady table.now self.new }
+        ensures words { H.words heap.new ≡ H.words heap.old }
+    {
+        match self.read_first(table)? {
+            None => Ok(Arrival::None),
+            Some(Reading::Dropped(why)) => Ok(self.drop_first(why)),
+            Some(Reading::Call(opened)) => self.judge_first(opened, table, policy, heap),
+        }
+    }
+
+    /// Takes a block back by its number, as [`Extents::reclaim`] does. It takes no memory.
+    pub fn reclaim(&mut self, block: u64) -> Result<(), NotHeld>
+        ensures held { OnOk result (IsWithout block self.old.heap.held self.new.heap.held) }
+        ensures size { self.new.heap.words ≡ self.old.heap.words }
+        ensures next { self.new.heap.next ≡ self.old.heap.next }
+        ensures not_held { IsErr result ↔ All (λ held. held.number ≢ block) self.old.heap.held }
+        ensures number { IfErr result (λ fault. fault.number ≡ block) }
+        ensures err { OnErr result (self.new ≡ self.old) }
+
+        ensures conn { self.new.conn ≡ self.old.conn }
+        ensures fed { self.new.fed ≡ self.old.fed }
+        ensures ready { (T : TheTable) → IsReady T self.old → IsReady T self.new }
+    {
+        self.extents.reclaim(block)
+    }
+
+    /// The kind, the method and the number of the whole frame behind `i` others that have no fate yet, or None where no
+    /// more wait. It takes no memory.
+    pub fn waiting(&self, i: u64) -> Option<(u8, u16, u32)>
+        ensures some { IfSome result (λ shown. (frames : List TheFrame) (rest : List ℕ)
+            → Splits self.now.fed.place self.now.fed.bytes frames rest
+            → (f : TheFrame) × (slice_get frames i ≡ Some f) × (shown ≡ (f.kind, f.method, f.number))) }
+        ensures none { IfNone result ((frames : List TheFrame) (rest : List ℕ)
+            → Splits self.now.fed.place self.now.fed.bytes frames rest → slice_get frames i ≡ None) }
+    {
+        let frame = self.feed.peek(i as usize)?;
+        Some((frame.kind, frame.method, frame.number))
+    }
+
+    /// How many bytes were fed that lie in no whole frame. It takes no memory.
+    pub fn rest(&self) -> u64
+        ensures { (frames : List TheFrame) (rest : List ℕ) → Splits self.now.fed.place self.now.fed.bytes frames rest
+            → result ≡ length rest + self.now.fed.behind }
+    {
+        self.feed.left_over()
+    }
+
+    // What the first frame is read as, or None where no whole frame waits. Its call is read once: it is kept while it
+    // waits, and taken here.
+    fn read_first(&mut self, table: &Table) -> Result<Option<Reading>, Memory>
+        requires valid { IsValid table.now }
+        requires ready { IsReady table.now self.old }
+        ensures none { IfOk result (λ reading. IfNone reading (IsPartial self.old.fed.bytes × (self.new ≡ self.old))) }
+        ensures some { IfOk result (λ reading. IfSome reading (λ r. (f : TheFrame) × IsFirst self.old.fed f
+            × IsReading table.now self.old.conn f r)) }
+        ensures kept { IfOk result (λ reading. IfSome reading (λ r. self.new.opened ≡ None)) }
+        ensures words { (4 ≤ self.new.heap.words) × (self.new.heap.words ≤ 65536) }
+        ensures stays { HasStayed self.old self.new }
+        ensures first { OnErr result ((f : TheFrame) × IsFirst self.old.fed f) }
+        ensures memory { OnErr result (self.new ≡ self.old) }
+    {
+        let Some(frame) = first_of(&self.feed) else {
+            return Ok(None);
+        };
+        if let Some(opened) = self.opened.take() {
+            return Ok(Some(Reading::Call(opened)));
+        }
+        Ok(Some(read_frame(self.alloc, self.conn, frame, table)?))
+    }
+
+    // Gives the first frame, whose call was read, its fate.
+    fn judge_first<H: Stores>(
+        &mut self,
+        opened: Opened,
+        table: &Table,
+        policy: Option<&Access>,
+        heap: &mut H,
+    ) -> Result<Arrival, Memory>
+        requires valid { IsValid table.now }
+        requires opened { (f : TheFrame) × IsFirst self.old.fed f × IsOpened table.now self.old.conn f opened }
+        requires none_kept { self.old.opened ≡ None }
+        requires words { (4 ≤ self.old.heap.words) × (self.old.heap.words ≤ 65536) }
+        requires size { H.words heap.old ≡ self.old.heap.words }
+        requires few { length (H.stores heap.old) ≤ 2 ^ 62 }
+        requires blocks { self.old.heap.next < 2 ^ 32 }
+        ensures turns { IfOk result (Turns table.now (option_copied policy.entry) self.old self.new
+            (H.stores heap.old) (H.stores heap.new)) }
+        ensures memory { OnErr result (HasStayed self.old self.new) }
+        ensures no_store { OnErr result (H.stores heap.new ≡ H.stores heap.old) }
+        ensures total { total self.new.fed ≡ total self.old.fed }
+        ensures conn { self.new.conn ≡ self.old.conn }
+        ensures places { self.new.heap.words ≡ self.old.heap.words }
+        ensures next { self.new.heap.next ≤ self.old.heap.next + 1 }
+        ensures ready { IsReady table.now self.new }
+        ensures words { H.words heap.new ≡ H.words heap.old }
+    {
+        if let Some(why) = refusal(&opened, table, policy, heap.size()) {
+            return Ok(self.drop_first(why));
+        }
+        match self.extents.fit(opened.words) {
+            Some(at) => self.take_in(opened, at, table, heap),
+            None => Ok(self.let_wait(opened)),
+        }
+    }
+
+    // Takes the first frame, which is there.
+    fn take_first(&mut self) -> Frame
+        requires { (f : TheFrame) × IsFirst self.old.fed f }
+        ensures frame { (f : TheFrame) → IsFirst self.old.fed f → (result ≡ f) × Gives self.old.fed f self.new.fed }
+        ensures total { total self.new.fed ≡ total self.old.fed }
+        ensures conn { self.new.conn ≡ self.old.conn }
+        ensures heap { self.new.heap ≡ self.old.heap }
+        ensures opened { self.new.opened ≡ self.old.opened }
+    {
+        one_frame();
+        match self.feed.next() {
+            Some(frame) => frame,
+            None => unreachable!(),
+        }
+    }
+
+    // Drops the first frame.
+    fn drop_first(&mut self, why: DropCause) -> Arrival
+        requires { (f : TheFrame) × IsFirst self.old.fed f }
+        ensures frame { (f : TheFrame) → IsFirst self.old.fed f
+            → (result ≡ Arrival.Dropped f.kind f.method f.number why) × Gives self.old.fed f self.new.fed }
+        ensures total { total self.new.fed ≡ total self.old.fed }
+        ensures conn { self.new.conn ≡ self.old.conn }
+        ensures heap { self.new.heap ≡ self.old.heap }
+        ensures opened { self.new.opened ≡ self.old.opened }
+    {
+        let frame = self.take_first();
+        Arrival::Dropped {
+            kind: frame.kind,
+            method: frame.method,
+            number: frame.number,
+            why,
+        }
+    }
+
+    // Keeps the call of the first frame until a hole is large enough.
+    fn let_wait(&mut self, opened: Opened) -> Arrival
+        ensures waits { (largest : ℕ) × (result ≡ Arrival.Waiting opened.words largest)
+            × IsLargest self.old.heap.holes largest }
+        ensures stays { HasStayed self.old self.new }
+        ensures opened { self.new.opened ≡ Some opened }
+    {
+        let need = opened.words;
+        self.opened = Some(opened);
+        Arrival::Waiting {
+            need,
+            largest: self.extents.largest(),
+        }
+    }
+
+    // Places the call of the first frame in a block that begins at the first place of a hole. All memory is taken
+    // before the first word is stored and before the frame goes.
+    fn take_in<H: Stores>(
+        &mut self,
+        opened: Opened,
+        at: u64,
+        table: &Table,
+        heap: &mut H,
+    ) -> Result<Arrival, Memory>
+        requires valid { IsValid table.now }
+        requires opened { (f : TheFrame) × IsFirst self.old.fed f × IsOpened table.now self.old.conn f opened }
+        requires fits { (place : ℕ) → IsFirstFit self.old.heap.holes opened.words place → place ≡ at }
+        requires inside { (1 ≤ at) × (at + opened.words ≤ self.old.heap.words) }
+        requires none_kept { self.old.opened ≡ None }
+        requires size { H.words heap.old ≡ self.old.heap.words }
+        requires few { length (H.stores heap.old) ≤ 2 ^ 62 }
+        requires blocks { self.old.heap.next < 2 ^ 32 }
+        ensures takes { IfOk result (λ arrival. (f : TheFrame) → IsFirst self.old.fed f
+            → IsOpened table.now self.old.conn f opened
+            → TakesCall table.now self.old self.new f opened (H.stores heap.old) (H.stores heap.new) arrival) }
+        ensures memory { OnErr result (HasStayed self.old self.new) }
+        ensures no_store { OnErr result (H.stores heap.new ≡ H.stores heap.old) }
+        ensures total { total self.new.fed ≡ total self.old.fed }
+        ensures conn { self.new.conn ≡ self.old.conn }
+        ensures places { self.new.heap.words ≡ self.old.heap.words }
+        ensures next { self.new.heap.next ≤ self.old.heap.next + 1 }
+        ensures opened { self.new.opened ≡ None }
+        ensures words { H.words heap.new ≡ H.words heap.old }
+    {
+        let Opened { call, words } = opened;
+        let message = table.message_of(call.method, call.number);
+        let placed = layout(self.alloc, &call.tree, table, message, at)?;
+        if matches!(heap.room_stores(placed.words.len() as u64), Room::Memory) {
+            return Err(Memory);
+        }
+        let Ok(block) = self.extents.take(words) else {
+            return Err(Memory);
+        };
+        store(heap, &placed);
+        let frame = self.take_first();
+        Ok(Arrival::Arrived {
+            kind: frame.kind,
+            method: frame.method,
+            number: frame.number,
+            block,
+            tree: call.tree,
+        })
+    }
+}
+
+// The first whole frame of a feed, where one waits.
+fn first_of(feed: &Feed) -> Option<&Frame>
+    requires { IsSplit feed.now }
+    ensures some { IfSome result (λ frame. IsFirst feed.now frame.now) }
+    ensures none { IfNone result (IsPartial feed.now.bytes) }
+{
+    feed.peek(0)
+}
