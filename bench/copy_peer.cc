@@ -168,6 +168,16 @@ struct Call {
   std::string payload;
 };
 
+// Lower-case hexadecimal digits, or `-` where there is no byte.
+static void append_hex(std::string& out, const std::string& bytes) {
+  static const char digits[] = "0123456789abcdef";
+  if (bytes.empty()) out += '-';
+  for (char c : bytes) {
+    out += digits[static_cast<unsigned char>(c) >> 4];
+    out += digits[c & 15];
+  }
+}
+
 static void put_big(std::string& out, uint32_t number, int count) {
   for (int shift = 8 * (count - 1); shift >= 0; shift -= 8) out += static_cast<char>(number >> shift);
 }

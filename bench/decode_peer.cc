@@ -1,13 +1,7 @@
 // The whole job of `mrpc decode` with protobuf's DynamicMessage: reads the table text and the frames from standard
 // input, parses each payload, serializes it deterministically, and prints the same lines. It expects input without a
 // fault, and stops with status 2 at one. bench/decode builds it, and compares what the two programs print.
-#include "peer_table.h"
-
-static uint32_t big(const std::string& bytes, size_t at, int count) {
-  uint32_t number = 0;
-  for (int i = 0; i < count; i++) number = number << 8 | static_cast<unsigned char>(bytes[at + i]);
-  return number;
-}
+#include "decode_lines.h"
 
 int main() {
   const std::string input = read_input();
@@ -27,9 +21,8 @@ int main() {
     if (!tree->ParseFromArray(input.data() + at, static_cast<int>(length))) fault("a payload");
     at += length;
     serialize(*tree, bytes);
-    char head[64];
-    out.append(head, std::snprintf(head, sizeof head, "frame %u %u %u %u ", kind, method, conn, number));
-    append_hex(out, bytes);
+    append_head(out, kind, method, conn, number);
+    append_hex(out, bytes.data(), bytes.size());
     out += '\n';
     if (out.size() >= 65536) flush(out, stdout);
   }

@@ -118,48 +118,62 @@ static std::string next_line(const std::string& input, size_t& at) {
   return line;
 }
 
+// What a table's lines name: message types in a file, and the input and the output of each method.
+struct TableFile {
+  struct Method {
+    std::string input, output;
+  };
+  pb::FileDescriptorProto file;
+  std::vector<Method> methods;
+};
+
+// Reads the lines of a table up to `end`.
+static TableFile read_table(const std::string& input, size_t& at) {
+  TableFile table;
+  table.file.set_name("table.proto");
+  table.file.set_syntax("proto3");
+  pb::DescriptorProto* message = nullptr;
+  pb::EnumDescriptorProto* choices = nullptr;
+  for (std::string text; (text = next_line(input, at)) != "end";) {
+    std::istringstream words(text);
+    std::string first, name;
+    words >> first;
+    if (first == "message") {
+      words >> name;
+      message = table.file.add_message_type();
+      message->set_name(name);
+    } else if (first == "field") {
+      add_field(message, words);
+    } else if (first == "enum") {
+      words >> name;
+      choices = table.file.add_enum_type();
+      choices->set_name(name);
+    } else if (first == "value") {
+      int number;
+      words >> number >> name;
+      pb::EnumValueDescriptorProto* value = choices->add_value();
+      value->set_number(number);
+      value->set_name(name);
+    } else if (first == "method") {
+      std::string index, service;
+      TableFile::Method method;
+      words >> index >> service >> name >> method.input >> method.output;
+      table.methods.push_back(method);
+    } else {
+      fault("a line of the table");
+    }
+  }
+  return table;
+}
+
 // The message types of a table.
 class Types {
  public:
   // Reads the lines of a table up to `end`.
   Types(const std::string& input, size_t& at) : factory_(&pool_) {
-    pb::FileDescriptorProto file;
-    file.set_name("table.proto");
-    file.set_syntax("proto3");
-    std::vector<Method> methods;
-    pb::DescriptorProto* message = nullptr;
-    pb::EnumDescriptorProto* choices = nullptr;
-    for (std::string text; (text = next_line(input, at)) != "end";) {
-      std::istringstream words(text);
-      std::string first, name;
-      words >> first;
-      if (first == "message") {
-        words >> name;
-        message = file.add_message_type();
-        message->set_name(name);
-      } else if (first == "field") {
-        add_field(message, words);
-      } else if (first == "enum") {
-        words >> name;
-        choices = file.add_enum_type();
-        choices->set_name(name);
-      } else if (first == "value") {
-        int number;
-        words >> number >> name;
-        pb::EnumValueDescriptorProto* value = choices->add_value();
-        value->set_number(number);
-        value->set_name(name);
-      } else if (first == "method") {
-        std::string index, service;
-        Method method;
-        words >> index >> service >> name >> method.input >> method.output;
-        methods.push_back(method);
-      } else {
-        fault("a line of the table");
-      }
-    }
-    if (!pool_.BuildFile(file)) fault("the table");
-    for (const Method& method : methods) {
+    const TableFile table = read_table(input, at);
+    if (!pool_.BuildFile(table.file)) fault("the table");
+    for (const TableFile::Method& method : table.methods) {
       types_[0].push_back(factory_.GetPrototype(pool_.FindMessageTypeByName(method.input)));
       types_[1].push_back(factory_.GetPrototype(pool_.FindMessageTypeByName(method.output)));
     }
@@ -173,9 +187,6 @@ class Types {
   }
 
  private:
-  struct Method {
-    std::string input, output;
-  };
   pb::DescriptorPool pool_;
   pb::DynamicMessageFactory factory_;
   std::vector<const pb::Message*> types_[2];
@@ -188,16 +199,6 @@ static void serialize(const pb::Message& message, std::string& bytes) {
   pb::io::CodedOutputStream coded(&stream);
   coded.SetSerializationDeterministic(true);
   message.SerializeToCodedStream(&coded);
-}
-
-// Lower-case hexadecimal digits, or `-` where there is no byte.
-static void append_hex(std::string& out, const std::string& bytes) {
-  static const char digits[] = "0123456789abcdef";
-  if (bytes.empty()) out += '-';
-  for (char c : bytes) {
-    out += digits[static_cast<unsigned char>(c) >> 4];
-    out += digits[c & 15];
-  }
 }
 
 // Writes what was gathered.
