@@ -1,5 +1,6 @@
 mod Fated
 mod Firsts
+mod Ordered
 mod Rows
 mod Taken
 mod Turned

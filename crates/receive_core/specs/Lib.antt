@@ -1,3 +1,4 @@
 pub mod Fates
 pub mod Opening
+pub mod Order
 pub mod Turns

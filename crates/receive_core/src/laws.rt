@@ -1,7 +1,9 @@
 //! What holds of all frames.
 
 ghost use Rattle.receive_core.specs.Fates.{HasFate, HasOneFate};
+ghost use Rattle.receive_core.specs.Order.{BeginsSo, GoesOnSo, StopsSo, TakesSo, AreFirst};
 
+use frame_transport::{frames_join, one_frame, one_split};
 use wire_decode::{meaning_or_fault, one_fault, one_meaning};
 
 /// A frame has one fate under a table, a policy and a heap. The call does nothing.
@@ -12,4 +14,19 @@ pub fn one_fate()
     meaning_or_fault();
     one_fault();
     one_meaning();
+}
+
+/// Over the life of a connection the frames that had their fates are the first of its stream, in order and once, however
+/// it was cut: so it is at the opening, and it stays so at each piece of [`crate::Inbound::bytes`] and at each frame that
+/// [`crate::Inbound::turn`] takes. The call does nothing.
+pub fn frames_in_order()
+    ensures begins { BeginsSo }
+    ensures goes_on { GoesOnSo }
+    ensures stops { StopsSo }
+    ensures takes { TakesSo }
+    ensures first { AreFirst }
+{
+    frames_join();
+    one_frame();
+    one_split();
 }

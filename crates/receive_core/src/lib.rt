@@ -16,4 +16,4 @@ mod opened;
 
 pub use arrival::{Arrival, DropCause};
 pub use inbound::Inbound;
-pub use laws::one_fate;
+pub use laws::{frames_in_order, one_fate};
