@@ -6,7 +6,7 @@ use Rattle.proto_schema.specs.Lexemes.{Meaning, identifier, integer, number, str
 use Rattle.proto_schema.specs.Files.{Draft, Forms, nothing_said}
 use Rattle.proto_schema.specs.Faults.{is_no_token}
 use Rattle.proto_schema.specs.Reading.{fault_at, unexpected, is_mark}
-use Rattle.proto_schema.specs.Running.{place_of, added, statement_step, Outcome, cut_off, read, failed, is_over, behind, run, reading, behind_word, behind_equals, behind_value, behind_syntax}
+use Rattle.proto_schema.specs.Running.{place_of, added, statement_step, Outcome, cut_off, read, failed, is_over, behind, run, reading, behind_word, behind_equals, behind_value, behind_syntax, is_too_deep}
 use Rattle.proto_schema.proofs.Next.{run_step, run_over}
 use Rattle.proto_schema.specs.declared.file.File.{File}
 use Rattle.proto_schema.specs.declared.fault.ProtoReason.TheVariants as reasons
@@ -17,107 +17,114 @@ use Rattle.proto_schema.specs.declared.statement.Step.{Step}
 use Rattle.proto_schema.specs.declared.statement.Step.TheVariants as steps
 use Rattle.std.proofs.lemmas.List.{append-nil}
 use Rattle.proto_schema.specs.Faults.{CanGoOn}
-use Rattle.proto_schema.proofs.RunRest.{not_deep, Begun, begun, reading_reads}
+use Rattle.proto_schema.proofs.RunRest.{Begun, begun, reading_reads}
 use Rattle.proto_schema.proofs.RunReads.{forms_read}
 use Rattle.proto_schema.proofs.Finishing.{state_ending, token, a_mark}
 
 -- ---- what comes of further tokens
 
-abbrev pub Continues : Outcome → List Lexeme → Outcome → Type 0
-Continues (cut_off d s) ys o = o ≡ run false d s ys
-Continues (read file) ys o = o ≡ read file
-Continues (failed e) ys o = o ≡ failed e
+abbrev pub Continues : Bool → Outcome → List Lexeme → Outcome → Type 0
+Continues limited (cut_off d s) ys o = o ≡ run limited d s ys
+Continues limited (read file) ys o = o ≡ read file
+Continues limited (failed e) ys o = o ≡ failed e
 
-abbrev On : List Lexeme → List Lexeme → Type 0
-On xs ys = (d : Draft) (s : State) → Continues (run false d s xs) ys (run false d s (xs ++ ys))
+abbrev On : Bool → List Lexeme → List Lexeme → Type 0
+On limited xs ys = (d : Draft) (s : State) → Continues limited (run limited d s xs) ys (run limited d s (xs ++ ys))
 
-behind_on : (xs ys : List Lexeme) (d : Draft) (x : Lexeme) (r : Result Step ProtoFault) → On xs ys
-    → Continues (behind (λ c t. run false c t xs) false d x r) ys (behind (λ c t. run false c t (xs ++ ys)) false d x r)
-behind_on xs ys d x (Ok (steps.More t)) g = g d t
-behind_on xs ys d x (Ok (steps.Done v)) g = rw (not_deep d v) (g (added d v) states.Begin)
-behind_on xs ys d x (Err e) g = refl
-
-nothing_on : (ys : List Lexeme) → On [] ys
-unfolding run
-nothing_on ys d s = refl
-
-token_on : (x : Lexeme) (xs ys : List Lexeme) → On xs ys → On (x ∷ xs) ys
-token_on x xs ys g d s = by (is_over d s x) refl
+behind_on : (limited : Bool) (xs ys : List Lexeme) (d : Draft) (x : Lexeme) (r : Result Step ProtoFault)
+    → On limited xs ys
+    → Continues limited (behind (λ c t. run limited c t xs) limited d x r) ys (behind (λ c t. run limited c t (xs ++ ys)) limited d x r)
+behind_on limited xs ys d x (Ok (steps.More t)) g = g d t
+behind_on limited xs ys d x (Ok (steps.Done v)) g = by (is_too_deep limited d v)
   where
-    by : (b : Bool) → is_over d s x ≡ b → Continues (run false d s (x ∷ xs)) ys (run false d s (x ∷ xs ++ ys))
-    by true e = rw (run_over false d s x xs e) (run_over false d s x (xs ++ ys) e)
-    by false e = rw (run_step false d s x xs e) (rw (run_step false d s x (xs ++ ys) e) (behind_on xs ys d x (statement_step (place_of d) s x) g))
+    by : (b : Bool)
+        → Continues limited (if b then failed (fault_at reasons.Nesting x.span) else run limited (added d v) states.Begin xs) ys
+        (if b then failed (fault_at reasons.Nesting x.span) else run limited (added d v) states.Begin (xs ++ ys))
+    by true = refl
+    by false = g (added d v) states.Begin
+behind_on limited xs ys d x (Err e) g = refl
 
-pub run_on : (xs ys : List Lexeme) → On xs ys
-run_on [] ys = nothing_on ys
-run_on (x ∷ xs) ys = token_on x xs ys (run_on xs ys)
+nothing_on : (limited : Bool) (ys : List Lexeme) → On limited [] ys
+unfolding run
+nothing_on limited ys d s = refl
+
+token_on : (limited : Bool) (x : Lexeme) (xs ys : List Lexeme) → On limited xs ys → On limited (x ∷ xs) ys
+token_on limited x xs ys g d s = by (is_over d s x) refl
+  where
+    by : (b : Bool) → is_over d s x ≡ b
+        → Continues limited (run limited d s (x ∷ xs)) ys (run limited d s (x ∷ xs ++ ys))
+    by true e = rw (run_over limited d s x xs e) (run_over limited d s x (xs ++ ys) e)
+    by false e =
+        rw (run_step limited d s x xs e) (rw (run_step limited d s x (xs ++ ys) e) (behind_on limited xs ys d x (statement_step (place_of d) s x) g))
+
+pub run_on : (limited : Bool) (xs ys : List Lexeme) → On limited xs ys
+run_on limited [] ys = nothing_on limited ys
+run_on limited (x ∷ xs) ys = token_on limited x xs ys (run_on limited xs ys)
 
 -- ---- the same of the syntax statement
 
 abbrev Fails : ProtoFault → Outcome → Outcome → Type 0
 Fails e o p = o ≡ failed e → p ≡ failed e
 
-run_fails : (e : ProtoFault) (d : Draft) (s : State) (xs ys : List Lexeme)
-    → Fails e (run false d s xs) (run false d s (xs ++ ys))
-run_fails e d s xs ys h = rw h at (run_on xs ys d s)
+run_fails : (limited : Bool) (e : ProtoFault) (d : Draft) (s : State) (xs ys : List Lexeme)
+    → Fails e (run limited d s xs) (run limited d s (xs ++ ys))
+run_fails limited e d s xs ys h = rw h at (run_on limited xs ys d s)
 
-syntax_fails : (e : ProtoFault) (xs ys : List Lexeme)
-    → Fails e (behind_syntax false xs) (behind_syntax false (xs ++ ys))
-syntax_fails e [] ys h = absurd (let t : cut_off nothing_said states.Begin ≡ failed e = h in cc)
-syntax_fails e (z ∷ zs) ys h = by (is_mark z.means semicolon) h
+syntax_fails : (limited : Bool) (e : ProtoFault) (xs ys : List Lexeme)
+    → Fails e (behind_syntax limited xs) (behind_syntax limited (xs ++ ys))
+syntax_fails limited e [] ys h = absurd (let t : cut_off nothing_said states.Begin ≡ failed e = h in cc)
+syntax_fails limited e (z ∷ zs) ys h = by (is_mark z.means semicolon) h
   where
-    by : (b : Bool) → Fails e (if b then run false nothing_said states.Begin zs else failed (unexpected z)) (if b then run false nothing_said states.Begin (zs ++ ys) else failed (unexpected z))
-    by true h = run_fails e nothing_said states.Begin zs ys h
+    by : (b : Bool) → Fails e (if b then run limited nothing_said states.Begin zs else failed (unexpected z)) (if b then run limited nothing_said states.Begin (zs ++ ys) else failed (unexpected z))
+    by true h = run_fails limited e nothing_said states.Begin zs ys h
     by false h = h
 
-value_fails : (e : ProtoFault) (w y : Lexeme) (xs ys : List Lexeme) (m : Meaning)
-    → Fails e (behind_value false w y xs m) (behind_value false w y (xs ++ ys) m)
-value_fails e w y xs ys (string v) h = by (bytes_eq v (codes "proto3")) h
+value_fails : (limited : Bool) (e : ProtoFault) (w y : Lexeme) (xs ys : List Lexeme) (m : Meaning)
+    → Fails e (behind_value limited w y xs m) (behind_value limited w y (xs ++ ys) m)
+value_fails limited e w y xs ys (string v) h = by (bytes_eq v (codes "proto3")) h
   where
-    by : (b : Bool) → Fails e (if b then behind_syntax false xs else failed (fault_at reasons.Syntax2 w.span)) (if b then behind_syntax false (xs ++ ys) else failed (fault_at reasons.Syntax2 w.span))
-    by true h = syntax_fails e xs ys h
+    by : (b : Bool) → Fails e (if b then behind_syntax limited xs else failed (fault_at reasons.Syntax2 w.span)) (if b then behind_syntax limited (xs ++ ys) else failed (fault_at reasons.Syntax2 w.span))
+    by true h = syntax_fails limited e xs ys h
     by false h = h
-value_fails e w y xs ys (identifier v) h = h
-value_fails e w y xs ys (integer v) h = h
-value_fails e w y xs ys number h = h
-value_fails e w y xs ys (mark v) h = h
-value_fails e w y xs ys the_end h = h
-value_fails e w y xs ys none h = h
+value_fails limited e w y xs ys (identifier v) h = h
+value_fails limited e w y xs ys (integer v) h = h
+value_fails limited e w y xs ys number h = h
+value_fails limited e w y xs ys (mark v) h = h
+value_fails limited e w y xs ys the_end h = h
+value_fails limited e w y xs ys none h = h
 
-equals_fails : (e : ProtoFault) (w : Lexeme) (xs ys : List Lexeme)
-    → Fails e (behind_equals false w xs) (behind_equals false w (xs ++ ys))
-equals_fails e w [] ys h = absurd (let t : cut_off nothing_said states.Begin ≡ failed e = h in cc)
-equals_fails e w (y ∷ xs) ys h = value_fails e w y xs ys y.means h
+equals_fails : (limited : Bool) (e : ProtoFault) (w : Lexeme) (xs ys : List Lexeme)
+    → Fails e (behind_equals limited w xs) (behind_equals limited w (xs ++ ys))
+equals_fails limited e w [] ys h = absurd (let t : cut_off nothing_said states.Begin ≡ failed e = h in cc)
+equals_fails limited e w (y ∷ xs) ys h = value_fails limited e w y xs ys y.means h
 
-word_fails : (e : ProtoFault) (w : Lexeme) (xs ys : List Lexeme)
-    → Fails e (behind_word false w xs) (behind_word false w (xs ++ ys))
-word_fails e w [] ys h = absurd (let t : cut_off nothing_said states.Begin ≡ failed e = h in cc)
-word_fails e w (x ∷ xs) ys h = by (is_mark x.means equals) h
+word_fails : (limited : Bool) (e : ProtoFault) (w : Lexeme) (xs ys : List Lexeme)
+    → Fails e (behind_word limited w xs) (behind_word limited w (xs ++ ys))
+word_fails limited e w [] ys h = absurd (let t : cut_off nothing_said states.Begin ≡ failed e = h in cc)
+word_fails limited e w (x ∷ xs) ys h = by (is_mark x.means equals) h
   where
-    by : (b : Bool) → Fails e (if b then behind_equals false w xs else failed (unexpected x)) (if b then behind_equals false w (xs ++ ys) else failed (unexpected x))
-    by true h = equals_fails e w xs ys h
+    by : (b : Bool) → Fails e (if b then behind_equals limited w xs else failed (unexpected x)) (if b then behind_equals limited w (xs ++ ys) else failed (unexpected x))
+    by true h = equals_fails limited e w xs ys h
     by false h = h
 
-pub reading_fails : (e : ProtoFault) (xs ys : List Lexeme) → Fails e (reading false xs) (reading false (xs ++ ys))
-reading_fails e [] ys h = absurd (let t : cut_off nothing_said states.Begin ≡ failed e = h in cc)
-reading_fails e (w ∷ xs) ys h = by (says w.means (codes "syntax")) h
+pub reading_fails : (limited : Bool) (e : ProtoFault) (xs ys : List Lexeme)
+    → Fails e (reading limited xs) (reading limited (xs ++ ys))
+reading_fails limited e [] ys h = absurd (let t : cut_off nothing_said states.Begin ≡ failed e = h in cc)
+reading_fails limited e (w ∷ xs) ys h = by (says w.means (codes "syntax")) h
   where
-    by : (b : Bool) → Fails e (if b then behind_word false w xs else if is_no_token w.means then failed (unexpected w) else failed (fault_at reasons.Syntax2 w.span))
-        (if b then behind_word false w (xs ++ ys) else if is_no_token w.means then failed (unexpected w) else failed (fault_at reasons.Syntax2 w.span))
-    by true h = word_fails e w xs ys h
+    by : (b : Bool) → Fails e (if b then behind_word limited w xs else if is_no_token w.means then failed (unexpected w) else failed (fault_at reasons.Syntax2 w.span))
+        (if b then behind_word limited w (xs ++ ys) else if is_no_token w.means then failed (unexpected w) else failed (fault_at reasons.Syntax2 w.span))
+    by true h = word_fails limited e w xs ys h
     by false h = h
 
 -- what is at a fault doesn't go on
 pub at_fault : (e : ProtoFault) (xs : List Lexeme) → reading false xs ≡ failed e → CanGoOn xs → ⊥
 at_fault e xs h (ys, file, f) =
     let a : reading false (xs ++ ys) ≡ read file = ap (reading false) (sym (append-nil (xs ++ ys))) ∙ forms_read [] f in
-    let b : failed e ≡ read file = sym (reading_fails e xs ys h) ∙ a in
+    let b : failed e ≡ read file = sym (reading_fails false e xs ys h) ∙ a in
     cc
 
 -- ---- what is cut off goes on
-
-abbrev Ends : List Lexeme → Type 0
-Ends xs = (ys : List Lexeme) × (file : File) × (reading false (xs ++ ys) ≡ read file)
 
 -- one of two fronts of a list is a front of the other
 fronts : (xs ys front rest : List Lexeme) → xs ++ ys ≡ front ++ rest
@@ -167,7 +174,7 @@ cut_run xs d s h = by (state_ending d s)
   where
     by : (ys : List Lexeme) × (file : File) × (run false d s ys ≡ read file)
         → Finishes (λ l. run false nothing_said states.Begin l) xs
-    by (ys, file, r) = (ys, file, (let c : Continues (run false nothing_said states.Begin xs) ys (run false nothing_said states.Begin (xs ++ ys)) = run_on xs ys nothing_said states.Begin in rw h at c) ∙ r)
+    by (ys, file, r) = (ys, file, (let c : Continues false (run false nothing_said states.Begin xs) ys (run false nothing_said states.Begin (xs ++ ys)) = run_on false xs ys nothing_said states.Begin in rw h at c) ∙ r)
 
 cut_syntax : (xs : List Lexeme) (d : Draft) (s : State) → behind_syntax false xs ≡ cut_off d s
     → Finishes (λ l. behind_syntax false l) xs

@@ -71,9 +71,6 @@ word_is (mark c) w h = absurd (let t : false ≡ true = h in cc)
 word_is the_end w h = absurd (let t : false ≡ true = h in cc)
 word_is none w h = absurd (let t : false ≡ true = h in cc)
 
-pub is_word_of : (m : Meaning) (w : List ℕ) → m ≡ identifier w → says m w ≡ true
-is_word_of m w h = rw h (bytes_same w w refl)
-
 pub string_meant : (m : Meaning) → is_string m ≡ true → (v : List ℕ) × (m ≡ string v)
 string_meant (string v) h = (v, refl)
 string_meant (identifier n) h = absurd (let t : false ≡ true = h in cc)

@@ -143,12 +143,12 @@ pub inner_value_ends : (d : ℕ) (w : Word) (x : Lexeme) → IsMark x greater
 unfolding map_step
 inner_value_ends d w x h = ap (of_inner_value d x) (typed_whole w x (rw h refl)) ∙ rw h refl
 
-value_map : (k : Word) (s : Span) (x : Lexeme) → IsMark x less
+pub value_map : (k : Word) (s : Span) (x : Lexeme) → IsMark x less
     → MapGoes (maps.Value k (names.Part (word_at (codes "map") s))) x (maps.InnerKey 1 names.Start)
 unfolding map_step
 value_map k s x h = ap (of_value k x) (typed_whole (word_at (codes "map") s) x (rw h refl)) ∙ rw h refl
 
-inner_value_map : (d : ℕ) (s : Span) (x : Lexeme) → IsMark x less
+pub inner_value_map : (d : ℕ) (s : Span) (x : Lexeme) → IsMark x less
     → MapGoes (maps.InnerValue d (names.Part (word_at (codes "map") s))) x (maps.InnerKey (d + 1) names.Start)
 unfolding map_step
 inner_value_map d s x h = ap (of_inner_value d x) (typed_whole (word_at (codes "map") s) x (rw h refl)) ∙ rw h refl
@@ -165,14 +165,14 @@ unfolding map_step
 close_ends x h = rw h refl
 
 -- `map`, `<`, a key and a comma
-inner_key_reads : (d : ℕ) {ks : List Lexeme} {k : Word} → MapKey ks k
+pub inner_key_reads : (d : ℕ) {ks : List Lexeme} {k : Word} → MapKey ks k
     → Walks MapGoes (maps.InnerValue d names.Start) ks (maps.InnerValue (suc d) names.Start)
 inner_key_reads d (map_key x y z {ys = ys} {w = w} hx hy t g hz e) =
     rw e (go x (y ∷ ys ++ z ∷ []) refl (in_inner_value d names.Start (names.Part (word_at (codes "map") x.span)) x (first_goes x (codes "map") hx (rw hx refl)))
     (go y (ys ++ z ∷ []) refl (subst (λ (n : ℕ). MapGoes (maps.InnerValue d (names.Part (word_at (codes "map") x.span))) y (maps.InnerKey n names.Start)) (add-one d) (inner_value_map d x.span y hy))
     (walks_on MapGoes (walks_in TypedGoes MapGoes (λ s. maps.InnerKey (suc d) s) (in_inner_key (suc d)) (typed_reads t g)) (go z [] refl (inner_comma (suc d) w z hz) (stay refl refl)))))
 
-outer_key_reads : (k0 : Word) {ks : List Lexeme} {k : Word} → MapKey ks k
+pub outer_key_reads : (k0 : Word) {ks : List Lexeme} {k : Word} → MapKey ks k
     → Walks MapGoes (maps.Value k0 names.Start) ks (maps.InnerValue 1 names.Start)
 outer_key_reads k0 (map_key x y z {ys = ys} {w = w} hx hy t g hz e) =
     rw e (go x (y ∷ ys ++ z ∷ []) refl (in_value k0 names.Start (names.Part (word_at (codes "map") x.span)) x (first_goes x (codes "map") hx (rw hx refl)))
@@ -216,7 +216,7 @@ pub map_ends : (label : FieldLabel) (s : MapState) (x : Lexeme) (kind : FieldTyp
 unfolding field_step
 map_ends label s x kind h = ap (of_map label) h
 
-map_begins : (label : FieldLabel) (s : Span) (x : Lexeme) → IsMark x less
+pub map_begins : (label : FieldLabel) (s : Span) (x : Lexeme) → IsMark x less
     → FieldGoes (fields.Type label (names.Part (word_at (codes "map") s))) x (fields.Map label (maps.Key names.Start))
 unfolding field_step
 map_begins label s x h = ap (of_type label x) (typed_whole (word_at (codes "map") s) x (rw h refl)) ∙ rw h refl

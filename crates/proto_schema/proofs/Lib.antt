@@ -26,4 +26,8 @@ mod RunReads
 mod Finishing
 mod Shallow
 mod Breaks
+mod SoFar
+mod Reports
+mod Named
+mod FirstFaults
 mod Texts

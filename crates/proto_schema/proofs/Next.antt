@@ -91,9 +91,6 @@ grows p s t x e = subst (λ (r : Result Step ProtoFault). Within (depth s + 1) r
 abbrev pub Goes : List ℕ → ℕ → ℕ → Draft → State → Type 0
 Goes text from place d s = (ts : List Token) → AreTokens text from ts → (us : List Token) × AreTokens text place us × (run true nothing_said states.Begin (lexemes text ts) ≡ run true d s (lexemes text us))
 
-pub goes_start : (text : List ℕ) (from : ℕ) → Goes text from from nothing_said states.Begin
-goes_start text from ts h = (ts, h, refl)
-
 pub goes_on : (text : List ℕ) (from place : ℕ) (t : Token) (d e : Draft) (s u : State)
     → ((ts : List Token) → AreTokens text place ts → Begins text t ts) → is_last t.kind ≡ false
     → is_over d s (lexeme text t) ≡ false

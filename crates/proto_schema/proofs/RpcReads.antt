@@ -91,11 +91,11 @@ RpcGoes s x t = rpc_step s x ≡ Ok (steps.More t)
 abbrev pub RpcEnds : RpcState → Lexeme → RpcDecl × Bool → Type 0
 RpcEnds s x r = rpc_step s x ≡ Ok (steps.Done r.0 r.1)
 
-start_goes : (x : Lexeme) (n : List ℕ) → IsWord x n → RpcGoes rpcs.Start x (rpcs.Named (word_at n x.span))
+pub start_goes : (x : Lexeme) (n : List ℕ) → IsWord x n → RpcGoes rpcs.Start x (rpcs.Named (word_at n x.span))
 unfolding rpc_step
 start_goes x n h = is_name x (λ n. steps.More (rpcs.Named (word_at n x.span))) n h
 
-named_goes : (name : Word) (x : Lexeme) → IsMark x opening_paren
+pub named_goes : (name : Word) (x : Lexeme) → IsMark x opening_paren
     → RpcGoes (rpcs.Named name) x (rpcs.Input name names.Start)
 unfolding rpc_step
 named_goes name x h = rw h refl
@@ -110,12 +110,12 @@ pub input_ends : (name w : Word) (x : Lexeme) → IsMark x closing_paren
 unfolding rpc_step
 input_ends name w x h = ap (of_input name) (type_ends w x h)
 
-returns_goes : (name input : Word) (x : Lexeme) → IsWord x (codes "returns")
+pub returns_goes : (name input : Word) (x : Lexeme) → IsWord x (codes "returns")
     → RpcGoes (rpcs.Returns name input) x (rpcs.Open name input)
 unfolding rpc_step
 returns_goes name input x h = rw h refl
 
-open_goes : (name input : Word) (x : Lexeme) → IsMark x opening_paren
+pub open_goes : (name input : Word) (x : Lexeme) → IsMark x opening_paren
     → RpcGoes (rpcs.Open name input) x (rpcs.Output name input names.Start)
 unfolding rpc_step
 open_goes name input x h = rw h refl

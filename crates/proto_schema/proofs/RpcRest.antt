@@ -83,7 +83,7 @@ type_back (names.Part v) x i =
 type_back (names.Dot v) x i =
     named_is (TypeBack (names.Dot v) x) x (λ n. part (v.name ++ dot ∷ n) (span_to v.span x.span)) (λ n h. λ ys w k. (from_dot v x n h ys w k.0, tt)) tt
 
-abbrev TypeInBack : NameState → Lexeme → Result NameStep ProtoFault → Type 0
+abbrev pub TypeInBack : NameState → Lexeme → Result NameStep ProtoFault → Type 0
 TypeInBack s x (Ok (name_steps.More t)) = (ys : List Lexeme) (w : Word) → RpcTypeRest t ys w → RpcTypeRest s (x ∷ ys) w
 TypeInBack s x (Ok (name_steps.Whole w)) = (RpcTypeRest s [] w) × IsMark x closing_paren
 TypeInBack s x (Err e) = Unit {0}
@@ -95,7 +95,7 @@ behind_type_back s x (Ok (name_steps.Whole w)) b =
     either_is (TypeInBack s x) (is_mark x.means closing_paren) (Ok (name_steps.Whole w)) (wrong x) (λ h. (b, mark_is x.means closing_paren h)) (λ h. tt)
 behind_type_back s x (Err e) b = tt
 
-type_in_back : (s : NameState) (x : Lexeme) → TypeInBack s x (rpc_type_step s x)
+pub type_in_back : (s : NameState) (x : Lexeme) → TypeInBack s x (rpc_type_step s x)
 type_in_back s x =
     either_is (TypeInBack s x) (is_streaming s x) (Err (fault_at reasons.Stream (part_span s x.span))) (behind_type x (typed_step s x)) (λ e. tt)
     (λ e. behind_type_back s x (typed_step s x) (type_back s x e))

@@ -109,7 +109,7 @@ pub data StatementReads (d : Draft) (all : List Lexeme) (e : Draft) : Type 0 whe
 pub in_file : (d : Draft) → InFile d → place_of d ≡ places.File (is_some d.file.package)
 in_file d h = ap (λ (b : Block). place_with b d.messages d.file.package) h.0 ∙ ap (λ (ms : List ℕ). place_with no_block ms d.file.package) h.1
 
-in_message : (d : Draft) → Files.InMessage d → place_of d ≡ places.Message
+pub in_message : (d : Draft) → Files.InMessage d → place_of d ≡ places.Message
 in_message d h = ap (λ (b : Block). place_with b d.messages d.file.package) h.0 ∙ by d.messages h.1
   where
     by : (ms : List ℕ) → ms ≢ [] → place_with no_block ms d.file.package ≡ places.Message
@@ -133,7 +133,7 @@ package_word : (x : Lexeme) → IsWord x (codes "package")
 unfolding statement_step
 package_word x h = rw h refl
 
-import_word : (p : Bool) (x : Lexeme) → IsWord x (codes "import")
+pub import_word : (p : Bool) (x : Lexeme) → IsWord x (codes "import")
     → StepGoes (places.File p) states.Begin x (states.Import false)
 unfolding statement_step
 import_word true x h = rw h refl
@@ -181,17 +181,17 @@ reserved_in_enum : (filled : Bool) (x : Lexeme) → IsWord x (codes "reserved") 
 unfolding statement_step
 reserved_in_enum filled x h = rw h refl
 
-optional_word : (x : Lexeme) → IsWord x (codes "optional")
+pub optional_word : (x : Lexeme) → IsWord x (codes "optional")
     → StepGoes places.Message states.Begin x (states.Field (fields.Type labels.Optional names.Start))
 unfolding statement_step
 optional_word x h = rw h refl
 
-repeated_word : (x : Lexeme) → IsWord x (codes "repeated")
+pub repeated_word : (x : Lexeme) → IsWord x (codes "repeated")
     → StepGoes places.Message states.Begin x (states.Field (fields.Type labels.Repeated names.Start))
 unfolding statement_step
 repeated_word x h = rw h refl
 
-rpc_word : (x : Lexeme) → IsWord x (codes "rpc") → StepGoes places.Service states.Begin x (states.Rpc rpcs.Start)
+pub rpc_word : (x : Lexeme) → IsWord x (codes "rpc") → StepGoes places.Service states.Begin x (states.Rpc rpcs.Start)
 unfolding statement_step
 rpc_word x h = rw h refl
 
@@ -315,10 +315,10 @@ first_of_type words m (named (absolute x {ys = ys} h f) b) = first_token x ys (b
 first_of_type words {ts = ts} m (a_map x {ks = ks} {ys = ys} k t g h e) = first_behind words ks (ys ++ x ∷ []) ts (first_of_key words m k) (e ∙ append_assoc ks ys (x ∷ []))
 first_of_type words {ts = ts} m (map_of_maps x {ks = ks} {ys = ys} k n h e) = first_behind words ks (ys ++ x ∷ []) ts (first_of_key words m k) (e ∙ append_assoc ks ys (x ∷ []))
 
-map_no_member : (x : Lexeme) → IsWord x (codes "map") → says_one_of x member_words ≡ false
+pub map_no_member : (x : Lexeme) → IsWord x (codes "map") → says_one_of x member_words ≡ false
 map_no_member x h = rw h refl
 
-map_no_statement : (x : Lexeme) → IsWord x (codes "map") → says_one_of x statement_words ≡ false
+pub map_no_statement : (x : Lexeme) → IsWord x (codes "map") → says_one_of x statement_words ≡ false
 map_no_statement x h = rw h refl
 
 -- a type that begins with no word of several begins with none of the last ones
@@ -392,7 +392,7 @@ oneof_field : (filled : Bool) (x : Lexeme) (n : List ℕ) → bytes_eq n (codes 
     → begins (places.Oneof filled) x (identifier n) ≡ field_begins x
 oneof_field filled x n h = rw h refl
 
-message_leads : (x : Lexeme) → Leads statement_words x → statement_step places.Message states.Begin x ≡ field_begins x
+pub message_leads : (x : Lexeme) → Leads statement_words x → statement_step places.Message states.Begin x ≡ field_begins x
 unfolding statement_step
 message_leads x (by_word n h s) = ap (begins places.Message x) h ∙ message_field x n (no_statement n (rw h at s))
 message_leads x (by_dot h) = ap (begins places.Message x) h ∙ refl

@@ -1,5 +1,6 @@
--- The limit on messages in one another changes nothing where no `{` opens the 33rd. So what a text reads as is what is read of it.
-use Rattle.std.proofs.Common.{subst, ◌≡◌, ℕ, zero, suc, ◌+◌, ◌<◌, ◌≤◌, nat_le, length, take, Bool, true, false, List, [], ◌∷◌, ◌++◌, codes, refl, ap, sym, ◌∙◌, arith}
+-- The limit on messages in one another changes nothing where no `{` opens the 33rd. So what a text reads as is what is
+-- read of it.
+use Rattle.std.proofs.Common.{subst, ◌≡◌, ℕ, zero, suc, ◌+◌, ◌<◌, ◌≤◌, nat_le, length, take, Bool, true, false, List, [], ◌∷◌, ◌++◌, codes, refl, ap, sym, ◌∙◌, arith, length-append}
 use Rattle.std.specs.Prelude.{Ok, Err, Result, Some, if◌then◌else◌}
 use Rattle.std.specs.Str.{bytes_eq}
 use Rattle.std.proofs.lemmas.List.{append_assoc}
@@ -8,13 +9,14 @@ use Rattle.proto_schema.specs.Files
 use Rattle.proto_schema.specs.Files.{Draft, Block, no_block, a_oneof, an_enum, a_service, an_rpc, Says, Forms, nothing_said}
 use Rattle.proto_schema.specs.Faults.{is_no_token}
 use Rattle.proto_schema.specs.Reading.{fault_at, unexpected, is_mark}
-use Rattle.proto_schema.specs.Running.{place_of, added, statement_step, read, failed, is_over, is_too_deep, behind, run, reading, behind_word, behind_equals, behind_value, behind_syntax}
+use Rattle.proto_schema.specs.Running.{place_of, added, statement_step, read, failed, is_over, is_too_deep, behind, run, reading, behind_word, behind_equals, behind_value, behind_syntax, Outcome}
 use Rattle.proto_schema.proofs.Choices.{either_is}
 use Rattle.proto_schema.proofs.Next.{run_step, run_over}
 use Rattle.proto_schema.specs.declared.file.Word.{Word}
 use Rattle.proto_schema.specs.declared.file.File.{File}
 use Rattle.proto_schema.specs.declared.fault.ProtoReason.TheVariants as reasons
 use Rattle.proto_schema.specs.declared.fault.ProtoFault.{ProtoFault}
+use Rattle.proto_schema.specs.declared.statement.Place.{Place}
 use Rattle.proto_schema.specs.declared.statement.Opening.TheVariants as openings
 use Rattle.proto_schema.specs.declared.statement.State.{State}
 use Rattle.proto_schema.specs.declared.statement.State.TheVariants as states
@@ -51,7 +53,7 @@ closed_less d (an_enum filled) = omega arith
 closed_less d a_service = omega arith
 closed_less d an_rpc = omega arith
 
-added_less : (d : Draft) (v : Said) → Shallow v → length (added d v).messages ≤ length d.messages
+pub added_less : (d : Draft) (v : Said) → Shallow v → length (added d v).messages ≤ length d.messages
 added_less d said.Nothing h = omega arith
 added_less d (said.Package w) h = omega arith
 added_less d (said.Import i) h = omega arith
@@ -86,26 +88,59 @@ shallow_flat limited d said.Close h = refl
 
 -- ---- at most 32 are open, or a brace has the fault's name
 
-pub data Deep (ts : List Lexeme) : Type 0 where
-  deep : (k : ℕ) → IsNamed ts k Nesting → Deep ts
+-- a brace before this place has the fault's name, and the reading says so
+pub data Deep (ts : List Lexeme) (n : ℕ) : Type 0 where
+  deep : (k : ℕ) (z : Lexeme) → IsNamed ts k Nesting → k < n → slice_get ts k ≡ Some z
+      → reading true ts ≡ failed (fault_at reasons.Nesting z.span) → Deep ts n
 
-get_behind : (xs ys : List Lexeme) (z : Lexeme) → slice_get (xs ++ z ∷ ys) (length xs) ≡ Some z
+pub get_behind : (xs ys : List Lexeme) (z : Lexeme) → slice_get (xs ++ z ∷ ys) (length xs) ≡ Some z
 get_behind [] ys z = refl
 get_behind (x ∷ xs) ys z = get_behind xs ys z
 
-take_behind : (xs ys : List Lexeme) (z : Lexeme) → take (length xs + 1) (xs ++ z ∷ ys) ≡ xs ++ z ∷ []
+pub take_behind : (xs ys : List Lexeme) (z : Lexeme) → take (length xs + 1) (xs ++ z ∷ ys) ≡ xs ++ z ∷ []
 take_behind xs ys z = take-append-add xs (z ∷ ys) 1
 
-opens_deep : (c : Draft) (w : Word) (front rest : List Lexeme) (z : Lexeme) → Says (front ++ z ∷ []) (open_message c w)
-    → IsMark z opening_brace → length c.messages ≡ MOST_OPEN → Deep (front ++ z ∷ rest)
-opens_deep c w front rest z s m l =
-    deep (length front) (nesting z (open_message c w) (get_behind front rest z) m (subst (λ (q : List Lexeme). Says q (open_message c w)) (sym (take_behind front rest z)) s)
-    (refl, λ e. let t : ◌≡◌ {A = List ℕ} (length c.file.messages ∷ c.messages) [] = e in cc) (omega (arith, l)))
+pub opens_named : (c : Draft) (w : Word) (front rest : List Lexeme) (z : Lexeme)
+    → Says (front ++ z ∷ []) (open_message c w) → IsMark z opening_brace → length c.messages ≡ MOST_OPEN
+    → IsNamed (front ++ z ∷ rest) (length front) Nesting
+opens_named c w front rest z s m l =
+    nesting z (open_message c w) (get_behind front rest z) m (subst (λ (q : List Lexeme). Says q (open_message c w)) (sym (take_behind front rest z)) s)
+    (refl, λ e. let t : ◌≡◌ {A = List ℕ} (length c.file.messages ∷ c.messages) [] = e in cc) (omega (arith, l))
 
 pub data SaysWell (front : List Lexeme) (d : Draft) (rest : List Lexeme) : Type 0 where
   says_well : reading true (front ++ rest) ≡ run true d states.Begin rest → length d.messages ≤ MOST_OPEN
       → SaysWell front d rest
-  says_deep : Deep (front ++ rest) → SaysWell front d rest
+  says_deep : Deep (front ++ rest) (length front) → SaysWell front d rest
+
+deep_before : {ts us : List Lexeme} {m n : ℕ} → ts ≡ us → m ≤ n → Deep ts m → Deep us n
+deep_before {ts = ts} {us = us} {m = m} {n = n} e l (deep k z h b g f) =
+    deep k z (subst (λ (q : List Lexeme). IsNamed q k Nesting) e h) (omega arith) (subst (λ (q : List Lexeme). slice_get q k ≡ Some z) e g) (ap (reading true) (sym e) ∙ f)
+
+nothing_is : (us : List Lexeme) (z : Lexeme) → [] ≡ us ++ z ∷ [] → ⊥
+nothing_is [] z e = let t : ◌≡◌ {A = List Lexeme} [] (z ∷ []) = e in cc
+nothing_is (u ∷ us) z e = let t : ◌≡◌ {A = List Lexeme} [] (u ∷ us ++ z ∷ []) = e in cc
+
+-- a statement takes a token
+takes_some : (p : Place) {s : State} {ys : List Lexeme} {v : Said} → StepTakes p s ys v → ys ≡ [] → ⊥
+takes_some p (last x h) e = let t : ◌≡◌ {A = List Lexeme} (x ∷ []) [] = e in cc
+takes_some p (next x {ys = ys} h w) e = let t : ◌≡◌ {A = List Lexeme} (x ∷ ys) [] = e in cc
+
+-- a statement that is too deep is at a fault at its last token
+deep_run : (d : Draft) {s : State} {ys : List Lexeme} {v : Said} (xs us : List Lexeme) (z : Lexeme)
+    → StepTakes (place_of d) s ys v → is_too_deep true d v ≡ true → ys ≡ us ++ z ∷ []
+    → run true d s (ys ++ xs) ≡ failed (fault_at reasons.Nesting z.span)
+deep_run d xs [] z (last x {s = s} {v = v} h) k e =
+    let q : ◌≡◌ {A = List Lexeme} (x ∷ []) (z ∷ []) = e in
+    let c : x ≡ z = (cc) in
+    run_step true d s x xs (not_over d s x (steps.Done v) h)
+    ∙ (ap (λ (r : Result Step ProtoFault). behind (λ c t. run true c t xs) true d x r) h ∙ (rw k (ap (λ (y : Lexeme). failed (fault_at reasons.Nesting y.span)) c)))
+deep_run d xs (u ∷ us) z (last x h) k e = absurd (nothing_is us z (let q : ◌≡◌ {A = List Lexeme} (x ∷ []) (u ∷ us ++ z ∷ []) = e in cc))
+deep_run d xs [] z (next x {ys = ys} h w) k e =
+    absurd (takes_some (place_of d) w (let q : ◌≡◌ {A = List Lexeme} (x ∷ ys) (z ∷ []) = e in cc))
+deep_run d xs (u ∷ us) z (next x {s = s} {t = t} {ys = ys} h w) k e =
+    let q : ◌≡◌ {A = List Lexeme} (x ∷ ys) (u ∷ us ++ z ∷ []) = e in
+    let c : ys ≡ us ++ z ∷ [] = (cc) in
+    run_goes true d s t x (ys ++ xs) h ∙ deep_run d xs us z w k c
 
 one_statement : (front ys rest : List Lexeme) (c d : Draft) → Says (front ++ ys) d
     → reading true (front ++ (ys ++ rest)) ≡ run true c states.Begin (ys ++ rest) → length c.messages ≤ MOST_OPEN
@@ -126,7 +161,10 @@ one_statement front ys rest c d s r l (statement_reads v (opens_message us z w e
         let p : front ++ ys ≡ (front ++ us) ++ z ∷ [] = ap (λ (l : List Lexeme). front ++ l) a ∙ sym (append_assoc front us (z ∷ [])) in
         let k : Says ((front ++ us) ++ z ∷ []) (open_message c w) = subst (λ (l : List Lexeme). Says l (open_message c w)) p (subst (λ (x : Draft). Says (front ++ ys) x) (sym opened) s) in
         let o : (front ++ us) ++ z ∷ rest ≡ (front ++ ys) ++ rest = sym (append_assoc (front ++ us) (z ∷ []) rest) ∙ ap (λ (l : List Lexeme). l ++ rest) (sym p) in
-        says_deep (subst (λ (l : List Lexeme). Deep l) o (opens_deep c w (front ++ us) rest z k m n))
+        let f : run true c states.Begin (ys ++ rest) ≡ failed (fault_at reasons.Nesting z.span) = deep_run c rest us z t (ap (is_too_deep true c) ev ∙ b) a in
+        let h : reading true ((front ++ us) ++ z ∷ rest) ≡ failed (fault_at reasons.Nesting z.span) = ap (reading true) o ∙ (ap (reading true) (append_assoc front ys rest) ∙ (r ∙ f)) in
+        let i : length (front ++ us) < length (front ++ ys) = (let u : length ((front ++ us) ++ z ∷ []) ≡ length (front ++ us) + 1 = length-append (front ++ us) (z ∷ []) in omega (arith, ap length p)) in
+        says_deep (deep_before o (omega arith) (deep (length (front ++ us)) z (opens_named c w (front ++ us) rest z k m n) i (get_behind (front ++ us) rest z) h))
     by false b =
         let g : length c.messages < MOST_OPEN = leb-false MOST_OPEN (length c.messages) b in
         let f : is_too_deep true c v ≡ false = ap (is_too_deep true c) ev ∙ b in
@@ -140,54 +178,29 @@ says_well_or rest (Files.another {xs = front} {ys = ys} {all = all} {c = c} {d =
   where
     by : SaysWell front c (ys ++ rest) → SaysWell (front ++ ys) d rest
     by (says_well r l) = one_statement front ys rest c d (Files.another s k refl) r l (statement_is_read k)
-    by (says_deep h) = says_deep (subst (λ (l : List Lexeme). Deep l) (sym (append_assoc front ys rest)) h)
+    by (says_deep h) = says_deep (deep_before (sym (append_assoc front ys rest)) (let u : length (front ++ ys) ≡ length front + length ys = length-append front ys in omega arith) h)
 
 -- a whole text with no such brace is read
-pub forms_well : {all : List Lexeme} {file : File} → Forms all file → (Deep all → ⊥) → reading true all ≡ read file
+pub forms_well : {all : List Lexeme} {file : File} → Forms all file → ((k : ℕ) → IsNamed all k Nesting → ⊥)
+    → reading true all ≡ read file
 forms_well (Files.whole x {xs = front} {all = all} {d = d} s w h e) no_deep = by (says_well_or (x ∷ []) s)
   where
     by : SaysWell front d (x ∷ []) → reading true all ≡ read d.file
     by (says_well r l) = ap (reading true) e ∙ (r ∙ run_over true d states.Begin x [] (whole_is_over d x w h))
-    by (says_deep k) = absurd (no_deep (subst (λ (l : List Lexeme). Deep l) (sym e) k))
+    by (says_deep (deep k z n l g f)) = absurd (no_deep k (subst (λ (l : List Lexeme). IsNamed l k Nesting) (sym e) n))
 
 -- ---- where a text is read, no brace opens the 33rd
-
-deep_takes : (d : Draft) {s : State} {ys : List Lexeme} {v : Said} (xs : List Lexeme) (file : File)
-    → StepTakes (place_of d) s ys v → is_too_deep true d v ≡ true → run true d s (ys ++ xs) ≡ read file → ⊥
-deep_takes d xs file (last x {s = s} {v = v} h) k r =
-    let e : run true d s (x ∷ xs) ≡ failed (fault_at reasons.Nesting x.span) =
-    run_step true d s x xs (not_over d s x (steps.Done v) h) ∙ (ap (λ (r : Result Step ProtoFault). behind (λ c t. run true c t xs) true d x r) h ∙ rw k refl) in
-    let q : failed (fault_at reasons.Nesting x.span) ≡ read file = sym e ∙ r in
-    cc
-deep_takes d xs file (next x {s = s} {t = t} {ys = ys} h w) k r = deep_takes d xs file w k (sym (run_goes true d s t x (ys ++ xs) h) ∙ r)
 
 pub says_within : {front : List Lexeme} {d : Draft} (rest : List Lexeme) (file : File) → Says front d
     → reading true (front ++ rest) ≡ read file
     → (run true d states.Begin rest ≡ read file) × (length d.messages ≤ MOST_OPEN)
-says_within rest file (Files.start s) r = (sym (syntax_read true rest s) ∙ r, omega arith)
-says_within rest file (Files.another {xs = front} {ys = ys} {all = all} {c = c} {d = d} s k e) r =
-    let r1 : reading true (front ++ (ys ++ rest)) ≡ read file = sym (ap (reading true) (append_assoc front ys rest)) ∙ (sym (ap (λ (l : List Lexeme). reading true (l ++ rest)) e) ∙ r) in
-    by (says_within (ys ++ rest) file s r1) (statement_is_read k)
+says_within {front = front} {d = d} rest file s r = by (says_well_or rest s)
   where
-    by : (run true c states.Begin (ys ++ rest) ≡ read file) × (length c.messages ≤ MOST_OPEN) → StatementReads c ys d
-        → (run true d states.Begin rest ≡ read file) × (length d.messages ≤ MOST_OPEN)
-    by (r, l) (statement_reads v (is_shallow h) t q) =
-        let a : length (added c v).messages ≤ length c.messages = added_less c v h in
-        let m : length (added c v).messages ≤ MOST_OPEN = omega arith in
-        let f : run true (added c v) states.Begin rest ≡ read file = sym (run_takes true c rest t (shallow_flat true c v h)) ∙ r in
-        (subst (λ (c : Draft). run true c states.Begin rest ≡ read file) q f, subst (λ (c : Draft). length c.messages ≤ MOST_OPEN) q m)
-    by (r, l) (statement_reads v (opens_message us z w ev g a) t q) = at (nat_le MOST_OPEN (length c.messages)) refl
-      where
-        at : (b : Bool) → nat_le MOST_OPEN (length c.messages) ≡ b
-            → (run true d states.Begin rest ≡ read file) × (length d.messages ≤ MOST_OPEN)
-        at true b = absurd (deep_takes c rest file t (ap (is_too_deep true c) ev ∙ b) r)
-        at false b =
-            let g : length c.messages < MOST_OPEN = leb-false MOST_OPEN (length c.messages) b in
-            let f : run true (added c v) states.Begin rest ≡ read file = sym (run_takes true c rest t (ap (is_too_deep true c) ev ∙ b)) ∙ r in
-            let m : length (open_message c w).messages ≤ MOST_OPEN = omega arith in
-            (subst (λ (c : Draft). run true c states.Begin rest ≡ read file) q f, subst (λ (c : Draft). length c.messages ≤ MOST_OPEN) (ap (added c) (sym ev) ∙ q) m)
+    by : SaysWell front d rest → (run true d states.Begin rest ≡ read file) × (length d.messages ≤ MOST_OPEN)
+    by (says_well e l) = (sym e ∙ r, l)
+    by (says_deep (deep k z n l g f)) = absurd (let t : read file ≡ failed (fault_at reasons.Nesting z.span) = sym r ∙ f in cc)
 
-drop_behind : (k : ℕ) (ts : List Lexeme) → (rest : List Lexeme) × (take k ts ++ rest ≡ ts)
+pub drop_behind : (k : ℕ) (ts : List Lexeme) → (rest : List Lexeme) × (take k ts ++ rest ≡ ts)
 drop_behind zero ts = (ts, refl)
 drop_behind (suc k) [] = ([], refl)
 drop_behind (suc k) (t ∷ ts) = let r : (rest : List Lexeme) × (take k ts ++ rest ≡ ts) = drop_behind k ts in (r.0, ap (λ (l : List Lexeme). t ∷ l) r.1)
@@ -199,83 +212,89 @@ read_not_deep ts file k r (nesting x d g m s i l) =
     let n : length d.messages ≤ MOST_OPEN = w.1 in
     omega (arith, l)
 
--- ---- what is read with the limit is read without it
+-- ---- what comes with the limit comes without it, but for faults
 
-abbrev Lifts : List Lexeme → File → Type 0
-Lifts xs file = (d : Draft) (s : State) → run true d s xs ≡ read file → run false d s xs ≡ read file
+abbrev pub NoFault : Outcome → Type 0
+NoFault o = (e : ProtoFault) → failed e ≡ o → ⊥
 
-step_lifts : (d : Draft) (x : Lexeme) (xs : List Lexeme) (file : File) (r : Result Step ProtoFault) → Lifts xs file
-    → behind (λ c t. run true c t xs) true d x r ≡ read file → behind (λ c t. run false c t xs) false d x r ≡ read file
-step_lifts d x xs file (Ok (steps.More t)) g h = g d t h
-step_lifts d x xs file (Ok (steps.Done v)) g h = rw (not_deep d v) (at (is_too_deep true d v) refl)
+abbrev Lifts : List Lexeme → Outcome → Type 0
+Lifts xs o = (d : Draft) (s : State) → run true d s xs ≡ o → run false d s xs ≡ o
+
+step_lifts : (d : Draft) (x : Lexeme) (xs : List Lexeme) (o : Outcome) → NoFault o → (r : Result Step ProtoFault)
+    → Lifts xs o → behind (λ c t. run true c t xs) true d x r ≡ o → behind (λ c t. run false c t xs) false d x r ≡ o
+step_lifts d x xs o n (Ok (steps.More t)) g h = g d t h
+step_lifts d x xs o n (Ok (steps.Done v)) g h = rw (not_deep d v) (at (is_too_deep true d v) refl)
   where
-    at : (b : Bool) → is_too_deep true d v ≡ b → run false (added d v) states.Begin xs ≡ read file
-    at true e = absurd (let t : failed (fault_at reasons.Nesting x.span) ≡ read file = rw e at h in cc)
+    at : (b : Bool) → is_too_deep true d v ≡ b → run false (added d v) states.Begin xs ≡ o
+    at true e = absurd (n (fault_at reasons.Nesting x.span) (rw e at h))
     at false e = g (added d v) states.Begin (rw e at h)
-step_lifts d x xs file (Err e) g h = absurd (let t : failed e ≡ read file = h in cc)
+step_lifts d x xs o n (Err e) g h = absurd (n e h)
 
-token_lifts : (x : Lexeme) (xs : List Lexeme) (file : File) → Lifts xs file → Lifts (x ∷ xs) file
-token_lifts x xs file g d s h = by (is_over d s x) refl
+token_lifts : (x : Lexeme) (xs : List Lexeme) (o : Outcome) → NoFault o → Lifts xs o → Lifts (x ∷ xs) o
+token_lifts x xs o n g d s h = by (is_over d s x) refl
   where
-    by : (b : Bool) → is_over d s x ≡ b → run false d s (x ∷ xs) ≡ read file
+    by : (b : Bool) → is_over d s x ≡ b → run false d s (x ∷ xs) ≡ o
     by true e = run_over false d s x xs e ∙ (sym (run_over true d s x xs e) ∙ h)
-    by false e = run_step false d s x xs e ∙ step_lifts d x xs file (statement_step (place_of d) s x) g (sym (run_step true d s x xs e) ∙ h)
+    by false e = run_step false d s x xs e ∙ step_lifts d x xs o n (statement_step (place_of d) s x) g (sym (run_step true d s x xs e) ∙ h)
 
-nothing_lifts : (file : File) → Lifts [] file
+nothing_lifts : (o : Outcome) → Lifts [] o
 unfolding run
-nothing_lifts file d s h = h
+nothing_lifts o d s h = h
 
-limit_lifts : (xs : List Lexeme) (file : File) → Lifts xs file
-limit_lifts [] file = nothing_lifts file
-limit_lifts (x ∷ xs) file = token_lifts x xs file (limit_lifts xs file)
+limit_lifts : (xs : List Lexeme) (o : Outcome) → NoFault o → Lifts xs o
+limit_lifts [] o n = nothing_lifts o
+limit_lifts (x ∷ xs) o n = token_lifts x xs o n (limit_lifts xs o n)
 
-syntax_lifts : (zs : List Lexeme) (file : File) → behind_syntax true zs ≡ read file → behind_syntax false zs ≡ read file
-syntax_lifts [] file h = h
-syntax_lifts (z ∷ zs) file h = by (is_mark z.means semicolon) h
+syntax_lifts : (zs : List Lexeme) (o : Outcome) → NoFault o → behind_syntax true zs ≡ o → behind_syntax false zs ≡ o
+syntax_lifts [] o n h = h
+syntax_lifts (z ∷ zs) o n h = by (is_mark z.means semicolon) h
   where
-    by : (b : Bool) → (if b then run true nothing_said states.Begin zs else failed (unexpected z)) ≡ read file
-        → (if b then run false nothing_said states.Begin zs else failed (unexpected z)) ≡ read file
-    by true h = limit_lifts zs file nothing_said states.Begin h
+    by : (b : Bool) → (if b then run true nothing_said states.Begin zs else failed (unexpected z)) ≡ o
+        → (if b then run false nothing_said states.Begin zs else failed (unexpected z)) ≡ o
+    by true h = limit_lifts zs o n nothing_said states.Begin h
     by false h = h
 
-value_lifts : (w y : Lexeme) (zs : List Lexeme) (file : File) (m : Meaning) → behind_value true w y zs m ≡ read file
-    → behind_value false w y zs m ≡ read file
-value_lifts w y zs file (string v) h = by (bytes_eq v (codes "proto3")) h
+value_lifts : (w y : Lexeme) (zs : List Lexeme) (o : Outcome) → NoFault o → (m : Meaning)
+    → behind_value true w y zs m ≡ o → behind_value false w y zs m ≡ o
+value_lifts w y zs o n (string v) h = by (bytes_eq v (codes "proto3")) h
   where
-    by : (b : Bool) → (if b then behind_syntax true zs else failed (fault_at reasons.Syntax2 w.span)) ≡ read file
-        → (if b then behind_syntax false zs else failed (fault_at reasons.Syntax2 w.span)) ≡ read file
-    by true h = syntax_lifts zs file h
+    by : (b : Bool) → (if b then behind_syntax true zs else failed (fault_at reasons.Syntax2 w.span)) ≡ o
+        → (if b then behind_syntax false zs else failed (fault_at reasons.Syntax2 w.span)) ≡ o
+    by true h = syntax_lifts zs o n h
     by false h = h
-value_lifts w y zs file (identifier v) h = h
-value_lifts w y zs file (integer v) h = h
-value_lifts w y zs file number h = h
-value_lifts w y zs file (mark v) h = h
-value_lifts w y zs file the_end h = h
-value_lifts w y zs file none h = h
+value_lifts w y zs o n (identifier v) h = h
+value_lifts w y zs o n (integer v) h = h
+value_lifts w y zs o n number h = h
+value_lifts w y zs o n (mark v) h = h
+value_lifts w y zs o n the_end h = h
+value_lifts w y zs o n none h = h
 
-equals_lifts : (w : Lexeme) (zs : List Lexeme) (file : File) → behind_equals true w zs ≡ read file
-    → behind_equals false w zs ≡ read file
-equals_lifts w [] file h = h
-equals_lifts w (y ∷ zs) file h = value_lifts w y zs file y.means h
+equals_lifts : (w : Lexeme) (zs : List Lexeme) (o : Outcome) → NoFault o → behind_equals true w zs ≡ o
+    → behind_equals false w zs ≡ o
+equals_lifts w [] o n h = h
+equals_lifts w (y ∷ zs) o n h = value_lifts w y zs o n y.means h
 
-word_lifts : (w : Lexeme) (zs : List Lexeme) (file : File) → behind_word true w zs ≡ read file
-    → behind_word false w zs ≡ read file
-word_lifts w [] file h = h
-word_lifts w (x ∷ zs) file h = by (is_mark x.means equals) h
+word_lifts : (w : Lexeme) (zs : List Lexeme) (o : Outcome) → NoFault o → behind_word true w zs ≡ o
+    → behind_word false w zs ≡ o
+word_lifts w [] o n h = h
+word_lifts w (x ∷ zs) o n h = by (is_mark x.means equals) h
   where
-    by : (b : Bool) → (if b then behind_equals true w zs else failed (unexpected x)) ≡ read file
-        → (if b then behind_equals false w zs else failed (unexpected x)) ≡ read file
-    by true h = equals_lifts w zs file h
+    by : (b : Bool) → (if b then behind_equals true w zs else failed (unexpected x)) ≡ o
+        → (if b then behind_equals false w zs else failed (unexpected x)) ≡ o
+    by true h = equals_lifts w zs o n h
+    by false h = h
+
+pub reading_keeps : (xs : List Lexeme) (o : Outcome) → NoFault o → reading true xs ≡ o → reading false xs ≡ o
+reading_keeps [] o n h = h
+reading_keeps (w ∷ zs) o n h = by (says w.means (codes "syntax")) h
+  where
+    by : (b : Bool) → (if b then behind_word true w zs else if is_no_token w.means then failed (unexpected w) else failed (fault_at reasons.Syntax2 w.span)) ≡ o
+        → (if b then behind_word false w zs else if is_no_token w.means then failed (unexpected w) else failed (fault_at reasons.Syntax2 w.span)) ≡ o
+    by true h = word_lifts w zs o n h
     by false h = h
 
 pub reading_lifts : (xs : List Lexeme) (file : File) → reading true xs ≡ read file → reading false xs ≡ read file
-reading_lifts [] file h = h
-reading_lifts (w ∷ zs) file h = by (says w.means (codes "syntax")) h
-  where
-    by : (b : Bool) → (if b then behind_word true w zs else if is_no_token w.means then failed (unexpected w) else failed (fault_at reasons.Syntax2 w.span)) ≡ read file
-        → (if b then behind_word false w zs else if is_no_token w.means then failed (unexpected w) else failed (fault_at reasons.Syntax2 w.span)) ≡ read file
-    by true h = word_lifts w zs file h
-    by false h = h
+reading_lifts xs file h = reading_keeps xs (read file) (λ e q. let t : failed e ≡ read file = q in cc) h
 
 -- ---- the end of a text is its last token
 
@@ -288,7 +307,7 @@ end_is_last kinds.Text literal h = absurd cc
 end_is_last (kinds.Mark c) literal h = absurd (let t : mark c ≡ the_end = h in cc)
 end_is_last kinds.Bad literal h = absurd (let t : none ≡ the_end = h in cc)
 
-nothing_behind : (text : List ℕ) (place : ℕ) (ts : List Token) (front rest : List Lexeme) (x : Lexeme)
+pub nothing_behind : (text : List ℕ) (place : ℕ) (ts : List Token) (front rest : List Lexeme) (x : Lexeme)
     → AreTokens text place ts → x.means ≡ the_end → lexemes text ts ≡ front ++ x ∷ rest → rest ≡ []
 nothing_behind text place ts [] rest x (last_token t e n l) m q =
     let a : ◌≡◌ {A = List Lexeme} (lexeme text t ∷ []) (x ∷ rest) = sym (ap (lexemes text) e) ∙ q in
@@ -338,10 +357,7 @@ text_of text ts file a r = record {
 }
 
 pub read_of : (text : List ℕ) (file : File) (h : IsTextOf text file) → reading true (lexemes text h.tokens) ≡ read file
-read_of text file h = forms_well h.reads no_deep
-  where
-    no_deep : Deep (lexemes text h.tokens) → ⊥
-    no_deep (deep k n) = h.shallow k n
+read_of text file h = forms_well h.reads h.shallow
 
 -- a text reads as one file
 pub one_reading : (text : List ℕ) (f g : File)

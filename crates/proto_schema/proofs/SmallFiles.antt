@@ -1,10 +1,14 @@
--- Small files, and what they say.
+-- A small file and what it says, and a small text with a fault.
 use Rattle.std.proofs.Common.{ℕ, false, List, [], ◌∷◌, ◌++◌, codes, refl}
 use Rattle.std.specs.Prelude.{None}
 use Rattle.mrpc_table.specs.declared.words.Decimal.TheVariants.{Small}
 use Rattle.proto_schema.specs.Lexemes.{Meaning, Lexeme, identifier, integer, string, mark, the_end, word_at, number_at}
 use Rattle.proto_schema.specs.Grammar
 use Rattle.proto_schema.specs.Files
+use Rattle.proto_schema.specs.Files.{nothing_said}
+use Rattle.proto_schema.specs.Faults
+use Rattle.proto_schema.specs.Faults.{IsNamed}
+use Rattle.proto_schema.specs.declared.fault.ProtoReason.TheVariants as reasons
 use Rattle.proto_schema.specs.declared.file.Span.{Span}
 use Rattle.proto_schema.specs.declared.file.FieldLabel.TheVariants.{Plain}
 use Rattle.proto_schema.specs.declared.file.FieldType.TheVariants.{Named}
@@ -55,3 +59,9 @@ small_file =
     (Files.field_end (at 8 (identifier (codes "a"))) (at 9 (mark 61)) (at 11 (mark 59)) (codes "a") refl refl (Grammar.whole (at 10 (integer (Small 1))) (Small 1) refl) Grammar.no_options refl refl) refl) refl)
     (Files.close (at 12 (mark 125)) refl refl (Files.message_ends 0 [] refl refl)) refl)
     (refl, refl) refl refl
+
+-- syntax = "proto3"; import x
+pub small_import : IsNamed (header ++ at 4 (identifier (codes "import")) ∷ at 5 (identifier (codes "x")) ∷ []) 5 reasons.Import
+small_import =
+    Faults.import 4 (at 4 (identifier (codes "import"))) (at 5 (identifier (codes "x"))) nothing_said refl (Files.start (Files.proto3 _ _ _ _ refl refl refl refl))
+    (refl, refl) refl refl refl refl refl

@@ -1,12 +1,16 @@
 -- What reading answers of a text, in the words of the grammar.
-use Rattle.std.proofs.Common.{◌≡◌, ℕ, true, List, refl, sym, ◌∙◌}
-use Rattle.std.specs.Prelude.{Ok, Err, Result, IfOk, MatchResult}
+use Rattle.std.proofs.Common.{subst, ◌≡◌, ℕ, true, List, refl, sym, ◌∙◌}
+use Rattle.std.specs.Prelude.{Ok, Err, Result, IfOk, IfErr, MatchResult}
 use Rattle.proto_tokens.specs.Tokens.{AreTokens}
 use Rattle.proto_tokens.specs.declared.token.Token.{Token}
 use Rattle.proto_schema.specs.Lexemes.{lexemes}
-use Rattle.proto_schema.specs.Faults.{IsTextOf}
+use Rattle.proto_schema.specs.Faults.{IsTextOf, HasFault, IsFaultOf}
 use Rattle.proto_schema.specs.Running.{read, failed, Comes, reading}
+use Rattle.proto_schema.specs.Reading.{fault_at}
 use Rattle.proto_schema.proofs.Shallow.{text_of, read_of}
+use Rattle.proto_schema.proofs.FirstFaults.{failed_first}
+use Rattle.proto_schema.specs.declared.file.Span.{Span}
+use Rattle.proto_schema.specs.declared.fault.ProtoReason.{ProtoReason}
 use Rattle.proto_schema.specs.declared.file.File.{File}
 use Rattle.proto_schema.specs.declared.fault.ProtoFault.{ProtoFault}
 use Rattle.proto_schema.specs.declared.fault.ProtoFault.TheVariants as fault
@@ -14,6 +18,28 @@ use Rattle.proto_schema.specs.declared.fault.ProtoFault.TheVariants as fault
 -- what comes of the tokens of a text
 abbrev pub ComesOf : List ℕ → Result File ProtoFault → Type 0
 ComesOf text r = (ts : List Token) → AreTokens text 0 ts → Comes r (reading true (lexemes text ts))
+
+fault_of : (text : List ℕ) (q : ProtoReason) (start end line : ℕ) (r : ProtoReason) (s : Span) → HasFault text r s
+    → fault_at r s ≡ fault.At q start end line → HasFault text q (record { start = start; end = end; line = line })
+fault_of text q start end line r s f p =
+    let a : r ≡ q = (cc) in
+    let b : s.start ≡ start = (cc) in
+    let c : s.end ≡ end = (cc) in
+    let d : s.line ≡ line = (cc) in
+    subst (λ (r : ProtoReason). HasFault text r (record { start = start; end = end; line = line })) a
+    (subst (λ (n : ℕ). HasFault text r (record { start = n; end = end; line = line })) b
+    (subst (λ (n : ℕ). HasFault text r (record { start = s.start; end = n; line = line })) c
+    (subst (λ (n : ℕ). HasFault text r (record { start = s.start; end = s.end; line = n })) d f)))
+
+pub answer_is_fault : (text : List ℕ) (r : Result File ProtoFault) → (ts : List Token) × AreTokens text 0 ts
+    → ComesOf text r → IfErr r (λ e. IsFaultOf text e)
+answer_is_fault text (Ok f) l h = tt
+answer_is_fault text (Err fault.Memory) l h = tt
+answer_is_fault text (Err (fault.At q start end line)) (ts, a) h = by (failed_first text ts (fault.At q start end line) a (h ts a))
+  where
+    by : (r : ProtoReason) × (s : Span) × HasFault text r s × (fault_at r s ≡ fault.At q start end line)
+        → HasFault text q (record { start = start; end = end; line = line })
+    by (r, s, f, p) = fault_of text q start end line r s f p
 
 pub answer_reads : (text : List ℕ) (r : Result File ProtoFault) → (ts : List Token) × AreTokens text 0 ts
     → ComesOf text r → IfOk r (λ f. IsTextOf text f)

@@ -1,14 +1,34 @@
 //! Laws of proto files. These functions do nothing; their clauses hold.
 
-ghost use Rattle.std.specs.Prelude.{◌≡◌, ℕ, List};
-ghost use Rattle.proto_schema.specs.Faults.{IsTextOf};
+ghost use Rattle.std.specs.Prelude.{◌≡◌, ◌⊎◌, ℕ, List};
+ghost use Rattle.proto_schema.specs.Faults.{IsTextOf, HasFault};
 ghost use Rattle.proto_schema.specs.declared.file.File.{File};
+ghost use Rattle.proto_schema.specs.declared.file.Span.{Span};
+ghost use Rattle.proto_schema.specs.declared.fault.ProtoReason.{ProtoReason};
 
 use proto_tokens::one_list;
 
 /// A text reads as one file at most.
 pub fn one_file()
     ensures { (text : List ℕ) (f g : File) → IsTextOf text f → IsTextOf text g → f ≡ g }
+{
+    one_list();
+}
+
+/// A text has one first fault at most.
+pub fn one_fault()
+    ensures { (text : List ℕ) (q r : ProtoReason) (s t : Span) → HasFault text q s → HasFault text r t
+        → (q ≡ r) × (s ≡ t) }
+{
+    one_list();
+}
+
+/// A text reads as a file or has a first fault, and never both.
+pub fn file_or_fault()
+    ensures either { (text : List ℕ)
+        → ((f : File) × IsTextOf text f) ⊎ ((q : ProtoReason) × (s : Span) × HasFault text q s) }
+    ensures not_both { (text : List ℕ) (f : File) (q : ProtoReason) (s : Span)
+        → IsTextOf text f → HasFault text q s → ⊥ }
 {
     one_list();
 }

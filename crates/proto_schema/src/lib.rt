@@ -1,11 +1,12 @@
 //! Proto files (Protocol Buffers, proto3 language specification), in this project's profile.
 //!
 //! [`read_proto`] reads a text, token by token. `specs/Grammar.antt` says which tokens are which part of a statement,
-//! and `specs/Files.antt` what a text of statements says. It stands on `proto_tokens`, which says what the tokens of a
-//! text are, and on `mrpc_table`. The layer above uses the contract of [`read_proto`]: a file that it answers is what
-//! the text reads as (`reads`), and a text that reads as a file is answered by that file, unless memory runs out
-//! (`only`). A text reads as one file at most ([`one_file`]). A fault is the one that comes of the tokens, read one
-//! after another as `specs/Reading.antt` and `specs/Running.antt` say (`faults`).
+//! `specs/Files.antt` what a text of statements says, and `specs/Faults.antt` which token of a text that is none is at
+//! fault first, and why. It stands on `proto_tokens`, which says what the tokens of a text are, and on `mrpc_table`. The
+//! layer above uses the contract of [`read_proto`]: a file that it answers is what the text reads as (`reads`), a text
+//! that reads as a file is answered by that file, unless memory runs out (`only`), and a fault that it answers is the
+//! text's first one (`fault`). A text reads as one file at most ([`one_file`]) and has one first fault at most
+//! ([`one_fault`]), one of both and never both ([`file_or_fault`]).
 #![tactic(auto)]
 
 mod draft;
@@ -29,7 +30,7 @@ pub use file::{
     MessageDecl, MessageDecls, Number, Range, Ranges, RpcDecl, RpcDecls, ServiceDecl, ServiceDecls,
     Span, ValueDecl, ValueDecls, Word, Words,
 };
-pub use laws::one_file;
+pub use laws::{file_or_fault, one_fault, one_file};
 pub use read::read_proto;
 
 #[cfg(test)]

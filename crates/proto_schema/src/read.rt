@@ -1,6 +1,6 @@
 //! Proto files from their text.
 
-ghost use Rattle.std.specs.Prelude.{◌≡◌, ◌↔◌, ◌<◌, ◌≤◌, ◌^◌, ◌+◌, IsTrue, ℕ, List, IfOk, MatchResult, length, codes, true, false};
+ghost use Rattle.std.specs.Prelude.{◌≡◌, ◌↔◌, ◌<◌, ◌≤◌, ◌^◌, ◌+◌, IsTrue, ℕ, List, IfOk, IfErr, MatchResult, length, codes, true, false};
 ghost use Rattle.std.specs.Str.{bytes_eq};
 ghost use Rattle.proto_tokens.specs.Strings.{string_value as value_of};
 ghost use Rattle.proto_tokens.specs.Tokens.{IsNext, AreTokens, line_at, is_last, literal_of};
@@ -8,7 +8,7 @@ ghost use Rattle.proto_tokens.specs.declared.token.Token.{Token};
 ghost use Rattle.proto_tokens.specs.declared.token.Kind.TheVariants as kinds;
 ghost use Rattle.proto_schema.specs.Lexemes.{lexeme, lexemes};
 ghost use Rattle.proto_schema.specs.Files.{nothing_said};
-ghost use Rattle.proto_schema.specs.Faults.{IsTextOf, is_no_token};
+ghost use Rattle.proto_schema.specs.Faults.{IsTextOf, IsFaultOf, is_no_token};
 ghost use Rattle.proto_schema.specs.declared.file.File.{File};
 ghost use Rattle.proto_schema.specs.declared.fault.ProtoFault.TheVariants as faults;
 ghost use Rattle.proto_schema.specs.Reading.{Lies};
@@ -179,9 +179,12 @@ fn read_tokens(alloc: Global, text: &[u8]) -> Result<File, ProtoFault>
 /// The file that a text reads as, or its first fault. It takes time in proportion to the text.
 pub fn read_proto(alloc: Global, text: &[u8]) -> Result<File, ProtoFault>
     requires small { length text.now < 2 ^ 62 }
+    // A file is what the text reads as.
     ensures reads { IfOk result (λ f. IsTextOf text.now f) }
+    // A text that reads as a file gives this file, unless memory runs out.
     ensures only { (f : File) → IsTextOf text.now f → MatchResult result (λ g. g ≡ f) (λ e. e ≡ faults.Memory) }
-    ensures faults { (ts : List Token) → AreTokens text.now 0 ts → Comes result (reading true (lexemes text.now ts)) }
+    // A fault is the first one of the text.
+    ensures fault { IfErr result (λ e. IsFaultOf text.now e) }
 {
     one_list();
     read_tokens(alloc, text)

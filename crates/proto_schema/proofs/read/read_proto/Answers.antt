@@ -1,4 +1,4 @@
-use Rattle.proto_schema.proofs.Texts.{answer_reads, answer_is_file}
+use Rattle.proto_schema.proofs.Texts.{answer_reads, answer_is_file, answer_is_fault}
 use Rattle.proto_schema.proofs.read.read_proto.Goals as goal
 
 pub returns-clause-reads : goal.returns-clause-reads
@@ -6,3 +6,6 @@ returns-clause-reads c = answer_reads c.args.text.now c.read_tokens.result (c.on
 
 pub returns-clause-only : goal.returns-clause-only
 returns-clause-only c = λ f h. answer_is_file c.args.text.now c.read_tokens.result f c.read_tokens.ensures h
+
+pub returns-clause-fault : goal.returns-clause-fault
+returns-clause-fault c = answer_is_fault c.args.text.now c.read_tokens.result (c.one_list.ensures.some c.args.text.now) c.read_tokens.ensures

@@ -1,0 +1,492 @@
+-- Where a reason has a name, the reading is at a fault there for this reason, or earlier.
+use Rattle.std.proofs.Common.{subst, ◌≡◌, ◌≢◌, ◌⊎◌, inl, inr, ℕ, zero, suc, ◌+◌, ◌<◌, ◌≤◌, length, length-append, take, Bool, true, false, List, [], ◌∷◌, ◌++◌, codes, refl, ap, sym, ◌∙◌, add-one, arith}
+use Rattle.std.specs.Prelude.{Err, Result, Option, Some, None, is_some, ◌||◌, slice_get}
+use Rattle.std.specs.Str.{bytes_eq}
+use Rattle.std.proofs.lemmas.Bool.{and_right, false_from_ne_true}
+use Rattle.std.proofs.Math.Nat.{eq-or-lt_of_le}
+use Rattle.std.proofs.lemmas.List.{append_assoc}
+use Rattle.proto_schema.specs.Lexemes.{Meaning, identifier, integer, number, string, mark, the_end, none, Lexeme, word_at, IsWord, IsMark, says, says_one_of, less, comma}
+use Rattle.proto_schema.specs.Grammar.{map_key}
+use Rattle.proto_schema.specs.Files.{Draft, no_block, a_oneof, a_service, InMessage, InBody, Says, LabelOf, plain, optional, repeated}
+use Rattle.proto_schema.specs.Faults
+use Rattle.proto_schema.specs.Faults.{is_no_token, is_path, is_type_part, IsNamed, BeforeRpcType, BeforeMapPart, BeforeType}
+use Rattle.proto_schema.specs.Reading.{fault_at, map_step, of_map, field_step, rpc_step}
+use Rattle.proto_schema.specs.Running.{place_of, place_with, statement_step, import_step, field_begins, of_field, failed, is_end, is_over, behind, run, reading}
+use Rattle.proto_schema.proofs.Choices.{word_is, same_bytes}
+use Rattle.proto_schema.proofs.NameLemmas.{Walks, stay, go, walks_on, walks_in}
+use Rattle.proto_schema.proofs.Next.{run_step}
+use Rattle.proto_schema.proofs.FieldReads.{TypedGoes, first_goes, typed_reads, MapGoes, in_key, key_comma, in_value, in_inner_value, value_map, inner_value_map, inner_key_reads, outer_key_reads, FieldGoes, in_type, in_map, map_begins}
+use Rattle.proto_schema.proofs.RpcReads.{RpcGoes, RpcTypeGoes, quiet, in_input, input_ends, in_output, start_goes, named_goes, returns_goes, open_goes, rpc_type_reads}
+use Rattle.proto_schema.proofs.RunReads.{StepGoes, in_file, in_message, in_block, import_word, optional_word, repeated_word, rpc_word, in_field, in_rpc, by_word, message_leads, oneof_leads, map_no_statement, map_no_member, run_goes}
+use Rattle.proto_schema.proofs.Shallow.{SaysWell, says_well, says_deep, deep, says_well_or, drop_behind, get_behind}
+use Rattle.proto_schema.specs.declared.file.Span.{Span}
+use Rattle.proto_schema.specs.declared.file.Word.{Word}
+use Rattle.proto_schema.specs.declared.file.FieldLabel.{FieldLabel}
+use Rattle.proto_schema.specs.declared.file.FieldLabel.TheVariants as labels
+use Rattle.proto_schema.specs.declared.fault.ProtoReason.{ProtoReason}
+use Rattle.proto_schema.specs.declared.fault.ProtoReason.TheVariants as reasons
+use Rattle.proto_schema.specs.declared.fault.ProtoFault.{ProtoFault}
+use Rattle.proto_schema.specs.declared.name.NameState.TheVariants as names
+use Rattle.proto_schema.specs.declared.field.MapState.{MapState}
+use Rattle.proto_schema.specs.declared.field.MapState.TheVariants as maps
+use Rattle.proto_schema.specs.declared.field.MapStep.{MapStep}
+use Rattle.proto_schema.specs.declared.field.FieldState.TheVariants as fields
+use Rattle.proto_schema.specs.declared.rpc.RpcState.TheVariants as rpcs
+use Rattle.proto_schema.specs.declared.statement.Place.{Place}
+use Rattle.proto_schema.specs.declared.statement.Place.TheVariants as places
+use Rattle.proto_schema.specs.declared.statement.State.{State}
+use Rattle.proto_schema.specs.declared.statement.State.TheVariants as states
+use Rattle.proto_schema.specs.declared.statement.Step.{Step}
+
+-- ---- what the reading says
+
+-- the reading is at a fault at this token for this reason, or at an earlier one
+pub data Reports (ts : List Lexeme) (k : ℕ) (q : ProtoReason) : Type 0 where
+  here : (x : Lexeme) → slice_get ts k ≡ Some x → reading true ts ≡ failed (fault_at q x.span) → Reports ts k q
+  earlier : (i : ℕ) (x : Lexeme) (r : ProtoReason) → i < k → slice_get ts i ≡ Some x
+      → reading true ts ≡ failed (fault_at r x.span) → Reports ts k q
+
+-- behind statements, where what comes of the tokens behind them is a fault at this token
+behind_says : {us : List Lexeme} {d : Draft} (ts tail : List Lexeme) (k : ℕ) (q : ProtoReason) (x : Lexeme) → Says us d
+    → ts ≡ us ++ tail → length us ≤ k → slice_get ts k ≡ Some x
+    → run true d states.Begin tail ≡ failed (fault_at q x.span) → Reports ts k q
+behind_says {us = us} {d = d} ts tail k q x s a l g f = by (says_well_or tail s)
+  where
+    by : SaysWell us d tail → Reports ts k q
+    by (says_well r m) = here x g (ap (reading true) a ∙ (r ∙ f))
+    by (says_deep (deep i z n h w e)) = earlier i z reasons.Nesting (omega arith) (subst (λ (l : List Lexeme). slice_get l i ≡ Some z) (sym a) w) (ap (reading true) a ∙ e)
+
+-- ---- places in a list
+
+-- the list from a place on
+pub split_at : (ts : List Lexeme) (k : ℕ) (x : Lexeme) → slice_get ts k ≡ Some x
+    → (rest : List Lexeme) × (ts ≡ take k ts ++ x ∷ rest)
+split_at [] zero x h = absurd (let t : ◌≡◌ {A = Option Lexeme} None (Some x) = h in cc)
+split_at [] (suc k) x h = absurd (let t : ◌≡◌ {A = Option Lexeme} None (Some x) = h in cc)
+split_at (t ∷ ts) zero x h = (ts, let q : ◌≡◌ {A = Option Lexeme} (Some t) (Some x) = h in let r : t ∷ ts ≡ x ∷ ts = (cc) in r)
+split_at (t ∷ ts) (suc k) x h = let r : (rest : List Lexeme) × (ts ≡ take k ts ++ x ∷ rest) = split_at ts k x h in (r.0, ap (λ (l : List Lexeme). t ∷ l) r.1)
+
+split_two : (ts : List Lexeme) (k : ℕ) (x y : Lexeme) → slice_get ts k ≡ Some x → slice_get ts (suc k) ≡ Some y
+    → (rest : List Lexeme) × (ts ≡ take k ts ++ x ∷ y ∷ rest)
+split_two [] zero x y h g = absurd (let t : ◌≡◌ {A = Option Lexeme} None (Some x) = h in cc)
+split_two [] (suc k) x y h g = absurd (let t : ◌≡◌ {A = Option Lexeme} None (Some x) = h in cc)
+split_two (t ∷ []) zero x y h g = absurd (let t : ◌≡◌ {A = Option Lexeme} None (Some y) = g in cc)
+split_two (t ∷ u ∷ ts) zero x y h g =
+    (ts, let q : ◌≡◌ {A = Option Lexeme} (Some t) (Some x) = h in let p : ◌≡◌ {A = Option Lexeme} (Some u) (Some y) = g in let r : t ∷ u ∷ ts ≡ x ∷ y ∷ ts = (cc) in r)
+split_two (t ∷ ts) (suc k) x y h g = let r : (rest : List Lexeme) × (ts ≡ take k ts ++ x ∷ y ∷ rest) = split_two ts k x y h g in (r.0, ap (λ (l : List Lexeme). t ∷ l) r.1)
+
+pub take_at_most : (k : ℕ) (ts : List Lexeme) → length (take k ts) ≤ k
+take_at_most zero ts = omega arith
+take_at_most (suc k) [] = omega arith
+take_at_most (suc k) (t ∷ ts) = let h : length (take k ts) ≤ k = take_at_most k ts in omega arith
+
+-- ---- steps, and then a fault
+
+over_not : (d : Draft) (s : State) (x : Lexeme) → is_end x.means ≡ false → is_over d s x ≡ false
+over_not d s x h = rw h refl
+
+word_goes_on : (d : Draft) (s : State) (x : Lexeme) (n : List ℕ) → IsWord x n → is_over d s x ≡ false
+word_goes_on d s x n h = over_not d s x (rw h refl)
+
+walks_run : (d : Draft) {s t : State} {ys : List Lexeme} (zs : List Lexeme) → Walks (StepGoes (place_of d)) s ys t
+    → run true d s (ys ++ zs) ≡ run true d t zs
+walks_run d {s = s} zs (stay e q) = ap (λ (l : List Lexeme). run true d s (l ++ zs)) e ∙ ap (λ (t : State). run true d t zs) q
+walks_run d {s = s} zs (go {t = t} x xs e h w) = ap (λ (l : List Lexeme). run true d s (l ++ zs)) e ∙ (run_goes true d s t x (xs ++ zs) h ∙ walks_run d zs w)
+
+fails_at : (d : Draft) (s : State) (x : Lexeme) (xs : List Lexeme) (e : ProtoFault) → is_over d s x ≡ false
+    → statement_step (place_of d) s x ≡ Err e → run true d s (x ∷ xs) ≡ failed e
+fails_at d s x xs e o h = run_step true d s x xs o ∙ ap (λ (r : Result Step ProtoFault). behind (λ c t. run true c t xs) true d x r) h
+
+-- ---- `extend`
+
+extend_step : (d : Draft) (x : Lexeme) (n : List ℕ) → InBody d → IsWord x n
+    → (n ≡ codes "extend") ⊎ (n ≡ codes "extensions")
+    → statement_step (place_of d) states.Begin x ≡ Err (fault_at reasons.Extend x.span)
+unfolding statement_step
+extend_step d x n b h w = subst (λ (p : Place). statement_step p states.Begin x ≡ Err (fault_at reasons.Extend x.span)) (sym (in_block d no_block b)) (by d.messages w)
+  where
+    by : (ms : List ℕ) → (n ≡ codes "extend") ⊎ (n ≡ codes "extensions")
+        → statement_step (place_with no_block ms d.file.package) states.Begin x ≡ Err (fault_at reasons.Extend x.span)
+    by [] (inl e) = rw (h, e) refl
+    by [] (inr e) = rw (h, e) refl
+    by (i ∷ is) (inl e) = rw (h, e) refl
+    by (i ∷ is) (inr e) = rw (h, e) refl
+
+pub extend_word : (x : Lexeme) → says_one_of x (codes "extend" ∷ codes "extensions" ∷ []) ≡ true
+    → (n : List ℕ) × IsWord x n × ((n ≡ codes "extend") ⊎ (n ≡ codes "extensions"))
+extend_word x h = by (says x.means (codes "extend")) (says x.means (codes "extensions")) refl refl h
+  where
+    by : (a b : Bool) → says x.means (codes "extend") ≡ a → says x.means (codes "extensions") ≡ b
+        → (a || (b || false)) ≡ true → (n : List ℕ) × IsWord x n × ((n ≡ codes "extend") ⊎ (n ≡ codes "extensions"))
+    by true b p q h = (codes "extend", word_is x.means (codes "extend") p, inl refl)
+    by false true p q h = (codes "extensions", word_is x.means (codes "extensions") q, inr refl)
+    by false false p q h = absurd (let t : false ≡ true = h in cc)
+
+-- ---- `import`
+
+import_fails : (p : Place) (x : Lexeme) → is_no_token x.means ≡ false → is_path x.means ≡ false
+    → statement_step p (states.Import false) x ≡ Err (fault_at reasons.Import x.span)
+unfolding statement_step
+import_fails p x n h = by x.means n h
+  where
+    by : (m : Meaning) → is_no_token m ≡ false → is_path m ≡ false
+        → import_step false x m ≡ Err (fault_at reasons.Import x.span)
+    by (identifier w) n h = rw h refl
+    by (integer v) n h = refl
+    by number n h = refl
+    by (string v) n h = absurd (let t : true ≡ false = h in cc)
+    by (mark c) n h = rw n refl
+    by the_end n h = absurd (let t : true ≡ false = h in cc)
+    by none n h = absurd (let t : true ≡ false = n in cc)
+
+path_goes_on : (d : Draft) (x : Lexeme) → is_over d (states.Import false) x ≡ false
+path_goes_on d x = and_right (is_end x.means) false refl
+
+-- ---- where the type of an rpc begins
+
+pub data RpcAt (ys : List Lexeme) : Type 0 where
+  at_input : (name : Word) → Walks (StepGoes places.Service) states.Begin ys (states.Rpc (rpcs.Input name names.Start))
+      → RpcAt ys
+  at_output : (name input : Word)
+      → Walks (StepGoes places.Service) states.Begin ys (states.Rpc (rpcs.Output name input names.Start)) → RpcAt ys
+
+rpc_at : {d : Draft} {ys : List Lexeme} → BeforeRpcType d ys → RpcAt ys
+rpc_at (Faults.input a b c n k ha hb hc e) =
+    let name : Word = word_at n b.span in
+    at_input name (go a (b ∷ c ∷ []) e (rpc_word a ha) (walks_in RpcGoes (StepGoes places.Service) (λ s. states.Rpc s) (in_rpc places.Service)
+    (go b (c ∷ []) refl (start_goes b n hb) (go c [] refl (named_goes name c hc) (stay refl refl)))))
+rpc_at (Faults.output a b c e f g n {is = is} {w = w} k ha hb hc t he hf hg q) =
+    let name : Word = word_at n b.span in
+    let ends : Walks RpcGoes (rpcs.Input name names.Start) (is ++ e ∷ f ∷ g ∷ []) (rpcs.Output name w names.Start) =
+    walks_on RpcGoes (walks_in RpcTypeGoes RpcGoes (λ s. rpcs.Input name s) (in_input name) (rpc_type_reads t))
+    (go e (f ∷ g ∷ []) refl (input_ends name w e he) (go f (g ∷ []) refl (returns_goes name w f hf) (go g [] refl (open_goes name w g hg) (stay refl refl)))) in
+    at_output name w (go a (b ∷ c ∷ (is ++ e ∷ f ∷ g ∷ [])) q (rpc_word a ha) (walks_in RpcGoes (StepGoes places.Service) (λ s. states.Rpc s) (in_rpc places.Service)
+    (go b (c ∷ (is ++ e ∷ f ∷ g ∷ [])) refl (start_goes b n hb) (go c (is ++ e ∷ f ∷ g ∷ []) refl (named_goes name c hc) ends))))
+
+in_service : {d : Draft} {ys : List Lexeme} → BeforeRpcType d ys → place_of d ≡ places.Service
+in_service {d = d} (Faults.input a b c n k ha hb hc e) = in_block d a_service k
+in_service {d = d} (Faults.output a b c e f g n k ha hb hc t he hf hg q) = in_block d a_service k
+
+input_group : (name : Word) (x : Lexeme) → IsWord x (codes "group")
+    → statement_step places.Service (states.Rpc (rpcs.Input name names.Start)) x ≡ Err (fault_at reasons.Group x.span)
+unfolding statement_step rpc_step
+input_group name x h = rw h refl
+
+output_group : (name input : Word) (x : Lexeme) → IsWord x (codes "group")
+    → statement_step places.Service (states.Rpc (rpcs.Output name input names.Start)) x ≡ Err (fault_at reasons.Group x.span)
+unfolding statement_step rpc_step
+output_group name input x h = rw h refl
+
+stream_first : (x : Lexeme) → IsWord x (codes "stream")
+    → RpcTypeGoes names.Start x (names.Part (word_at (codes "stream") x.span))
+stream_first x h = quiet names.Start (names.Part (word_at (codes "stream") x.span)) x refl (first_goes x (codes "stream") h (rw h refl))
+
+input_stream : (name : Word) (s : Span) (y : Lexeme) → is_type_part y.means ≡ true
+    → statement_step places.Service (states.Rpc (rpcs.Input name (names.Part (word_at (codes "stream") s)))) y ≡ Err (fault_at reasons.Stream s)
+unfolding statement_step rpc_step
+input_stream name s y h = rw h refl
+
+output_stream : (name input : Word) (s : Span) (y : Lexeme) → is_type_part y.means ≡ true
+    → statement_step places.Service (states.Rpc (rpcs.Output name input (names.Part (word_at (codes "stream") s)))) y ≡ Err (fault_at reasons.Stream s)
+unfolding statement_step rpc_step
+output_stream name input s y h = rw h refl
+
+part_no_end : (m : Meaning) → is_type_part m ≡ true → is_end m ≡ false
+part_no_end (identifier n) h = refl
+part_no_end (integer v) h = refl
+part_no_end number h = refl
+part_no_end (string v) h = refl
+part_no_end (mark c) h = refl
+part_no_end none h = refl
+part_no_end the_end h = sym h
+
+at_service : (d : Draft) {s t : State} {ys : List Lexeme} → place_of d ≡ places.Service
+    → Walks (StepGoes places.Service) s ys t → Walks (StepGoes (place_of d)) s ys t
+at_service d {s = s} {t = t} {ys = ys} e w = subst (λ (p : Place). Walks (StepGoes p) s ys t) (sym e) w
+
+service_fails : (d : Draft) (s : State) (x : Lexeme) (e : ProtoFault) → place_of d ≡ places.Service
+    → statement_step places.Service s x ≡ Err e → statement_step (place_of d) s x ≡ Err e
+service_fails d s x e p h = ap (λ (p : Place). statement_step p s x) p ∙ h
+
+rpc_group : {d : Draft} {ys : List Lexeme} (x : Lexeme) (zs : List Lexeme) → BeforeRpcType d ys
+    → IsWord x (codes "group") → run true d states.Begin (ys ++ x ∷ zs) ≡ failed (fault_at reasons.Group x.span)
+rpc_group {d = d} {ys = ys} x zs b h = by (rpc_at b)
+  where
+    p : place_of d ≡ places.Service
+    p = in_service b
+
+    e : ProtoFault
+    e = fault_at reasons.Group x.span
+
+    by : RpcAt ys → run true d states.Begin (ys ++ x ∷ zs) ≡ failed (fault_at reasons.Group x.span)
+    by (at_input name w) =
+        let s : State = states.Rpc (rpcs.Input name names.Start) in
+        walks_run d (x ∷ zs) (at_service d p w) ∙ fails_at d s x zs (fault_at reasons.Group x.span) (word_goes_on d s x (codes "group") h) (service_fails d s x (fault_at reasons.Group x.span) p (input_group name x h))
+    by (at_output name input w) =
+        let s : State = states.Rpc (rpcs.Output name input names.Start) in
+        walks_run d (x ∷ zs) (at_service d p w) ∙ fails_at d s x zs (fault_at reasons.Group x.span) (word_goes_on d s x (codes "group") h) (service_fails d s x (fault_at reasons.Group x.span) p (output_group name input x h))
+
+rpc_stream : {d : Draft} {ys : List Lexeme} (x y : Lexeme) (zs : List Lexeme) → BeforeRpcType d ys
+    → IsWord x (codes "stream") → is_type_part y.means ≡ true
+    → run true d states.Begin (ys ++ x ∷ y ∷ zs) ≡ failed (fault_at reasons.Stream x.span)
+rpc_stream {d = d} {ys = ys} x y zs b h t = by (rpc_at b)
+  where
+    p : place_of d ≡ places.Service
+    p = in_service b
+
+    by : RpcAt ys → run true d states.Begin (ys ++ x ∷ y ∷ zs) ≡ failed (fault_at reasons.Stream x.span)
+    by (at_input name w) =
+        let u : State = states.Rpc (rpcs.Input name (names.Part (word_at (codes "stream") x.span))) in
+        let g : StepGoes places.Service (states.Rpc (rpcs.Input name names.Start)) x u = in_rpc places.Service (rpcs.Input name names.Start) (rpcs.Input name (names.Part (word_at (codes "stream") x.span))) x
+        (in_input name names.Start (names.Part (word_at (codes "stream") x.span)) x (stream_first x h)) in
+        walks_run d (x ∷ y ∷ zs) (at_service d p w)
+        ∙ (walks_run d (y ∷ zs) (at_service d p (go x [] refl g (stay refl refl)))
+        ∙ fails_at d u y zs (fault_at reasons.Stream x.span) (over_not d u y (part_no_end y.means t)) (service_fails d u y (fault_at reasons.Stream x.span) p (input_stream name x.span y t)))
+    by (at_output name input w) =
+        let u : State = states.Rpc (rpcs.Output name input (names.Part (word_at (codes "stream") x.span))) in
+        let g : StepGoes places.Service (states.Rpc (rpcs.Output name input names.Start)) x u =
+        in_rpc places.Service (rpcs.Output name input names.Start) (rpcs.Output name input (names.Part (word_at (codes "stream") x.span))) x
+        (in_output name input names.Start (names.Part (word_at (codes "stream") x.span)) x (stream_first x h)) in
+        walks_run d (x ∷ y ∷ zs) (at_service d p w)
+        ∙ (walks_run d (y ∷ zs) (at_service d p (go x [] refl g (stay refl refl)))
+        ∙ fails_at d u y zs (fault_at reasons.Stream x.span) (over_not d u y (part_no_end y.means t)) (service_fails d u y (fault_at reasons.Stream x.span) p (output_stream name input x.span y t)))
+
+-- ---- where a part of a map begins
+
+-- a name begins here
+pub data MapAt : MapState → Type 0 where
+  at_key : MapAt (maps.Key names.Start)
+  at_value : (k : Word) → MapAt (maps.Value k names.Start)
+  at_inner_key : (d : ℕ) → MapAt (maps.InnerKey d names.Start)
+  at_inner_value : (d : ℕ) → MapAt (maps.InnerValue d names.Start)
+
+map_group : {s : MapState} (x : Lexeme) → MapAt s → IsWord x (codes "group")
+    → map_step s x ≡ Err (fault_at reasons.Group x.span)
+unfolding map_step
+map_group x at_key h = rw h refl
+map_group x (at_value k) h = rw h refl
+map_group x (at_inner_key d) h = rw h refl
+map_group x (at_inner_value d) h = rw h refl
+
+abbrev PartFrom : MapState → List Lexeme → Type 0
+PartFrom s ms = (t : MapState) × Walks MapGoes s ms t × MapAt t
+
+inner_part : (d : ℕ) {ms : List Lexeme} → BeforeMapPart ms → PartFrom (maps.InnerValue d names.Start) ms
+inner_part d (Faults.key x y hx hy) = (
+  maps.InnerKey (d + 1) names.Start,
+  go x (y ∷ []) refl (in_inner_value d names.Start (names.Part (word_at (codes "map") x.span)) x (first_goes x (codes "map") hx (rw hx refl)))
+      (go y [] refl (inner_value_map d x.span y hy) (stay refl refl)),
+  at_inner_key (d + 1),
+)
+inner_part d (Faults.value k) = (maps.InnerValue (suc d) names.Start, inner_key_reads d k, at_inner_value (suc d))
+inner_part d (Faults.inner {ks = ks} {ys = ys} k b e) =
+    let r : PartFrom (maps.InnerValue (suc d) names.Start) ys = inner_part (suc d) b in
+    (r.0, rw e (walks_on MapGoes (inner_key_reads d k) r.1), r.2)
+
+value_part : (k0 : Word) {ms : List Lexeme} → BeforeMapPart ms → PartFrom (maps.Value k0 names.Start) ms
+value_part k0 (Faults.key x y hx hy) = (
+  maps.InnerKey 1 names.Start,
+  go x (y ∷ []) refl (in_value k0 names.Start (names.Part (word_at (codes "map") x.span)) x (first_goes x (codes "map") hx (rw hx refl)))
+      (go y [] refl (value_map k0 x.span y hy) (stay refl refl)),
+  at_inner_key 1,
+)
+value_part k0 (Faults.value k) = (maps.InnerValue 1 names.Start, outer_key_reads k0 k, at_inner_value 1)
+value_part k0 (Faults.inner {ks = ks} {ys = ys} k b e) =
+    let r : PartFrom (maps.InnerValue 1 names.Start) ys = inner_part 1 b in
+    (r.0, rw e (walks_on MapGoes (outer_key_reads k0 k) r.1), r.2)
+
+-- `map`, `<`, and a part of the map
+data MapFrom (ms : List Lexeme) : Type 0 where
+  map_from : (m l : Lexeme) (rest : List Lexeme) → IsWord m (codes "map") → IsMark l less → ms ≡ m ∷ l ∷ rest
+      → PartFrom (maps.Key names.Start) rest → MapFrom ms
+
+key_walks : {ys : List Lexeme} {w : Word} (z : Lexeme) → Walks TypedGoes names.Start ys (names.Part w)
+    → IsMark z comma → Walks MapGoes (maps.Key names.Start) (ys ++ z ∷ []) (maps.Value w names.Start)
+key_walks {w = w} z t h = walks_on MapGoes (walks_in TypedGoes MapGoes (λ s. maps.Key s) in_key t) (go z [] refl (key_comma w z h) (stay refl refl))
+
+part_from : {ms : List Lexeme} → BeforeMapPart ms → MapFrom ms
+part_from (Faults.key x y hx hy) = map_from x y [] hx hy refl (maps.Key names.Start, stay refl refl, at_key)
+part_from (Faults.value (map_key x y z {ys = ys} {w = w} hx hy t g hz e)) =
+    map_from x y (ys ++ z ∷ []) hx hy e (maps.Value w names.Start, key_walks z (typed_reads t g) hz, at_value w)
+part_from (Faults.inner {ys = bs} (map_key x y z {ys = ys} {w = w} hx hy t g hz a) b e) =
+    let r : PartFrom (maps.Value w names.Start) bs = value_part w b in
+    map_from x y ((ys ++ z ∷ []) ++ bs) hx hy (e ∙ ap (λ (l : List Lexeme). l ++ bs) a) (r.0, walks_on MapGoes (key_walks z (typed_reads t g) hz) r.1, r.2)
+
+-- ---- where a field's type begins
+
+field_group : (p : Place) (label : FieldLabel) (x : Lexeme) → IsWord x (codes "group")
+    → statement_step p (states.Field (fields.Type label names.Start)) x ≡ Err (fault_at reasons.Group x.span)
+unfolding statement_step field_step
+field_group p label x h = rw h refl
+
+map_field_group : (p : Place) (label : FieldLabel) {s : MapState} (x : Lexeme) → MapAt s → IsWord x (codes "group")
+    → statement_step p (states.Field (fields.Map label s)) x ≡ Err (fault_at reasons.Group x.span)
+unfolding statement_step field_step
+map_field_group p label x a h = ap (λ (r : Result MapStep ProtoFault). of_field (of_map label r)) (map_group x a h)
+
+message_group : (x : Lexeme) → IsWord x (codes "group")
+    → statement_step places.Message states.Begin x ≡ Err (fault_at reasons.Group x.span)
+unfolding statement_step field_step
+message_group x h = rw h refl
+
+oneof_group : (filled : Bool) (x : Lexeme) → IsWord x (codes "group")
+    → statement_step (places.Oneof filled) states.Begin x ≡ Err (fault_at reasons.Group x.span)
+unfolding statement_step field_step
+oneof_group filled x h = rw h refl
+
+-- `map` is the first token of a field
+map_first : (p : Place) (m : Lexeme) → IsWord m (codes "map") → statement_step p states.Begin m ≡ field_begins m
+    → StepGoes p states.Begin m (states.Field (fields.Type labels.Plain (names.Part (word_at (codes "map") m.span))))
+map_first p m h q =
+    let t : FieldGoes (fields.Type labels.Plain names.Start) m (fields.Type labels.Plain (names.Part (word_at (codes "map") m.span))) =
+    in_type labels.Plain names.Start (names.Part (word_at (codes "map") m.span)) m (first_goes m (codes "map") h (rw h refl)) in
+    q ∙ ap of_field t
+
+-- behind `map`, up to where a part of the map begins
+behind_map : (p : Place) (label : FieldLabel) (m l : Lexeme) {rest : List Lexeme} {t : MapState} → IsMark l less
+    → Walks MapGoes (maps.Key names.Start) rest t
+    → Walks (StepGoes p) (states.Field (fields.Type label (names.Part (word_at (codes "map") m.span)))) (l ∷ rest) (states.Field (fields.Map label t))
+behind_map p label m l {rest = rest} h w =
+    walks_in FieldGoes (StepGoes p) (λ s. states.Field s) (in_field p)
+    (go l rest refl (map_begins label m.span l h) (walks_in MapGoes FieldGoes (λ s. fields.Map label s) (in_map label) w))
+
+-- from where `map` is read on
+map_fails : (d : Draft) (s : State) (label : FieldLabel) {ms : List Lexeme} (x : Lexeme) (zs : List Lexeme) → MapFrom ms
+    → ((m : Lexeme) → IsWord m (codes "map")
+    → StepGoes (place_of d) s m (states.Field (fields.Type label (names.Part (word_at (codes "map") m.span)))))
+    → IsWord x (codes "group") → run true d s (ms ++ x ∷ zs) ≡ failed (fault_at reasons.Group x.span)
+map_fails d s label x zs (map_from m l rest hm hl e (t, w, a)) first h =
+    ap (λ (q : List Lexeme). run true d s (q ++ x ∷ zs)) e
+    ∙ (walks_run d (x ∷ zs) (go m (l ∷ rest) refl (first m hm) (behind_map (place_of d) label m l hl w))
+    ∙ fails_at d (states.Field (fields.Map label t)) x zs (fault_at reasons.Group x.span) (word_goes_on d (states.Field (fields.Map label t)) x (codes "group") h) (map_field_group (place_of d) label x a h))
+
+-- behind a label
+labelled_first : (p : Place) (label : FieldLabel) (m : Lexeme) → IsWord m (codes "map")
+    → StepGoes p (states.Field (fields.Type label names.Start)) m (states.Field (fields.Type label (names.Part (word_at (codes "map") m.span))))
+labelled_first p label m h =
+    in_field p (fields.Type label names.Start) (fields.Type label (names.Part (word_at (codes "map") m.span))) m
+    (in_type label names.Start (names.Part (word_at (codes "map") m.span)) m (first_goes m (codes "map") h (rw h refl)))
+
+at_step : (d : Draft) (p : Place) (s t : State) (x : Lexeme) → place_of d ≡ p → StepGoes p s x t
+    → StepGoes (place_of d) s x t
+at_step d p s t x e h = ap (λ (p : Place). statement_step p s x) e ∙ h
+
+message_map : (d : Draft) → InMessage d → (m : Lexeme) → IsWord m (codes "map")
+    → StepGoes (place_of d) states.Begin m (states.Field (fields.Type labels.Plain (names.Part (word_at (codes "map") m.span))))
+message_map d i m h =
+    at_step d places.Message states.Begin (states.Field (fields.Type labels.Plain (names.Part (word_at (codes "map") m.span)))) m (in_message d i)
+    (map_first places.Message m h (message_leads m (by_word (codes "map") h (map_no_statement m h))))
+
+oneof_map : (d : Draft) (i : ℕ) (filled : Bool) → d.block ≡ a_oneof i filled → (m : Lexeme) → IsWord m (codes "map")
+    → StepGoes (place_of d) states.Begin m (states.Field (fields.Type labels.Plain (names.Part (word_at (codes "map") m.span))))
+oneof_map d i filled b m h =
+    at_step d (places.Oneof filled) states.Begin (states.Field (fields.Type labels.Plain (names.Part (word_at (codes "map") m.span)))) m (in_block d (a_oneof i filled) b)
+    (map_first (places.Oneof filled) m h (oneof_leads filled m (by_word (codes "map") h (map_no_member m h))))
+
+-- what is read of a label
+abbrev LabelGoes : Draft → Lexeme → FieldLabel → Type 0
+LabelGoes d y label = StepGoes (place_of d) states.Begin y (states.Field (fields.Type label names.Start))
+
+optional_goes : (d : Draft) (y : Lexeme) → InMessage d → IsWord y (codes "optional") → LabelGoes d y labels.Optional
+optional_goes d y i h = at_step d places.Message states.Begin (states.Field (fields.Type labels.Optional names.Start)) y (in_message d i) (optional_word y h)
+
+repeated_goes : (d : Draft) (y : Lexeme) → InMessage d → IsWord y (codes "repeated") → LabelGoes d y labels.Repeated
+repeated_goes d y i h = at_step d places.Message states.Begin (states.Field (fields.Type labels.Repeated names.Start)) y (in_message d i) (repeated_word y h)
+
+labelled_group : (d : Draft) (label : FieldLabel) (y x : Lexeme) (zs : List Lexeme) → LabelGoes d y label
+    → IsWord x (codes "group") → run true d states.Begin (y ∷ x ∷ zs) ≡ failed (fault_at reasons.Group x.span)
+labelled_group d label y x zs g h =
+    run_goes true d states.Begin (states.Field (fields.Type label names.Start)) y (x ∷ zs) g
+    ∙ fails_at d (states.Field (fields.Type label names.Start)) x zs (fault_at reasons.Group x.span) (word_goes_on d (states.Field (fields.Type label names.Start)) x (codes "group") h) (field_group (place_of d) label x h)
+
+labelled_map_group : (d : Draft) (label : FieldLabel) (y : Lexeme) {ms : List Lexeme} (x : Lexeme) (zs : List Lexeme)
+    → LabelGoes d y label → MapFrom ms → IsWord x (codes "group")
+    → run true d states.Begin (y ∷ (ms ++ x ∷ zs)) ≡ failed (fault_at reasons.Group x.span)
+labelled_map_group d label y {ms = ms} x zs g b h =
+    run_goes true d states.Begin (states.Field (fields.Type label names.Start)) y (ms ++ x ∷ zs) g
+    ∙ map_fails d (states.Field (fields.Type label names.Start)) label x zs b (labelled_first (place_of d) label) h
+
+first_group : (d : Draft) (p : Place) (x : Lexeme) (zs : List Lexeme) → place_of d ≡ p
+    → statement_step p states.Begin x ≡ Err (fault_at reasons.Group x.span) → IsWord x (codes "group")
+    → run true d states.Begin (x ∷ zs) ≡ failed (fault_at reasons.Group x.span)
+first_group d p x zs e f h =
+    fails_at d states.Begin x zs (fault_at reasons.Group x.span) (word_goes_on d states.Begin x (codes "group") h) (ap (λ (p : Place). statement_step p states.Begin x) e ∙ f)
+
+label_group : (d : Draft) {ls : List Lexeme} {label : FieldLabel} {words : List (List ℕ)} (x : Lexeme) (zs : List Lexeme)
+    → InMessage d → LabelOf ls label words → IsWord x (codes "group")
+    → run true d states.Begin (ls ++ x ∷ zs) ≡ failed (fault_at reasons.Group x.span)
+label_group d x zs i plain h = first_group d places.Message x zs (in_message d i) (message_group x h) h
+label_group d x zs i (optional y w) h = labelled_group d labels.Optional y x zs (optional_goes d y i w) h
+label_group d x zs i (repeated y w) h = labelled_group d labels.Repeated y x zs (repeated_goes d y i w) h
+
+label_map_group : (d : Draft) {ls ms : List Lexeme} {label : FieldLabel} {words : List (List ℕ)} (x : Lexeme)
+    (zs : List Lexeme) → InMessage d → LabelOf ls label words → MapFrom ms → IsWord x (codes "group")
+    → run true d states.Begin (ls ++ (ms ++ x ∷ zs)) ≡ failed (fault_at reasons.Group x.span)
+label_map_group d x zs i plain b h = map_fails d states.Begin labels.Plain x zs b (message_map d i) h
+label_map_group d x zs i (optional y w) b h = labelled_map_group d labels.Optional y x zs (optional_goes d y i w) b h
+label_map_group d x zs i (repeated y w) b h = labelled_map_group d labels.Repeated y x zs (repeated_goes d y i w) b h
+
+type_group : {d : Draft} {ys : List Lexeme} (x : Lexeme) (zs : List Lexeme) → BeforeType d ys → IsWord x (codes "group")
+    → run true d states.Begin (ys ++ x ∷ zs) ≡ failed (fault_at reasons.Group x.span)
+type_group x zs (Faults.of_rpc b) h = rpc_group x zs b h
+type_group {d = d} x zs (Faults.of_field i l) h = label_group d x zs i l h
+type_group {d = d} x zs (Faults.of_map {ls = ls} {ms = ms} i l b e) h =
+    ap (λ (q : List Lexeme). run true d states.Begin (q ++ x ∷ zs)) e ∙ (ap (λ (q : List Lexeme). run true d states.Begin q) (append_assoc ls ms (x ∷ zs)) ∙ label_map_group d x zs i l (part_from b) h)
+type_group {d = d} x zs (Faults.of_member i filled b e) h =
+    ap (λ (q : List Lexeme). run true d states.Begin (q ++ x ∷ zs)) e ∙ first_group d (places.Oneof filled) x zs (in_block d (a_oneof i filled) b) (oneof_group filled x h) h
+type_group {d = d} x zs (Faults.of_member_map i filled b m) h = map_fails d states.Begin labels.Plain x zs (part_from m) (oneof_map d i filled b) h
+
+-- ---- the names
+
+first_is : (ts : List Lexeme) (x : Lexeme) → slice_get ts 0 ≡ Some x → (rest : List Lexeme) × (ts ≡ x ∷ rest)
+first_is ts x h = split_at ts 0 x h
+
+-- a reason with a name but that no token stands there
+pub named_reports : {ts : List Lexeme} {k : ℕ} {q : ProtoReason} → IsNamed ts k q → q ≢ reasons.Token → Reports ts k q
+named_reports (Faults.no_token x b n) o = absurd (o refl)
+named_reports {ts = ts} {k = k} (Faults.import j x y d e s i g w f n p) o = by (split_two ts j x y g (subst (λ (m : ℕ). slice_get ts m ≡ Some y) (e ∙ add-one j) f))
+  where
+    by : (rest : List Lexeme) × (ts ≡ take j ts ++ x ∷ y ∷ rest) → Reports ts k reasons.Import
+    by (rest, a) =
+        let l : length (take j ts) ≤ j = take_at_most j ts in
+        behind_says ts (x ∷ y ∷ rest) k reasons.Import y s a (omega arith) f
+        (run_goes true d states.Begin (states.Import false) x (y ∷ rest) (ap (λ (p : Place). statement_step p states.Begin x) (in_file d i) ∙ import_word (is_some d.file.package) x w)
+        ∙ fails_at d (states.Import false) y rest (fault_at reasons.Import y.span) (path_goes_on d y) (import_fails (place_of d) y n p))
+named_reports {ts = ts} {k = k} (Faults.stream xs ys zs x y d e l s b w t) o =
+    behind_says ts (ys ++ x ∷ y ∷ zs) k reasons.Stream x s (e ∙ append_assoc xs ys (x ∷ y ∷ zs)) (let m : length (xs ++ ys) ≡ length xs + length ys = length-append xs ys in omega arith)
+    (subst (λ (l : List Lexeme). slice_get l k ≡ Some x) (sym e) (subst (λ (n : ℕ). slice_get ((xs ++ ys) ++ x ∷ y ∷ zs) n ≡ Some x) l (get_behind (xs ++ ys) (y ∷ zs) x)))
+    (rpc_stream x y zs b w t)
+named_reports {ts = ts} {k = k} (Faults.group xs ys zs x d e l s b w) o =
+    behind_says ts (ys ++ x ∷ zs) k reasons.Group x s (e ∙ append_assoc xs ys (x ∷ zs)) (let m : length (xs ++ ys) ≡ length xs + length ys = length-append xs ys in omega arith)
+    (subst (λ (l : List Lexeme). slice_get l k ≡ Some x) (sym e) (subst (λ (n : ℕ). slice_get ((xs ++ ys) ++ x ∷ zs) n ≡ Some x) l (get_behind (xs ++ ys) zs x)))
+    (type_group x zs b w)
+named_reports {ts = ts} {k = k} (Faults.extend x d s b f w) o = by (split_at ts k x f) (extend_word x w)
+  where
+    by : (rest : List Lexeme) × (ts ≡ take k ts ++ x ∷ rest)
+        → (n : List ℕ) × IsWord x n × ((n ≡ codes "extend") ⊎ (n ≡ codes "extensions")) → Reports ts k reasons.Extend
+    by (rest, a) (n, h, c) =
+        behind_says ts (x ∷ rest) k reasons.Extend x s a (take_at_most k ts) f
+        (fails_at d states.Begin x rest (fault_at reasons.Extend x.span) (word_goes_on d states.Begin x n h) (extend_step d x n b h c))
+named_reports {ts = ts} {k = k} (Faults.no_syntax x e f n s) o = by (first_is ts x f)
+  where
+    by : (rest : List Lexeme) × (ts ≡ x ∷ rest) → Reports ts k reasons.Syntax2
+    by (rest, a) = here x (subst (λ (m : ℕ). slice_get ts m ≡ Some x) (sym e) f) (ap (reading true) a ∙ rw s (rw n refl))
+named_reports {ts = ts} {k = k} (Faults.other_syntax x y z us v e a hx hy hz n) o =
+    here x (subst (λ (m : ℕ). slice_get ts m ≡ Some x) (sym e) (subst (λ (l : List Lexeme). slice_get l 0 ≡ Some x) (sym a) refl))
+    (ap (reading true) a ∙ rw hx (rw hy (rw hz (rw (false_from_ne_true (bytes_eq v (codes "proto3")) (λ h. n (same_bytes v (codes "proto3") h))) refl))))
+named_reports {ts = ts} {k = k} (Faults.nesting x d f m s i l) o = by (drop_behind (k + 1) ts)
+  where
+    by : (rest : List Lexeme) × (take (k + 1) ts ++ rest ≡ ts) → Reports ts k reasons.Nesting
+    by (rest, a) = at (says_well_or rest s)
+      where
+        at : SaysWell (take (k + 1) ts) d rest → Reports ts k reasons.Nesting
+        at (says_well r n) = absurd (omega (arith, l))
+        at (says_deep (deep j z n h w e)) =
+            let t : length (take (k + 1) ts) ≤ k + 1 = take_at_most (k + 1) ts in
+            let g : slice_get ts j ≡ Some z = subst (λ (l : List Lexeme). slice_get l j ≡ Some z) a w in
+            let q : reading true ts ≡ failed (fault_at reasons.Nesting z.span) = ap (reading true) (sym a) ∙ e in
+            order (eq-or-lt_of_le (omega arith)) g q
+          where
+            order : (j ≡ k) ⊎ (j < k) → slice_get ts j ≡ Some z → reading true ts ≡ failed (fault_at reasons.Nesting z.span) → Reports ts k reasons.Nesting
+            order (inr c) g q = earlier j z reasons.Nesting c g q
+            order (inl c) g q = here z (subst (λ (m : ℕ). slice_get ts m ≡ Some z) c g) q
