@@ -43,8 +43,11 @@ fn a_book(rt: HostRuntime) -> Result<(), Fail> {
     Ok(())
 }
 
-// The first fault of a text: its reason, its start and its line.
+// The first fault of a short text: its reason, its start and its line.
 fn fault(alloc: Global, text: &[u8]) -> Option<(ProtoReason, usize, u64)> {
+    if text.len() > 1000 {
+        return None;
+    }
     match read_proto(alloc, text) {
         Err(
             ProtoFault::At {
