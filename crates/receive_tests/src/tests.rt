@@ -11,6 +11,7 @@ use policy_access::{Access, Lines, read_access};
 use receive_core::{Arrival, DropCause, Inbound};
 use receive_heap::{Block, NotHeld};
 use std::alloc::Global;
+use std::slice;
 use std::test::Fail;
 use table_text::read_table;
 use wire_decode::DecodeReason;
@@ -138,11 +139,31 @@ fn first_block(number: u64, words: u64) -> Block {
     }
 }
 
+// Feeds a request byte by byte; whether there is no fault so far.
+fn feed_bytes(scene: &mut Scene) -> bool
+    requires valid { IsValid scene.old.table }
+    requires ready { IsReady scene.old.table scene.old.inbound }
+    requires size { scene.old.heap.size ≡ scene.old.inbound.heap.words }
+    requires short { total scene.old.inbound.fed < 2 ^ 31 }
+    ensures valid { IsValid scene.new.table }
+    ensures ready { IsReady scene.new.table scene.new.inbound }
+    ensures size { scene.new.heap.size ≡ scene.new.inbound.heap.words }
+    ensures next { scene.new.inbound.heap.next ≡ scene.old.inbound.heap.next }
+    ensures total { total scene.new.inbound.fed ≤ total scene.old.inbound.fed + 19000 }
+{
+    for byte in REQUEST {
+        if !scene.feed(slice::from_ref(byte)) {
+            return false;
+        }
+    }
+    true
+}
+
 #[test]
 fn a_frame_waits_for_a_hole(rt: HostRuntime) -> Result<(), Fail> {
     let mut scene = Scene::open(rt.alloc(), SMALL, 4)?;
-    assert!(rt; scene.feed(REQUEST));
-    assert!(rt; scene.feed(REQUEST));
+    assert!(rt; feed_bytes(&mut scene));
+    assert!(rt; feed_bytes(&mut scene));
     assert_eq!(rt; scene.turn(None)?, Told::Arrived(1, first_block(1, 2)));
     let waiting = Told::Waiting {
         need: 2,
