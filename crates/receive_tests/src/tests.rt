@@ -11,6 +11,7 @@ use policy_access::{Access, Lines, read_access};
 use receive_core::{Arrival, DropCause, Inbound};
 use receive_heap::{Block, NotHeld};
 use std::alloc::Global;
+use std::process::Abort;
 use std::slice;
 use std::test::Fail;
 use table_text::read_table;
@@ -115,6 +116,22 @@ impl Scene {
         Ok(without_tree(&self.inbound.turn(&self.table, policy, &mut self.heap)?))
     }
 
+    // One turn without a policy tells this.
+    fn tells(&mut self, rt: &impl Abort, expected: Told) -> Result<(), Memory>
+        requires valid { IsValid self.old.table }
+        requires ready { IsReady self.old.table self.old.inbound }
+        requires size { self.old.heap.size ≡ self.old.inbound.heap.words }
+        requires next { self.old.inbound.heap.next < 2 ^ 32 }
+        ensures valid { IsValid self.new.table }
+        ensures ready { IsReady self.new.table self.new.inbound }
+        ensures size { self.new.heap.size ≡ self.new.inbound.heap.words }
+        ensures next { self.new.inbound.heap.next ≤ self.old.inbound.heap.next + 1 }
+        ensures total { total self.new.inbound.fed ≡ total self.old.inbound.fed }
+    {
+        assert_eq!(rt; self.turn(None)?, expected);
+        Ok(())
+    }
+
     // Takes a block back.
     fn reclaim(&mut self, block: u64) -> Result<(), NotHeld>
         requires valid { IsValid self.old.table }
@@ -164,17 +181,17 @@ fn a_frame_waits_for_a_hole(rt: HostRuntime) -> Result<(), Fail> {
     let mut scene = Scene::open(rt.alloc(), SMALL, 4)?;
     assert!(rt; feed_bytes(&mut scene));
     assert!(rt; feed_bytes(&mut scene));
-    assert_eq!(rt; scene.turn(None)?, Told::Arrived(1, first_block(1, 2)));
+    scene.tells(&rt, Told::Arrived(1, first_block(1, 2)))?;
     let waiting = Told::Waiting {
         need: 2,
         largest: 1,
     };
-    assert_eq!(rt; scene.turn(None)?, waiting);
-    assert_eq!(rt; scene.turn(None)?, waiting);
+    scene.tells(&rt, waiting)?;
+    scene.tells(&rt, waiting)?;
     assert_eq!(rt; scene.reclaim(1), Ok(()));
-    assert_eq!(rt; scene.turn(None)?, Told::Arrived(1, first_block(2, 2)));
+    scene.tells(&rt, Told::Arrived(1, first_block(2, 2)))?;
     assert_eq!(rt; scene.reclaim(1), Err(NotHeld { number: 1 }));
-    assert_eq!(rt; scene.turn(None)?, Told::Nothing);
+    scene.tells(&rt, Told::Nothing)?;
     Ok(())
 }
 
@@ -183,10 +200,10 @@ fn a_message_is_too_large_by_a_word(rt: HostRuntime) -> Result<(), Fail> {
     let mut scene = Scene::open(rt.alloc(), NUMBERS, 5)?;
     assert!(rt; scene.feed(LONG_REQUEST));
     let why = DropCause::Oversize { need: 5, words: 5 };
-    assert_eq!(rt; scene.turn(None)?, Told::Dropped(1, why));
+    scene.tells(&rt, Told::Dropped(1, why))?;
     let mut scene = Scene::open(rt.alloc(), NUMBERS, 6)?;
     assert!(rt; scene.feed(LONG_REQUEST));
-    assert_eq!(rt; scene.turn(None)?, Told::Arrived(1, first_block(1, 5)));
+    scene.tells(&rt, Told::Arrived(1, first_block(1, 5)))?;
     Ok(())
 }
 
@@ -194,14 +211,14 @@ fn a_message_is_too_large_by_a_word(rt: HostRuntime) -> Result<(), Fail> {
 fn frames_are_dropped_by_their_first_cause(rt: HostRuntime) -> Result<(), Fail> {
     let mut scene = Scene::open(rt.alloc(), SMALL, 16)?;
     assert!(rt; scene.feed(DROPPED));
-    assert_eq!(rt; scene.turn(None)?, Told::Dropped(0, DropCause::Hello));
-    assert_eq!(rt; scene.turn(None)?, Told::Dropped(2, DropCause::NoMethod));
+    scene.tells(&rt, Told::Dropped(0, DropCause::Hello))?;
+    scene.tells(&rt, Told::Dropped(2, DropCause::NoMethod))?;
     let why = DropCause::Decode {
         reason: DecodeReason::Short,
         place: 1,
     };
-    assert_eq!(rt; scene.turn(None)?, Told::Dropped(3, why));
-    assert_eq!(rt; scene.turn(None)?, Told::Arrived(2, first_block(1, 2)));
+    scene.tells(&rt, Told::Dropped(3, why))?;
+    scene.tells(&rt, Told::Arrived(2, first_block(1, 2)))?;
     Ok(())
 }
 
@@ -221,15 +238,15 @@ fn the_policy_of_the_turn_counts(rt: HostRuntime) -> Result<(), Fail> {
     let policy = policy_of(alloc, &scene.table, b"default deny")?;
     assert!(rt; scene.feed(REQUEST));
     assert!(rt; scene.feed(REQUEST));
-    assert_eq!(rt; scene.turn(None)?, Told::Arrived(1, first_block(1, 2)));
+    scene.tells(&rt, Told::Arrived(1, first_block(1, 2)))?;
     let waiting = Told::Waiting {
         need: 2,
         largest: 1,
     };
-    assert_eq!(rt; scene.turn(None)?, waiting);
+    scene.tells(&rt, waiting)?;
     let why = DropCause::Denied { rule: 0 };
     assert_eq!(rt; scene.turn(Some(&policy))?, Told::Dropped(1, why));
-    assert_eq!(rt; scene.turn(None)?, Told::Nothing);
+    scene.tells(&rt, Told::Nothing)?;
     Ok(())
 }
 
@@ -277,7 +294,7 @@ fn a_fault_comes_behind_the_frames_before_it(rt: HostRuntime) -> Result<(), Fail
     let mut scene = Scene::open(rt.alloc(), SMALL, 16)?;
     assert!(rt; scene.feed(REQUEST));
     assert!(rt; !scene.feed(b"\0\x04\0\x01\x01"));
-    assert_eq!(rt; scene.turn(None)?, Told::Arrived(1, first_block(1, 2)));
-    assert_eq!(rt; scene.turn(None)?, Told::Nothing);
+    scene.tells(&rt, Told::Arrived(1, first_block(1, 2)))?;
+    scene.tells(&rt, Told::Nothing)?;
     Ok(())
 }
