@@ -1,4 +1,4 @@
-// What the programs beside `mrpc decode` share: the numbers of a frame's header, and the line of a frame.
+// What the programs beside `mrpc decode` share: the header of a frame, and its line.
 #pragma once
 #include "peer_table.h"
 
@@ -11,10 +11,26 @@ static uint32_t big(const std::string& bytes, size_t at, int count) {
   return number;
 }
 
+// The header of a frame.
+struct Head {
+  uint32_t length, kind, method, conn, number;
+};
+
+// The header at a place, which is then that of the payload.
+static Head read_head(const std::string& input, size_t& at, size_t methods) {
+  if (input.size() - at < 16) fault("a frame is cut");
+  const Head head = {big(input, at, 4), big(input, at + 4, 1), big(input, at + 6, 2), big(input, at + 8, 4),
+                     big(input, at + 12, 4)};
+  at += 16;
+  if (input.size() - at < head.length) fault("a frame is cut");
+  if (head.kind < 1 || head.kind > 2 || head.method >= methods) fault("a frame's header");
+  return head;
+}
+
 // The first words of a frame's line.
-static void append_head(std::string& out, uint32_t kind, uint32_t method, uint32_t conn, uint32_t number) {
+static void append_head(std::string& out, const Head& head) {
   out += "frame ";
-  for (uint32_t word : {kind, method, conn, number}) {
+  for (uint32_t word : {head.kind, head.method, head.conn, head.number}) {
     char digits[10];
     out.append(digits, std::to_chars(digits, digits + sizeof digits, word).ptr);
     out += ' ';

@@ -11,17 +11,12 @@ int main() {
 
   std::string out, bytes;
   while (at < input.size()) {
-    if (input.size() - at < 16) fault("a frame is cut");
-    uint32_t length = big(input, at, 4), kind = big(input, at + 4, 1), method = big(input, at + 6, 2);
-    uint32_t conn = big(input, at + 8, 4), number = big(input, at + 12, 4);
-    at += 16;
-    if (input.size() - at < length) fault("a frame is cut");
-    if (kind < 1 || kind > 2 || method >= types.methods()) fault("a frame's header");
-    std::unique_ptr<pb::Message> tree = types.message(method, kind == 2);
-    if (!tree->ParseFromArray(input.data() + at, static_cast<int>(length))) fault("a payload");
-    at += length;
+    const Head head = read_head(input, at, types.methods());
+    std::unique_ptr<pb::Message> tree = types.message(head.method, head.kind == 2);
+    if (!tree->ParseFromArray(input.data() + at, static_cast<int>(head.length))) fault("a payload");
+    at += head.length;
     serialize(*tree, bytes);
-    append_head(out, kind, method, conn, number);
+    append_head(out, head);
     append_hex(out, bytes.data(), bytes.size());
     out += '\n';
     if (out.size() >= 65536) flush(out, stdout);

@@ -31,24 +31,19 @@ int main() {
   std::string out;
   std::vector<char> room(65536);
   while (at < input.size()) {
-    if (input.size() - at < 16) fault("a frame is cut");
-    uint32_t length = big(input, at, 4), kind = big(input, at + 4, 1), method = big(input, at + 6, 2);
-    uint32_t conn = big(input, at + 8, 4), number = big(input, at + 12, 4);
-    at += 16;
-    if (input.size() - at < length) fault("a frame is cut");
-    if (kind < 1 || kind > 2 || method >= table.methods.size()) fault("a frame's header");
-    const upb_MiniTable* type = types[kind == 2][method];
+    const Head head = read_head(input, at, table.methods.size());
+    const upb_MiniTable* type = types[head.kind == 2][head.method];
     upb_Arena* arena = upb_Arena_Init(room.data(), room.size(), &upb_alloc_global);
     upb_Message* tree = _upb_Message_New(type, arena);
-    if (upb_Decode(input.data() + at, length, tree, type, nullptr, 0, arena) !=
+    if (upb_Decode(input.data() + at, head.length, tree, type, nullptr, 0, arena) !=
         kUpb_DecodeStatus_Ok) {
       fault("a payload");
     }
-    at += length;
+    at += head.length;
     size_t size;
     const char* bytes = upb_Encode(tree, type, kUpb_Encode_Deterministic | kUpb_Encode_SkipUnknown, arena, &size);
     if (!bytes) fault("an encoding");
-    append_head(out, kind, method, conn, number);
+    append_head(out, head);
     append_hex(out, bytes, size);
     out += '\n';
     upb_Arena_Free(arena);
