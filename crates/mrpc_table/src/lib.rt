@@ -9,6 +9,7 @@
 #![tactic(auto)]
 
 mod copied;
+mod hexadecimal;
 mod limits;
 mod memory;
 mod normal;

@@ -4,6 +4,7 @@ ghost use Rattle.std.specs.Prelude.{◌≡◌, ◌≤◌, ◌<◌, ◌+◌, ◌�
 ghost use Rattle.std.specs.Fmt.{decimal, signed_decimal};
 ghost use Rattle.hex.specs.Hex.{encode_lower};
 
+use crate::hexadecimal::{end_of_digits, write_digits};
 use crate::memory::Memory;
 use itoa::Buffer;
 use std::alloc::Global;
@@ -143,7 +144,12 @@ impl Sequence<u8> {
         ensures ok { OnOk result (self.new ≡ self.old ++ encode_lower bytes.now) }
         ensures err { OnErr result (self.new ≡ self.old) }
     {
-        let digits = hex::encode(alloc, bytes)?;
-        self.append(digits.as_bytes())
+        let start = self.items.len();
+        let Some(end) = end_of_digits(start, bytes.len()) else {
+            return Err(Memory);
+        };
+        self.items.resize(end, 0)?;
+        write_digits(&mut self.items[start..], bytes);
+        Ok(())
     }
 }

@@ -1,0 +1,36 @@
+//! Hexadecimal digits.
+
+ghost use Rattle.std.specs.Prelude.{◌≡◌, ◌+◌, ◌*◌, ◌<◌, length, slice_index, IfSome};
+ghost use Rattle.hex.specs.Hex.{encode_lower, lower_digits};
+
+/// The place behind two digits for each byte, where they begin at `start`.
+pub(crate) fn end_of_digits(start: usize, bytes: usize) -> Option<usize>
+    ensures { IfSome result (λ end. end ≡ start + 2 * bytes) }
+{
+    let digits = bytes.checked_mul(2)?;
+    start.checked_add(digits)
+}
+
+/// Writes two digits for each byte, in lower case.
+pub(crate) fn write_digits(digits: &mut [u8], bytes: &[u8])
+    requires { length digits.old ≡ 2 * length bytes.now }
+    ensures { digits.new ≡ encode_lower bytes.now }
+{
+    for place in 0..bytes.len() {
+        let byte = bytes[place];
+        digits[2 * place] = digit(byte / 16);
+        digits[2 * place + 1] = digit(byte % 16);
+    }
+}
+
+/// The digit of a number. With no look-up in a table many bytes are done at once.
+fn digit(number: u8) -> u8
+    requires { number < 16 }
+    ensures { result ≡ slice_index lower_digits number }
+{
+    if number < 10 {
+        number + b'0'
+    } else {
+        number - 10 + b'a'
+    }
+}
