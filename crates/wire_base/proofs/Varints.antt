@@ -1,9 +1,9 @@
 -- The bytes of a varint, as they are written and as they are read.
-use Rattle.std.proofs.Common.{◌≡◌, ℕ, zero, suc, ◌+◌, ◌-◌, ◌*◌, ◌/◌, ◌%◌, ◌^◌, ◌<◌, ◌≤◌, List, [], ◌∷◌, ◌++◌, length, take, drop, set, All, get_or, refl, ap, sym, ◌∙◌, arith, ⊎_elim}
+use Rattle.std.proofs.Common.{◌≡◌, ℕ, zero, suc, ◌+◌, ◌-◌, ◌*◌, ◌/◌, ◌%◌, ◌^◌, ◌<◌, ◌≤◌, List, [], ◌∷◌, ◌++◌, length, take, drop, set, All, get_or, refl, ap, sym, subst, ◌∙◌, arith, ⊎_elim, length-set}
 use Rattle.std.specs.List.{slice_range}
 use Rattle.std.proofs.lemmas.Bool.{cases_lt}
 use Rattle.std.proofs.lemmas.Bool.Decides.{nat_tests}
-use Rattle.std.proofs.lemmas.List.{take_more, take_more_set, get_or-drop, length-take-le, length-drop, append_assoc, drop_at, take_at, length-append, get_or_read}
+use Rattle.std.proofs.lemmas.List.{take_more, take_more_set, get_or-drop, length-take-le, length-drop, append_assoc, drop_at, take_at, length-append, get_or_read, take_all}
 use Rattle.std.proofs.lemmas.List.Elements.{All-head, All-tail, All-push, All-nil}
 use Rattle.std.proofs.lemmas.Nat.{pow-add}
 use Rattle.std.proofs.Math.Nat.{add-mod, mul-le-mul_left}
@@ -98,16 +98,16 @@ pub length-groups-end : (i n : ℕ) → 10 ≤ i → length (groups (10 - i) n) 
 length-groups-end i n h = ap (λ m. length (groups m n)) (let e : 10 - i ≡ 0 = omega arith in e) ∙ ap length (groups-last n)
 
 -- the bytes that were written, and one more behind them
-pub groups-written : (bytes : List ℕ) (i b n m v : ℕ) → i < 9 → length bytes ≡ 10 → 128 ≤ n → b ≡ n % 128 + 128 → m ≡ n / 128 → take i bytes ++ groups (9 - i) n ≡ groups 9 v → take (i + 1) (set bytes i b) ++ groups (9 - (i + 1)) m ≡ groups 9 v
+pub groups-written : (bytes : List ℕ) (i b n m v : ℕ) → i < 9 → i < length bytes → 128 ≤ n → b ≡ n % 128 + 128 → m ≡ n / 128 → take i bytes ++ groups (9 - i) n ≡ groups 9 v → take (i + 1) (set bytes i b) ++ groups (9 - (i + 1)) m ≡ groups 9 v
 groups-written bytes i b n m v near long large byte rest written =
-    let last : take (i + 1) (set bytes i b) ≡ take i bytes ++ b ∷ [] = take_more_set bytes i b (omega arith) in
+    let last : take (i + 1) (set bytes i b) ≡ take i bytes ++ b ∷ [] = take_more_set bytes i b long in
     let tail = groups (9 - (i + 1)) (n / 128) in
     ap (λ xs. xs ++ groups (9 - (i + 1)) m) last ∙ ap (λ k. (take i bytes ++ b ∷ []) ++ groups (9 - (i + 1)) k) rest ∙ append_assoc (take i bytes) (b ∷ []) tail ∙ ap (λ k. take i bytes ++ k ∷ tail) byte ∙ ap (λ xs. take i bytes ++ xs) (sym (groups-step i n near large)) ∙ written
 
 -- the last byte is written
-pub groups-done : (bytes : List ℕ) (i n v : ℕ) → i < 10 → length bytes ≡ 10 → groups (9 - i) n ≡ n ∷ [] → take i bytes ++ groups (9 - i) n ≡ groups 9 v → take (i + 1) (set bytes i n) ≡ groups 9 v
+pub groups-done : (bytes : List ℕ) (i n v : ℕ) → i < 10 → i < length bytes → groups (9 - i) n ≡ n ∷ [] → take i bytes ++ groups (9 - i) n ≡ groups 9 v → take (i + 1) (set bytes i n) ≡ groups 9 v
 groups-done bytes i n v near long one written =
-    take_more_set bytes i n (omega arith) ∙ ap (λ xs. take i bytes ++ xs) (sym one) ∙ written
+    take_more_set bytes i n long ∙ ap (λ xs. take i bytes ++ xs) (sym one) ∙ written
 
 pub groups-end : (i n : ℕ) → 9 ≤ i → groups (9 - i) n ≡ n ∷ []
 groups-end i n h = ap (λ m. groups m n) (let e : 9 - i ≡ 0 = omega arith in e) ∙ groups-last n
@@ -208,3 +208,111 @@ IsVarint-written bytes v small is = rw is (IsVarint-varint v small)
 
 pub written-shortest : (written : List ℕ) (v : ℕ) → written ≡ varint v → (bytes : List ℕ) → IsVarint bytes v → length written ≤ length bytes
 written-shortest written v is bytes other = omega (arith, ap length is, varint-shortest bytes v other)
+
+-- ---- how many bytes a varint has, by the size of its number
+
+-- one group more for a number of more than seven bits
+groups-longer : (m n : ℕ) → 128 ≤ n → length (groups (suc m) n) ≡ 1 + length (groups m (n / 128))
+groups-longer m n large = omega (arith, ap length (groups-large m n large))
+
+-- as many groups as it has, where there is room for them
+length-groups-at : (k m n : ℕ) → k ≤ m → 128 ^ k ≤ n → n < 128 * 128 ^ k → length (groups m n) ≡ k + 1
+length-groups-at zero m n le least below = ap length (groups-small m n (omega (arith, below)))
+length-groups-at (suc k) zero n le least below = absurd (omega (arith, le))
+length-groups-at (suc k) (suc m) n le least below =
+    let power : 128 ^ suc k ≡ 128 * 128 ^ k = ap (λ j. 128 ^ j) (let e : suc k ≡ 1 + k = omega arith in e) ∙ pow-add 128 1 k in
+    let some : 1 ≤ 128 ^ k = pow-some k in
+    let large : 128 ≤ n = omega (arith, least, power, some) in
+    let inside : 128 ^ k ≤ n / 128 = omega (arith, least, power) in
+    let again = length-groups-at k m (n / 128) (omega (arith, le)) inside (rest-below k n below) in
+    omega (arith, groups-longer m n large, again)
+  where
+    pow-some : (k : ℕ) → 1 ≤ 128 ^ k
+    pow-some zero = omega arith
+    pow-some (suc k) =
+        let power : 128 ^ suc k ≡ 128 * 128 ^ k = ap (λ j. 128 ^ j) (let e : suc k ≡ 1 + k = omega arith in e) ∙ pow-add 128 1 k in
+        omega (arith, power, pow-some k)
+
+-- a number of k groups of seven bits and of no fewer
+pub length-varint-at : (k v : ℕ) → k ≤ 9 → 128 ^ k ≤ v → v < 128 * 128 ^ k → length (varint v) ≡ k + 1
+unfolding varint
+length-varint-at k v le least below = length-groups-at k 9 v le least below
+
+pub length-varint-small : (v : ℕ) → v < 128 → length (varint v) ≡ 1
+unfolding varint
+length-varint-small v h = ap length (groups-small 9 v h)
+
+-- ---- writing as many groups as there is room for
+
+length-groups-some : (m n : ℕ) → 1 ≤ length (groups m n)
+length-groups-some zero n = omega (arith, ap length (groups-last n))
+length-groups-some (suc m) n = ⊎_elim (λ small. omega (arith, ap length (groups-small (suc m) n small))) (λ large. omega (arith, groups-longer m n large)) (cases_lt n 128)
+
+-- two groups or more have more than seven bits
+two-groups : (m n : ℕ) → 2 ≤ length (groups m n) → 128 ≤ n
+two-groups m n two = ⊎_elim (λ small. absurd (omega (arith, two, ap length (groups-small m n small)))) (λ large. large) (cases_lt n 128)
+
+one-group : (m n : ℕ) → length (groups m n) ≡ 1 → groups m n ≡ n ∷ []
+one-group zero n one = groups-last n
+one-group (suc m) n one =
+    ⊎_elim (λ small. groups-small (suc m) n small) (λ large. absurd (omega (arith, one, groups-longer m n large, length-groups-some m (n / 128)))) (cases_lt n 128)
+
+length-left : (bytes : List ℕ) (i n v : ℕ) → i ≤ length bytes → length bytes ≡ length (groups 9 v) → take i bytes ++ groups (9 - i) n ≡ groups 9 v → length (groups (9 - i) n) ≡ length bytes - i
+length-left bytes i n v within sized spelled =
+    omega (arith, sized, ap length spelled, length-append (take i bytes) (groups (9 - i) n), length-take-le i bytes within)
+
+-- what the loop keeps
+pub record AreFilled (bytes : List ℕ) (i n v : ℕ) : Type 0 where
+  pub sized : length bytes ≡ length (varint v)
+  pub small : n * 128 ^ i ≤ v
+  pub spelled : take i bytes ++ groups (9 - i) n ≡ varint v
+
+pub filled-first : (bytes : List ℕ) (v : ℕ) → length bytes ≡ length (varint v) → AreFilled bytes 0 v v
+unfolding varint
+filled-first bytes v sized = record { sized = sized; small = omega arith; spelled = refl }
+
+pub filled-more : (bytes : List ℕ) (i n v : ℕ) → i + 1 < length bytes → AreFilled bytes i n v → AreFilled (set bytes i (n % 128 + 128)) (i + 1) (n / 128) v
+unfolding varint
+filled-more bytes i n v within was =
+    let most = length-varint-most v in
+    let sized = was.sized in
+    let left = length-left bytes i n v (omega arith) sized was.spelled in
+    let large = two-groups (9 - i) n (omega (arith, left)) in
+    record {
+      sized = length-set bytes i (n % 128 + 128) ∙ sized;
+      small = rest-small i n v was.small;
+      spelled = groups-written bytes i (n % 128 + 128) n (n / 128) v (omega (arith, most, sized)) (omega arith) large refl refl was.spelled;
+    }
+
+pub filled-done : (bytes : List ℕ) (i n v : ℕ) → i + 1 ≡ length bytes → AreFilled bytes i n v → set bytes i n ≡ varint v
+unfolding varint
+filled-done bytes i n v end was =
+    let most = length-varint-most v in
+    let sized = was.sized in
+    let left = length-left bytes i n v (omega arith) sized was.spelled in
+    let one = one-group (9 - i) n (omega (arith, left)) in
+    sym (take_all (i + 1) (set bytes i n) (omega (arith, length-set bytes i n))) ∙ groups-done bytes i n v (omega (arith, most, sized)) (omega arith) one was.spelled
+
+-- the last group fits a byte
+pub filled-fits : (bytes : List ℕ) (i n v : ℕ) → i + 1 ≡ length bytes → v < 2 ^ 64 → AreFilled bytes i n v → n < 256
+unfolding varint
+filled-fits bytes i n v end bits was =
+    ⊎_elim
+    (λ small. omega (arith, small))
+    (λ large.
+    let most = length-varint-most v in
+    let sized = was.sized in
+    let left = length-left bytes i n v (omega arith) sized was.spelled in
+    let nine : i ≡ 9 = no-more i n large (omega (arith, most, sized)) (omega (arith, left)) in
+    let few = subst (λ k. n * 128 ^ k ≤ v) nine was.small in
+    omega (arith, few))
+    (cases_lt n 128)
+  where
+    no-more : (i n : ℕ) → 128 ≤ n → i ≤ 9 → length (groups (9 - i) n) ≡ 1 → i ≡ 9
+    no-more i n large le one =
+        ⊎_elim
+        (λ less. absurd (let e : 9 - i ≡ suc (9 - (i + 1)) = omega (arith, less) in
+        let f = ap length (ap (λ m. groups m n) e ∙ groups-large (9 - (i + 1)) n large) in
+        omega (arith, one, f, length-groups-some (9 - (i + 1)) (n / 128))))
+        (λ most. omega (arith, most, le))
+        (cases_lt i 9)

@@ -17,6 +17,6 @@ mod varint;
 
 pub use fault::{WireFault, WireReason};
 pub use laws::{payload_or_reason, record_or_fault, records_or_fault, varint_is_read_back};
-pub use records::{Payload, Record, read_record};
+pub use records::{Payload, Record, read_record, read_tag};
 pub use sign::{unzigzag, zigzag};
-pub use varint::{MAX_VARINT, Spelling, put_varint, read_varint, varint_len};
+pub use varint::{MAX_VARINT, Spelling, fill_varint, put_varint, read_varint, varint_len};

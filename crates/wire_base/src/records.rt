@@ -60,7 +60,7 @@ pub fn read_record(bytes: &[u8], at: usize) -> Result<Record, WireFault>
 }
 
 /// The tag at a place, and the place behind it.
-fn read_tag(bytes: &[u8], at: usize) -> Result<(u32, usize), WireFault>
+pub fn read_tag(bytes: &[u8], at: usize) -> Result<(u32, usize), WireFault>
     requires { at ≤ length bytes.now }
     ensures found { IfOk result (λ t. TagAt bytes.now at t.0 t.1) }
     ensures known { IfOk result (λ t. IsWireType (t.0 % 8)) }

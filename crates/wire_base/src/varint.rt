@@ -1,12 +1,13 @@
 //! Varints: seven bits a byte, low group first, the top bit set on all bytes but the last
 //! (Protocol Buffers, "Encoding", "Base 128 Varints").
 
-ghost use Rattle.std.specs.Prelude.{◌≡◌, ℕ, ◌+◌, ◌<◌, ◌≤◌, List, ◌++◌, length, take, OnOk, OnErr, IfOk, IfErr};
+ghost use Rattle.std.specs.Prelude.{◌≡◌, ℕ, ◌+◌, ◌<◌, ◌≤◌, ◌^◌, List, ◌++◌, length, take, OnOk, OnErr, IfOk, IfErr};
 ghost use Rattle.wire_base.specs.Encoding.{varint};
 ghost use Rattle.wire_base.specs.Records.{IsVarint, VarintAt, NoVarintAt};
 ghost use Rattle.wire_base.specs.declared.fault.WireReason.{WireReason};
 
 use crate::fault::{WireFault, WireReason};
+use crate::laws::varint_is_read_back;
 use mrpc_table::{Bytes, Memory};
 use std::marker::Model;
 
@@ -70,18 +71,60 @@ pub fn put_varint(out: &mut Bytes, v: u64) -> Result<(), Memory>
     out.append(Spelling::of(v).as_slice())
 }
 
+/// Writes the shortest varint of `v` where there is as much room as it needs.
+pub fn fill_varint(out: &mut [u8], v: u64)
+    requires { length out.old ≡ length (varint v) }
+    ensures { out.new ≡ varint v }
+{
+    varint_is_read_back();
+    let last = out.len() - 1;
+    let mut rest = v;
+    for place in 0..last {
+        out[place] = (rest % 128) as u8 + 128;
+        rest /= 128;
+    }
+    out[last] = rest as u8;
+}
+
 /// How many bytes the shortest varint of `v` has, 1 to 10.
 pub fn varint_len(v: u64) -> usize
     ensures { result ≡ length (varint v) }
 {
-    let mut rest = v;
-    for len in 1..10 {
-        if rest < 128 {
-            return len;
-        }
-        rest /= 128;
+    if v < 1 << 28 {
+        short_len(v)
+    } else {
+        long_len(v)
     }
-    10
+}
+
+/// The same for a number below 2^28.
+fn short_len(v: u64) -> usize
+    requires { v < 2 ^ 28 }
+    ensures { result ≡ length (varint v) }
+{
+    if v < 1 << 14 {
+        if v < 1 << 7 { 1 } else { 2 }
+    } else if v < 1 << 21 {
+        3
+    } else {
+        4
+    }
+}
+
+/// The same for a number of 2^28 or more.
+fn long_len(v: u64) -> usize
+    requires { 2 ^ 28 ≤ v }
+    ensures { result ≡ length (varint v) }
+{
+    if v < 1 << 42 {
+        if v < 1 << 35 { 5 } else { 6 }
+    } else if v < 1 << 56 {
+        if v < 1 << 49 { 7 } else { 8 }
+    } else if v < 1 << 63 {
+        9
+    } else {
+        10
+    }
 }
 
 /// The value of the varint at the place `at`, and the place behind it.

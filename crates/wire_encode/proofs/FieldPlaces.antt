@@ -1,6 +1,7 @@
 -- What a binary search finds among fields by ascending number.
-use Rattle.std.proofs.Common.{◌≡◌, ◌≢◌, ℕ, zero, suc, ◌<◌, ◌≤◌, List, [], ◌∷◌, length, get_or, Some, None, refl, sym, ◌∙◌, arith, ⊎_elim}
-use Rattle.std.specs.List.{HoldsAt}
+use Rattle.std.proofs.Common.{◌≡◌, ◌≢◌, ℕ, zero, suc, ◌<◌, ◌≤◌, List, [], ◌∷◌, length, get_or, Some, None, refl, ap, sym, ◌∙◌, arith, ⊎_elim}
+use Rattle.std.specs.List.{HoldsAt, slice_get}
+use Rattle.std.proofs.lemmas.Option.{slice_get-get_or}
 use Rattle.std.specs.List.Sorted.{IsNonDecreasingBy, IsPartitionPoint}
 use Rattle.std.specs.Ordering.{nat_cmp, ordering_index}
 use Rattle.std.specs.declared.cmp.Ordering.TheVariants.{Less, Equal, Greater}
@@ -8,6 +9,8 @@ use Rattle.std.proofs.lemmas.Cmp.{ranked}
 use Rattle.std.proofs.lemmas.Bool.{cases_lt}
 use Rattle.std.proofs.lemmas.Bool.Decides.{nat_tests}
 use Rattle.mrpc_table.specs.Normal.{field_at}
+use Rattle.mrpc_table.specs.declared.table.Kind.TheVariants.{Uint64}
+use Rattle.mrpc_table.specs.declared.table.Label.TheVariants.{Plain}
 use Rattle.mrpc_table.specs.declared.table.Field.{Field}
 use Rattle.wire_encode.specs.Written.{FieldsAscend}
 
@@ -66,3 +69,14 @@ field_at-absent fs h n i parted =
     (λ low. let less : (get_or fs k d).number < n = ranked _ n _ (sym (parts.0 k d (omega arith) low)) in omega (arith, less))
     (λ high. let more : n < (get_or fs k d).number = ranked _ n _ (sym (parts.1 k d high within)) in omega (arith, more))
     (cases_lt k i))
+
+-- the place that a binary search found
+pub slice_get-found : (fs : List Field) → FieldsAscend fs → (n i : ℕ) → i < length fs → HoldsAt (λ y. nat_cmp y.number n ≡ Equal) fs i → slice_get fs i ≡ field_at fs n
+slice_get-found fs h n i within equal =
+    let d : Field = record { number = 0; name = []; kind = Uint64; label = Plain } in
+    slice_get-get_or fs i d within ∙ sym (field_at-found fs h n i d within equal)
+
+-- the place that was tried
+pub slice_get-tried : (fs : List Field) → FieldsAscend fs → (n i : ℕ) (f : Field) → i < length fs → f ≡ get_or fs i f → f.number ≡ n → slice_get fs i ≡ field_at fs n
+slice_get-tried fs h n i f within is same =
+    slice_get-get_or fs i f within ∙ sym (field_at-place fs h n i f within (ap (λ x. x.number) (sym is) ∙ same))

@@ -1,5 +1,5 @@
 mod FieldPlaces
+mod Fronts
 mod Parts
 mod ShortVarints
-mod Standing
 mod Weights

@@ -2,9 +2,9 @@
 //!
 //! The format is that of the Protocol Buffers encoding guide; fields are written by ascending number,
 //! map entries by ascending key, varints in their shortest form. `encoding` of `wire_base` says which
-//! bytes those are. The length is computed first, then the tree is written from its end to its front
-//! into a buffer of that length, so that the length of a message is known when it is written; the
-//! time is in proportion to the output. It stands on `mrpc_table` and `wire_base`.
+//! bytes those are. The tree is written from its end to its front, so that the length of a message is
+//! known when it is written, into a buffer that doubles where it is too short; the time is in
+//! proportion to the output. It stands on `mrpc_table` and `wire_base`.
 #![tactic(auto)]
 
 ghost use Rattle.std.specs.Prelude.{◌≡◌, ◌<◌, length, IfOk};
@@ -14,10 +14,12 @@ ghost use Rattle.wire_base.specs.Encoding.{encoding, fields_bytes};
 ghost use Rattle.wire_encode.specs.Written.{capped, AllAscend, FieldsAscend};
 
 mod look_up;
+mod output;
 mod size;
 mod write;
 
 use crate::look_up::fields_of;
+use crate::output::Output;
 use crate::size::message_len;
 use crate::write::write_message;
 use mrpc_table::{Bytes, Field, Memory, Table, Tree};
@@ -53,8 +55,7 @@ fn encoded(alloc: Global, tree: &Tree, table: &Table, fields: &[Field]) -> Resul
     requires ascend { FieldsAscend fields.now }
     ensures { IfOk result (λ bytes. bytes ≡ fields_bytes table.now fields.now tree.now) }
 {
-    let len = message_len(tree, table, fields) as usize;
-    let mut out = vec![in alloc; 0u8; len]?;
-    write_message(&mut out, len, tree, table, fields);
-    Ok(Bytes::from_vec(out))
+    let mut out = Output::new(alloc)?;
+    write_message(&mut out, tree, table, fields)?;
+    Ok(out.into_bytes())
 }

@@ -1,7 +1,7 @@
 //! What a table says of a field.
 
-ghost use Rattle.std.specs.Prelude.{◌≡◌, ◌<◌, length};
-ghost use Rattle.mrpc_table.specs.Normal.{fields_of};
+ghost use Rattle.std.specs.Prelude.{◌≡◌, ◌<◌, length, IsTrue, IfSome, IfNone, None, slice_get};
+ghost use Rattle.mrpc_table.specs.Normal.{fields_of, field_at};
 ghost use Rattle.wire_base.specs.Encoding.{kind_at, label_at, key_kind, message_of, wire_type_of};
 ghost use Rattle.wire_encode.specs.Written.{AllAscend, FieldsAscend};
 
@@ -27,6 +27,56 @@ pub fn type_of(fields: &[Field], number: u32) -> (Kind, Label)
     match fields.binary_search_by_key(&number, |field| field.number) {
         Ok(place) => (fields[place].kind, fields[place].label),
         Err(_) => (Kind::Uint64, Label::Plain),
+    }
+}
+
+/// The same, and where the field stands. Trees and tables have their fields in one order, so that the place at hand
+/// is tried first.
+pub fn type_near(fields: &[Field], number: u32, hint: usize) -> (Kind, Label, usize)
+    requires { FieldsAscend fields.now }
+    ensures kind { result.0 ≡ kind_at fields.now number }
+    ensures label { result.1 ≡ label_at fields.now number }
+{
+    match find_field(fields, number, hint) {
+        Some(place) => (fields[place].kind, fields[place].label, place),
+        None => (Kind::Uint64, Label::Plain, hint),
+    }
+}
+
+/// The place of the field of a number.
+fn find_field(fields: &[Field], number: u32, hint: usize) -> Option<usize>
+    requires { FieldsAscend fields.now }
+    ensures bound { IfSome result (λ place. place < length fields.now) }
+    ensures found { IfSome result (λ place. slice_get fields.now place ≡ field_at fields.now number) }
+    ensures absent { IfNone result (field_at fields.now number ≡ None) }
+{
+    if stands_at(fields, number, hint) {
+        return Some(hint);
+    }
+    search(fields, number)
+}
+
+/// Whether the field of a number stands at a place.
+fn stands_at(fields: &[Field], number: u32, place: usize) -> bool
+    requires { FieldsAscend fields.now }
+    ensures bound { IsTrue result → place < length fields.now }
+    ensures found { IsTrue result → slice_get fields.now place ≡ field_at fields.now number }
+{
+    match fields.get(place) {
+        Some(field) => field.number == number,
+        None => false,
+    }
+}
+
+fn search(fields: &[Field], number: u32) -> Option<usize>
+    requires { FieldsAscend fields.now }
+    ensures bound { IfSome result (λ place. place < length fields.now) }
+    ensures found { IfSome result (λ place. slice_get fields.now place ≡ field_at fields.now number) }
+    ensures absent { IfNone result (field_at fields.now number ≡ None) }
+{
+    match fields.binary_search_by_key(&number, |field| field.number) {
+        Ok(place) => Some(place),
+        Err(_) => None,
     }
 }
 

@@ -1,254 +1,218 @@
-//! Writing from the end of a buffer to its front: each call writes its bytes so that they end right
-//! before the place `end`, and says where they begin.
+//! Writing from the end of a message to its front: each call writes its bytes in front of those that were written.
 
-ghost use Rattle.std.specs.Prelude.{◌≡◌, ℕ, ◌+◌, ◌-◌, ◌<◌, ◌≤◌, ◌++◌, length};
+ghost use Rattle.std.specs.Prelude.{◌≡◌, ◌-◌, ◌<◌, ◌≤◌, List, ◌++◌, length, OnOk};
 ghost use Rattle.mrpc_table.specs.View.{item_of, items_of, pairs_of, content_of};
-ghost use Rattle.wire_base.specs.Encoding.{varint, tag, number_bytes, item_bytes, joined_bytes, records_bytes, entries_bytes, content_bytes, fields_bytes};
-ghost use Rattle.wire_encode.specs.Written.{StandBefore, AllAscend, FieldsAscend, record_bytes, entry_bytes};
+ghost use Rattle.mrpc_table.specs.declared.table.Field.{Field};
+ghost use Rattle.wire_base.specs.Encoding.{varint, tag, delimited, kind_at, label_at, number_bytes, item_bytes, joined_bytes, records_bytes, entries_bytes, content_bytes, fields_bytes};
+ghost use Rattle.wire_encode.specs.Written.{AllAscend, FieldsAscend, record_bytes, entry_bytes};
 
-use crate::look_up::{fields_of, key_kind, message_of, type_of, wire_type_of};
-use mrpc_table::{Entries, Field, FieldValue, Kind, Label, Table, Tree, Value, Values};
-use wire_base::{Spelling, zigzag};
+use crate::look_up::{fields_of, key_kind, message_of, type_near, wire_type_of};
+use crate::output::Output;
+use mrpc_table::{Entries, Field, FieldValue, Kind, Label, Memory, Table, Tree, Value, Values};
+use wire_base::zigzag;
 
 /// Writes a message.
 #[cycle(write)]
 pub fn write_message(
-    out: &mut [u8],
-    end: usize,
+    out: &mut Output,
     tree: &Tree,
     table: &Table,
     fields: &[Field],
-) -> usize
+) -> Result<(), Memory>
     requires all { AllAscend table.now }
     requires ascend { FieldsAscend fields.now }
-    requires room { length (fields_bytes table.now fields.now tree.now) ≤ end }
-    requires within { end ≤ length out.old }
-    ensures { StandBefore out.old out.new end result (fields_bytes table.now fields.now tree.now) }
+    ensures { OnOk result (out.new ≡ fields_bytes table.now fields.now tree.now ++ out.old) }
 {
     let parts = &tree.fields;
-    let mut start = end;
+    let mut behind = fields.len();
     for place in (0..parts.len()).rev() {
         let field = &parts[place];
-        start = write_field(out, start, &field.1, table, fields, field.0);
+        let (kind, label, at) = type_near(fields, field.0, behind.saturating_sub(1));
+        behind = at;
+        write_field(out, &field.1, table, field.0, kind, label)?;
     }
-    start
+    Ok(())
 }
 
-/// Writes what a field has.
+/// Writes what a field of this kind and label has.
 #[cycle(write)]
 fn write_field(
-    out: &mut [u8],
-    end: usize,
+    out: &mut Output,
     content: &FieldValue,
     table: &Table,
-    fields: &[Field],
     number: u32,
-) -> usize
-    requires all { AllAscend table.now }
-    requires ascend { FieldsAscend fields.now }
-    requires room { length (content_bytes table.now fields.now number (content_of content.now)) ≤ end }
-    requires within { end ≤ length out.old }
-    ensures { StandBefore out.old out.new end result
-        (content_bytes table.now fields.now number (content_of content.now)) }
+    kind: Kind,
+    label: Label,
+) -> Result<(), Memory>
+    requires { AllAscend table.now }
+    ensures { (fs : List Field) → kind ≡ kind_at fs number → label ≡ label_at fs number
+        → OnOk result (out.new ≡ content_bytes table.now fs number (content_of content.now) ++ out.old) }
 {
-    let (kind, label) = type_of(fields, number);
     match content {
-        FieldValue::One(value) => {
-            let start = write_value(out, end, value, table, kind);
-            write_tag(out, start, number, wire_type_of(kind))
-        }
+        FieldValue::One(value) => write_record(out, value, table, number, kind),
         FieldValue::Many(values) => match label {
-            Label::Packed => {
-                let first = write_joined(out, end, values, table, kind);
-                let start = write_varint(out, first, (end - first) as u64);
-                write_tag(out, start, number, 2)
-            }
-            _ => write_records(out, end, values, table, number, kind),
+            Label::Packed => write_packed(out, values, table, number, kind),
+            _ => write_records(out, values, table, number, kind),
         },
         FieldValue::Pairs(entries) => {
-            write_entries(out, end, entries, table, number, key_kind(label), kind)
+            write_entries(out, entries, table, number, key_kind(label), kind)
         }
     }
+}
+
+/// Writes the record of a packed field.
+#[cycle(write)]
+fn write_packed(
+    out: &mut Output,
+    values: &Values,
+    table: &Table,
+    number: u32,
+    kind: Kind,
+) -> Result<(), Memory>
+    requires { AllAscend table.now }
+    ensures { OnOk result (out.new
+        ≡ (tag number 2 ++ delimited (joined_bytes table.now kind (items_of values.now.items))) ++ out.old) }
+{
+    let behind = out.len();
+    write_joined(out, values, table, kind)?;
+    write_length(out, behind)?;
+    write_tag(out, number, 2)
 }
 
 /// Writes the elements of a packed field.
 #[cycle(write)]
-fn write_joined(out: &mut [u8], end: usize, values: &Values, table: &Table, kind: Kind) -> usize
-    requires all { AllAscend table.now }
-    requires room { length (joined_bytes table.now kind (items_of values.now.items)) ≤ end }
-    requires within { end ≤ length out.old }
-    ensures { StandBefore out.old out.new end result
-        (joined_bytes table.now kind (items_of values.now.items)) }
+fn write_joined(out: &mut Output, values: &Values, table: &Table, kind: Kind) -> Result<(), Memory>
+    requires { AllAscend table.now }
+    ensures { OnOk result (out.new ≡ joined_bytes table.now kind (items_of values.now.items) ++ out.old) }
 {
-    let mut start = end;
     for place in (0..values.len()).rev() {
         let value = &values[place];
-        start = write_value(out, start, value, table, kind);
+        write_value(out, value, table, kind)?;
     }
-    start
+    Ok(())
 }
 
 /// Writes a record for each element.
 #[cycle(write)]
 fn write_records(
-    out: &mut [u8],
-    end: usize,
+    out: &mut Output,
     values: &Values,
     table: &Table,
     number: u32,
     kind: Kind,
-) -> usize
-    requires all { AllAscend table.now }
-    requires room { length (records_bytes table.now number kind (items_of values.now.items)) ≤ end }
-    requires within { end ≤ length out.old }
-    ensures { StandBefore out.old out.new end result
-        (records_bytes table.now number kind (items_of values.now.items)) }
+) -> Result<(), Memory>
+    requires { AllAscend table.now }
+    ensures { OnOk result (out.new ≡ records_bytes table.now number kind (items_of values.now.items) ++ out.old) }
 {
-    let mut start = end;
     for place in (0..values.len()).rev() {
         let value = &values[place];
-        start = write_record(out, start, value, table, number, kind);
+        write_record(out, value, table, number, kind)?;
     }
-    start
+    Ok(())
 }
 
 /// Writes the record of a value.
 #[cycle(write)]
 fn write_record(
-    out: &mut [u8],
-    end: usize,
+    out: &mut Output,
     value: &Value,
     table: &Table,
     number: u32,
     kind: Kind,
-) -> usize
-    requires all { AllAscend table.now }
-    requires room { length (record_bytes table.now number kind (item_of value.now)) ≤ end }
-    requires within { end ≤ length out.old }
-    ensures { StandBefore out.old out.new end result
-        (record_bytes table.now number kind (item_of value.now)) }
+) -> Result<(), Memory>
+    requires { AllAscend table.now }
+    ensures { OnOk result (out.new ≡ record_bytes table.now number kind (item_of value.now) ++ out.old) }
 {
-    let start = write_value(out, end, value, table, kind);
-    write_tag(out, start, number, wire_type_of(kind))
+    write_value(out, value, table, kind)?;
+    write_tag(out, number, wire_type_of(kind))
 }
 
 /// Writes a record for each entry.
 #[cycle(write)]
 fn write_entries(
-    out: &mut [u8],
-    end: usize,
+    out: &mut Output,
     entries: &Entries,
     table: &Table,
     number: u32,
     key: Kind,
     kind: Kind,
-) -> usize
-    requires all { AllAscend table.now }
-    requires room { length (entries_bytes table.now number key kind (pairs_of entries.now.items)) ≤ end }
-    requires within { end ≤ length out.old }
-    ensures { StandBefore out.old out.new end result
-        (entries_bytes table.now number key kind (pairs_of entries.now.items)) }
+) -> Result<(), Memory>
+    requires { AllAscend table.now }
+    ensures { OnOk result (out.new ≡ entries_bytes table.now number key kind (pairs_of entries.now.items) ++ out.old) }
 {
-    let mut start = end;
     for place in (0..entries.len()).rev() {
         let entry = &entries[place];
-        start = write_entry(out, start, entry, table, number, key, kind);
+        write_entry(out, entry, table, number, key, kind)?;
     }
-    start
+    Ok(())
 }
 
 /// Writes the record of an entry.
 #[cycle(write)]
 fn write_entry(
-    out: &mut [u8],
-    end: usize,
+    out: &mut Output,
     entry: &(Value, Value),
     table: &Table,
     number: u32,
     key: Kind,
     kind: Kind,
-) -> usize
-    requires all { AllAscend table.now }
-    requires room { length
-        (entry_bytes table.now number key kind (item_of entry.now.0) (item_of entry.now.1)) ≤ end }
-    requires within { end ≤ length out.old }
-    ensures { StandBefore out.old out.new end result
-        (entry_bytes table.now number key kind (item_of entry.now.0) (item_of entry.now.1)) }
+) -> Result<(), Memory>
+    requires { AllAscend table.now }
+    ensures { OnOk result
+        (out.new ≡ entry_bytes table.now number key kind (item_of entry.now.0) (item_of entry.now.1) ++ out.old) }
 {
-    let middle = write_record(out, end, &entry.1, table, 2, kind);
-    let first = write_record(out, middle, &entry.0, table, 1, key);
-    let behind = write_varint(out, first, (end - first) as u64);
-    write_tag(out, behind, number, 2)
+    let behind = out.len();
+    write_record(out, &entry.1, table, 2, kind)?;
+    write_record(out, &entry.0, table, 1, key)?;
+    write_length(out, behind)?;
+    write_tag(out, number, 2)
 }
 
 /// Writes a value without its tag.
 #[cycle(write)]
-fn write_value(out: &mut [u8], end: usize, value: &Value, table: &Table, kind: Kind) -> usize
-    requires all { AllAscend table.now }
-    requires room { length (item_bytes table.now kind (item_of value.now)) ≤ end }
-    requires within { end ≤ length out.old }
-    ensures { StandBefore out.old out.new end result
-        (item_bytes table.now kind (item_of value.now)) }
+fn write_value(out: &mut Output, value: &Value, table: &Table, kind: Kind) -> Result<(), Memory>
+    requires { AllAscend table.now }
+    ensures { OnOk result (out.new ≡ item_bytes table.now kind (item_of value.now) ++ out.old) }
 {
     match value {
-        Value::Number(n) => write_number(out, end, kind, *n),
+        Value::Number(n) => write_number(out, kind, *n),
         Value::Run(bytes) => {
-            let first = put_before(out, end, bytes.as_slice());
-            write_varint(out, first, (end - first) as u64)
+            out.put(bytes.as_slice())?;
+            out.put_varint(bytes.len() as u64)
         }
         Value::Node(tree) => {
-            let fields = fields_of(table, message_of(kind));
-            let first = write_message(out, end, tree, table, fields);
-            write_varint(out, first, (end - first) as u64)
+            let behind = out.len();
+            write_message(out, tree, table, fields_of(table, message_of(kind)))?;
+            write_length(out, behind)
         }
     }
 }
 
+/// Writes how many bytes were written since there were so many.
+fn write_length(out: &mut Output, behind: usize) -> Result<(), Memory>
+    requires { behind ≤ length out.old }
+    ensures { OnOk result (out.new ≡ varint (length out.old - behind) ++ out.old) }
+{
+    let len = out.len() - behind;
+    out.put_varint(len as u64)
+}
+
 /// Writes a number of the kind.
-fn write_number(out: &mut [u8], end: usize, kind: Kind, n: u64) -> usize
-    requires room { length (number_bytes kind n) ≤ end }
-    requires within { end ≤ length out.old }
-    ensures { StandBefore out.old out.new end result (number_bytes kind n) }
+fn write_number(out: &mut Output, kind: Kind, n: u64) -> Result<(), Memory>
+    ensures { OnOk result (out.new ≡ number_bytes kind n ++ out.old) }
 {
     match kind {
-        Kind::Fixed64 | Kind::Sfixed64 | Kind::Double => put_before(out, end, &n.to_le_bytes()),
-        Kind::Fixed32 | Kind::Sfixed32 | Kind::Float => put_before(out, end, &n.to_le_bytes()[..4]),
-        Kind::Sint32 | Kind::Sint64 => write_varint(out, end, zigzag(n.cast_signed())),
-        _ => write_varint(out, end, n),
+        Kind::Fixed64 | Kind::Sfixed64 | Kind::Double => out.put(&n.to_le_bytes()),
+        Kind::Fixed32 | Kind::Sfixed32 | Kind::Float => out.put(&n.to_le_bytes()[..4]),
+        Kind::Sint32 | Kind::Sint64 => out.put_varint(zigzag(n.cast_signed())),
+        _ => out.put_varint(n),
     }
 }
 
 /// Writes a tag.
-fn write_tag(out: &mut [u8], end: usize, number: u32, wire_type: u64) -> usize
-    requires known { wire_type < 8 }
-    requires room { length (tag number wire_type) ≤ end }
-    requires within { end ≤ length out.old }
-    ensures { StandBefore out.old out.new end result (tag number wire_type) }
+fn write_tag(out: &mut Output, number: u32, wire_type: u64) -> Result<(), Memory>
+    requires { wire_type < 8 }
+    ensures { OnOk result (out.new ≡ tag number wire_type ++ out.old) }
 {
-    write_varint(out, end, 8 * u64::from(number) + wire_type)
-}
-
-/// Writes the shortest varint of a number.
-fn write_varint(out: &mut [u8], end: usize, v: u64) -> usize
-    requires room { length (varint v) ≤ end }
-    requires within { end ≤ length out.old }
-    ensures { StandBefore out.old out.new end result (varint v) }
-{
-    if v < 128 {
-        out[end - 1] = v as u8;
-        return end - 1;
-    }
-    let spelling = Spelling::of(v);
-    put_before(out, end, spelling.as_slice())
-}
-
-/// Writes bytes.
-fn put_before(out: &mut [u8], end: usize, bytes: &[u8]) -> usize
-    requires room { length bytes.now ≤ end }
-    requires within { end ≤ length out.old }
-    ensures { StandBefore out.old out.new end result bytes.now }
-{
-    let start = end - bytes.len();
-    out[start..end].copy_from_slice(bytes);
-    start
+    out.put_varint(8 * u64::from(number) + wire_type)
 }

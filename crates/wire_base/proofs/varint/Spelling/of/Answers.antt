@@ -10,17 +10,17 @@ loop-place-preserved c =
     record {
       sized = length-set c.loop-place.bytes i (c.loop-place.rest % 128 + 128) ∙ was.sized;
       small = rest-small i c.loop-place.rest c.args.v was.small;
-      spelled = groups-written c.loop-place.bytes i _ c.loop-place.rest _ c.args.v c.loop-place-test.true was.sized c.if-rest-lt128.false refl refl was.spelled;
+      spelled = groups-written c.loop-place.bytes i _ c.loop-place.rest _ c.args.v c.loop-place-test.true (let s = was.sized in omega (arith, s, c.loop-place-test.true)) c.if-rest-lt128.false refl refl was.spelled;
     }
 
 written-short : (bytes : List ℕ) (i n v : ℕ) → i < 10 → length bytes ≡ 10 → n < 128 → take i bytes ++ groups (9 - i) n ≡ groups 9 v → take (i + 1) (set bytes i n) ≡ varint v
 unfolding varint
-written-short bytes i n v near long small was = groups-done bytes i n v near long (groups-small (9 - i) n small) was
+written-short bytes i n v near long small was = groups-done bytes i n v near (omega (arith, near, long)) (groups-small (9 - i) n small) was
 
 written-long : (bytes : List ℕ) (i n v : ℕ) → i ≡ 9 → length bytes ≡ 10 → take i bytes ++ groups (9 - i) n ≡ groups 9 v → take 10 (set bytes 9 n) ≡ varint v
 unfolding varint
 written-long bytes i n v end long was =
-    ap (λ k. take (k + 1) (set bytes k n)) (sym end) ∙ groups-done bytes i n v (omega arith) long (groups-end i n (omega arith)) was
+    ap (λ k. take (k + 1) (set bytes k n)) (sym end) ∙ groups-done bytes i n v (omega arith) (omega (arith, end, long)) (groups-end i n (omega arith)) was
 
 pub returns-then-rest-lt128 : goal.returns-then-rest-lt128
 returns-then-rest-lt128 c =

@@ -2,7 +2,7 @@ use Rattle.std.proofs.Common.{◌≡◌, ◌+◌, ◌-◌, ◌≤◌, [], ◌∷
 use Rattle.std.proofs.lemmas.List.{drop-set}
 use Rattle.wire_base.specs.Encoding.{varint}
 use Rattle.wire_encode.proofs.ShortVarints.{varint-small, length-varint-least}
-use Rattle.wire_encode.proofs.write.write_varint.Goals as goal
+use Rattle.wire_encode.proofs.output.write_varint.Goals as goal
 
 pub overflow_sub-out : goal.overflow_sub-out
 overflow_sub-out c = omega (arith, length-varint-least c.args.v, c.requires.room)

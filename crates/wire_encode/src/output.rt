@@ -1,0 +1,139 @@
+//! Bytes that are written from the last one to the first.
+
+ghost use Rattle.std.specs.Prelude.{◌≡◌, ℕ, ◌+◌, ◌-◌, ◌≤◌, [], ◌++◌, length, drop, IfOk, OnOk};
+ghost use Rattle.wire_base.specs.Encoding.{varint};
+ghost use Rattle.wire_encode.specs.Written.{StandBefore};
+
+use mrpc_table::{Bytes, Memory};
+use std::alloc::Global;
+use std::marker::Model;
+use wire_base::{MAX_VARINT, fill_varint, varint_is_read_back, varint_len};
+
+/// How many bytes there is room for at first.
+const FIRST_ROOM: usize = 256;
+
+/// What was written so far. Each call writes its bytes in front of that, so that the length of a message is known when
+/// it is to be written. Where there is too little room it doubles, so that the time goes with the bytes.
+#[derive(Drop)]
+pub struct Output {
+    alloc: Global,
+    /// What was written stands from `start` on.
+    bytes: Vec<u8>,
+    start: usize,
+}
+
+impl Model for Output {
+    ghost use Rattle.std.specs.Prelude.{ℕ, List, ◌≤◌, length, drop};
+
+    ghost Value = { List ℕ };
+
+    ghost view = { λ o. drop o.start o.bytes.items };
+
+    ghost invariant = { λ o. o.start ≤ length o.bytes.items };
+}
+
+impl Output {
+    /// Nothing yet.
+    pub fn new(alloc: Global) -> Result<Output, Memory>
+        ensures { IfOk result (λ out. out ≡ []) }
+    {
+        Ok(Output {
+            alloc,
+            bytes: vec![in alloc; 0u8; FIRST_ROOM]?,
+            start: FIRST_ROOM,
+        })
+    }
+
+    /// How many bytes were written.
+    pub fn len(&self) -> usize
+        ensures { result ≡ length self.now }
+    {
+        self.bytes.len() - self.start
+    }
+
+    /// What was written.
+    pub fn into_bytes(self) -> Bytes
+        ensures { result ≡ self }
+    {
+        let mut bytes = self.bytes;
+        let len = bytes.len() - self.start;
+        bytes.copy_within(self.start.., 0);
+        bytes.truncate(len);
+        Bytes::from_vec(bytes)
+    }
+
+    /// Writes bytes.
+    pub fn put(&mut self, bytes: &[u8]) -> Result<(), Memory>
+        ensures { OnOk result (self.new ≡ bytes.now ++ self.old) }
+    {
+        if self.start < bytes.len() {
+            make_room(self.alloc, &mut self.bytes, &mut self.start, bytes.len())?;
+        }
+        self.start = put_before(&mut self.bytes, self.start, bytes);
+        Ok(())
+    }
+
+    /// Writes the shortest varint of a number.
+    pub fn put_varint(&mut self, v: u64) -> Result<(), Memory>
+        ensures { OnOk result (self.new ≡ varint v ++ self.old) }
+    {
+        varint_is_read_back();
+        if self.start < MAX_VARINT {
+            make_room(self.alloc, &mut self.bytes, &mut self.start, MAX_VARINT)?;
+        }
+        self.start = write_varint(&mut self.bytes, self.start, v);
+        Ok(())
+    }
+}
+
+/// Moves the bytes from `start` on to the end of a longer buffer, where they begin behind so many bytes at the least.
+/// The buffer doubles at the least.
+#[inline(never)]
+fn make_room(
+    alloc: Global,
+    bytes: &mut Vec<u8>,
+    start: &mut usize,
+    more: usize,
+) -> Result<(), Memory>
+    requires { start.old ≤ length bytes.old.items }
+    ensures room { OnOk result (more ≤ start.new) }
+    ensures within { start.new ≤ length bytes.new.items }
+    ensures same { drop start.new bytes.new.items ≡ drop start.old bytes.old.items }
+{
+    let written = &bytes[*start..];
+    let Some(least) = written.len().checked_add(more) else {
+        return Err(Memory);
+    };
+    let size = least.max(bytes.len().saturating_mul(2));
+    let mut longer = vec![in alloc; 0u8; size]?;
+    let place = put_before(&mut longer, size, written);
+    *bytes = longer;
+    *start = place;
+    Ok(())
+}
+
+/// Writes the shortest varint of a number, so that it ends before the place `end`, and says where it begins.
+fn write_varint(out: &mut [u8], end: usize, v: u64) -> usize
+    requires room { length (varint v) ≤ end }
+    requires within { end ≤ length out.old }
+    ensures { StandBefore out.old out.new end result (varint v) }
+{
+    if v < 128 {
+        out[end - 1] = v as u8;
+        return end - 1;
+    }
+    let start = end - varint_len(v);
+    fill_varint(&mut out[start..end], v);
+    start
+}
+
+/// The same for bytes.
+fn put_before(out: &mut [u8], end: usize, bytes: &[u8]) -> usize
+    requires room { length bytes.now ≤ end }
+    requires within { end ≤ length out.old }
+    ensures { StandBefore out.old out.new end result bytes.now }
+{
+    let start = end - bytes.len();
+    out[start..end].copy_from_slice(bytes);
+    start
+}
