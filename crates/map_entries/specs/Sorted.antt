@@ -2,7 +2,7 @@
 use Rattle.std.specs.Prelude.{◌≡◌, ◌≢◌, ℕ, ◌<◌, ◌≤◌, false, List, [], ◌∷◌, ◌++◌, length, slice_index_or}
 use Rattle.std.specs.Ordering.{nat_cmp, is_lt}
 use Rattle.std.specs.declared.cmp.Ordering.{Ordering}
-use Rattle.std.specs.declared.cmp.Ordering.TheVariants.{Equal}
+use Rattle.std.specs.declared.cmp.Ordering.TheVariants.{Less, Equal}
 use Rattle.std.specs.Cmp.Lexicographic.{slice_cmp}
 use Rattle.mrpc_table.specs.Node.{Item}
 use Rattle.mrpc_table.specs.View.{item_of}
@@ -32,3 +32,9 @@ pub data IsEntryAdded (k : Kind) (old : List (Value × Value)) (e : Value × Val
       → new ≡ front ++ e ∷ [] → IsEntryAdded k old e new
   appended : ((front : List (Value × Value)) (l : Value × Value) → old ≡ front ++ l ∷ [] → entry_cmp k l e ≢ Equal)
       → new ≡ old ++ e ∷ [] → IsEntryAdded k old e new
+
+-- each key is above the one before it
+abbrev pub KeysRise : Kind → List (Value × Value) → Type 0
+KeysRise k [] = Unit {0}
+KeysRise k (e ∷ []) = Unit {0}
+KeysRise k (e ∷ f ∷ fs) = (entry_cmp k e f ≡ Less) × KeysRise k (f ∷ fs)

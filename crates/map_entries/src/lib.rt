@@ -5,12 +5,12 @@
 //! above use one contract: what is kept of a list of entries is what that definition says.
 #![tactic(auto)]
 
-ghost use Rattle.std.specs.Prelude.{◌≡◌, [], ◌∷◌, ◌++◌, if◌then◌else◌, map, IfOk, OnOk};
+ghost use Rattle.std.specs.Prelude.{◌≡◌, [], ◌∷◌, ◌++◌, if◌then◌else◌, map, IfOk, OnOk, IsTrue};
 ghost use Rattle.std.specs.Ordering.{is_eq};
 ghost use Rattle.mrpc_table.specs.Words.{rank};
 ghost use Rattle.mrpc_table.specs.View.{item_of, pairs_of};
 ghost use Rattle.map_entries.specs.Last.{last_of_each, key_cmp};
-ghost use Rattle.map_entries.specs.Sorted.{AreSorted, IsEntryAdded, items_of_entry};
+ghost use Rattle.map_entries.specs.Sorted.{AreSorted, KeysRise, IsEntryAdded, items_of_entry};
 
 mod laws;
 
@@ -25,9 +25,24 @@ pub fn last_of_each(alloc: Global, entries: Entries, key: Kind) -> Result<Entrie
     ensures { IfOk result
         (λ ps. pairs_of ps.items ≡ last_of_each key (map items_of_entry entries.items)) }
 {
+    if ascends(&entries, key) {
+        return Ok(entries);
+    }
     let mut sorted = entries;
     sorted.sort_by(|a, b| compare(key, &a.0, &b.0))?;
     last_of_sorted(alloc, sorted, key)
+}
+
+/// Whether each key is above the one before it.
+fn ascends(entries: &Entries, key: Kind) -> bool
+    ensures { IsTrue result → KeysRise key entries.now.items }
+{
+    for place in 1..entries.len() {
+        if !compare(key, &entries[place - 1].0, &entries[place].0).is_lt() {
+            return false;
+        }
+    }
+    true
 }
 
 /// The same, where equal keys stand one behind another in ascending order.

@@ -7,6 +7,7 @@ use Rattle.std.proofs.lemmas.Result.{IfOk-weaker}
 use Rattle.mrpc_table.specs.View.{pairs_of}
 use Rattle.map_entries.specs.Sorted.{code}
 use Rattle.map_entries.proofs.Keeping.{below, stable-made, made-pairs}
+use Rattle.map_entries.proofs.Rising.{rise-kept}
 use Rattle.map_entries.proofs.last_of_each.Goals as goal
 
 pub last_of_sorted-requires : goal.last_of_sorted-requires
@@ -23,3 +24,6 @@ returns c =
     let order = ranks_by nat_list_cmp_total (code k) in
     let stable = c.in_ok-sort_by.ensures.stable (below k) order (always_returns_same _ _ _ (λ a r q called. search rules)) in
     IfOk-weaker c.last_of_sorted.result _ _ (λ ps h. h ∙ sym (made-pairs k sorted) ∙ ap pairs_of (stable-made k es sorted stable) ∙ made-pairs k es) c.last_of_sorted.ensures
+
+pub returns-then-ascends : goal.returns-then-ascends
+returns-then-ascends c = rise-kept c.args.key c.args.entries.items (c.ascends.ensures c.if-ascends.true)
