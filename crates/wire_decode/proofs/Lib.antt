@@ -14,6 +14,8 @@ mod Merging
 mod NormalMeaning
 mod Oneofs
 mod Only
+mod Orderly
+mod OrderlyValues
 mod Payloads
 mod Plainness
 mod RawTree

@@ -4,6 +4,7 @@ pub mod Faults
 pub mod Gathered
 pub mod Means
 pub mod Merged
+pub mod Ordered
 pub mod Parts
 pub mod Reads
 pub mod Reason

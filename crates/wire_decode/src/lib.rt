@@ -1,9 +1,10 @@
 //! The decoder: the message that Protocol Buffers bytes mean, or the first fault in them.
 //!
-//! The format is that of the Protocol Buffers encoding guide. Bytes are read in one pass into the
-//! contents of their records, in order; then each field has its value from its own records, and the
-//! tree comes with its fields by ascending number. Both take time in proportion to the bytes, but for
-//! sorting the entries of maps. `specs/Means.antt` says what bytes mean, `specs/Faults.antt` which
+//! The format is that of the Protocol Buffers encoding guide. Where the records come in the order of
+//! the fields, as encoders write them, they are read straight into the tree. Others are read in one
+//! pass into the contents of their records, in order; then each field has its value from its own
+//! records, and the tree comes with its fields by ascending number. All takes time in proportion to
+//! the bytes, but for sorting the entries of maps. `specs/Means.antt` says what bytes mean, `specs/Faults.antt` which
 //! fault is the first one. It stands on `mrpc_table` and `wire_base`. The layers above use one
 //! contract: the answer is the meaning, or the first fault exactly where there is no meaning.
 #![tactic(auto)]
@@ -23,10 +24,12 @@ mod look_up;
 mod merge;
 mod number;
 mod oneof;
+mod ordered;
 mod read;
 
 use crate::look_up::fields_of;
 use crate::merge::merged;
+use crate::ordered::ordered_message;
 use crate::read::read_message;
 pub use fault::{DecodeFault, DecodeReason};
 pub use laws::{meaning_is_normal, meaning_of_encoding, meaning_or_fault, one_fault, one_meaning};
@@ -59,6 +62,22 @@ pub fn decode(alloc: Global, bytes: &[u8], table: &Table, msg: u32) -> Result<Tr
 
 /// The same for any table whose fields stand in order.
 fn decoded(alloc: Global, bytes: &[u8], table: &Table, msg: u32) -> Result<Tree, DecodeFault>
+    requires { AllAscend table.now }
+    ensures means { IfOk result (λ t. Means table.now msg bytes.now t) }
+    ensures fault { IfErr result (FaultsAs (IsFirstFault table.now msg bytes.now)) }
+    ensures only { (t : Node) → Means table.now msg bytes.now t
+        → MatchResult result (λ u. u ≡ t) (λ f. f ≡ DecodeFault.Memory) }
+{
+    one_meaning();
+    let fields = fields_of(table, msg);
+    match ordered_message(alloc, bytes, 0, table, fields, MAX_DEPTH - 1) {
+        Some(fields) => Ok(Tree { fields }),
+        None => merged_records(alloc, bytes, table, msg),
+    }
+}
+
+/// The same for records in any order.
+fn merged_records(alloc: Global, bytes: &[u8], table: &Table, msg: u32) -> Result<Tree, DecodeFault>
     requires { AllAscend table.now }
     ensures means { IfOk result (λ t. Means table.now msg bytes.now t) }
     ensures fault { IfErr result (FaultsAs (IsFirstFault table.now msg bytes.now)) }

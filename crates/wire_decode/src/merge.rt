@@ -159,7 +159,7 @@ fn finish(
 }
 
 /// Appends what a field has, if it has something.
-fn push_content(
+pub fn push_content(
     whole: &mut Numbered,
     number: u32,
     content: Option<FieldValue>,
@@ -214,7 +214,7 @@ fn field_content(
 }
 
 /// The elements of a repeated field, if there is one.
-fn many(values: Values) -> Option<FieldValue>
+pub fn many(values: Values) -> Option<FieldValue>
     ensures { option_map content_of result ≡ some_items (map item_of values.items) }
 {
     if values.is_empty() {
@@ -225,7 +225,7 @@ fn many(values: Values) -> Option<FieldValue>
 }
 
 /// The entries of a map, if there is one.
-fn pairs(entries: Entries) -> Option<FieldValue>
+pub fn pairs(entries: Entries) -> Option<FieldValue>
     ensures { option_map content_of result ≡ some_pairs (pairs_of entries.items) }
 {
     if entries.is_empty() {
@@ -236,7 +236,7 @@ fn pairs(entries: Entries) -> Option<FieldValue>
 }
 
 /// The value of a field with explicit presence.
-fn present(value: Option<Value>) -> Option<FieldValue>
+pub fn present(value: Option<Value>) -> Option<FieldValue>
     ensures { option_map content_of result ≡ present (option_map item_of value) }
 {
     match value {
@@ -246,7 +246,7 @@ fn present(value: Option<Value>) -> Option<FieldValue>
 }
 
 /// The value of a field with implicit presence: a default is nothing.
-fn present_if_set(value: Option<Value>) -> Option<FieldValue>
+pub fn present_if_set(value: Option<Value>) -> Option<FieldValue>
     ensures { option_map content_of result ≡ present_if_set (option_map item_of value) }
 {
     match value {

@@ -202,10 +202,18 @@ fn text(alloc: Global, bytes: &[u8], place: usize) -> Result<FieldValue, DecodeF
     ensures fault { IfErr result
         (FaultsAs (λ reason at. (reason ≡ Utf8) × (at ≡ place) × (IsUtf8 bytes.now → ⊥))) }
 {
-    if str::from_utf8(bytes).is_err() {
+    if !is_text(bytes) {
         return Err(fault(DecodeReason::Utf8, place));
     }
     octets(alloc, bytes)
+}
+
+/// Whether bytes are UTF-8. Mostly they are ASCII, which is soon seen.
+pub fn is_text(bytes: &[u8]) -> bool
+    ensures yes { result ≡ true → IsUtf8 bytes.now }
+    ensures no { result ≡ false → IsUtf8 bytes.now → ⊥ }
+{
+    bytes.is_ascii() || str::from_utf8(bytes).is_ok()
 }
 
 /// Bytes.
@@ -230,7 +238,12 @@ fn packed(alloc: Global, bytes: &[u8], start: usize, kind: Kind) -> Result<Field
 }
 
 /// The elements of a packed piece.
-fn elements(alloc: Global, bytes: &[u8], start: usize, kind: Kind) -> Result<Values, DecodeFault>
+pub fn elements(
+    alloc: Global,
+    bytes: &[u8],
+    start: usize,
+    kind: Kind,
+) -> Result<Values, DecodeFault>
     requires place { start ≤ length bytes.now }
     requires numeric { is_numeric kind ≡ true }
     ensures found { IfOk result
@@ -240,7 +253,7 @@ fn elements(alloc: Global, bytes: &[u8], start: usize, kind: Kind) -> Result<Val
 {
     payload_or_reason();
     let wire_type = wire_type_of(kind);
-    let mut values = Vec::new(alloc);
+    let mut values = Vec::with_capacity(alloc, element_count(&bytes[start..], wire_type))?;
     let mut at = start;
     while at < bytes.len() {
         let (v, next) = match element(bytes, at, wire_type) {
@@ -253,8 +266,28 @@ fn elements(alloc: Global, bytes: &[u8], start: usize, kind: Kind) -> Result<Val
     Ok(values)
 }
 
+/// How many elements of the wire type a packed piece has that is whole: so many find room.
+fn element_count(bytes: &[u8], wire_type: u8) -> usize {
+    match wire_type {
+        1 => bytes.len() / 8,
+        5 => bytes.len() / 4,
+        _ => ends_of_varints(bytes),
+    }
+}
+
+/// How many bytes end a varint.
+fn ends_of_varints(bytes: &[u8]) -> usize
+    ensures { result ≤ length bytes.now }
+{
+    let mut count = 0;
+    for byte in bytes {
+        count += usize::from(*byte < 128);
+    }
+    count
+}
+
 /// A number of the wire type at a place, and the place behind it.
-fn element(bytes: &[u8], at: usize, wire_type: u8) -> Option<(u64, usize)>
+pub fn element(bytes: &[u8], at: usize, wire_type: u8) -> Option<(u64, usize)>
     requires place { at ≤ length bytes.now }
     requires fixed { IsFixedOrVarint wire_type }
     ensures found { IfSome result

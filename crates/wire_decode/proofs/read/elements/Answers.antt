@@ -6,7 +6,7 @@ use Rattle.mrpc_table.specs.Node.{push_item, number}
 use Rattle.mrpc_table.specs.View.{items_of}
 use Rattle.wire_decode.proofs.Views.{items_of-last}
 use Rattle.mrpc_table.specs.declared.tree.Value.TheVariants.{Number}
-use Rattle.wire_decode.proofs.Elements.{IsElement, sofar-more, sofar-end, sofar-stuck, numbers-last}
+use Rattle.wire_decode.proofs.Elements.{IsElement, sofar-start, sofar-more, sofar-end, sofar-stuck, numbers-last}
 use Rattle.wire_decode.proofs.Faulty.{faults_as}
 use Rattle.wire_decode.proofs.read.elements.Goals as goal
 
@@ -28,3 +28,6 @@ pub returns-clause-found : goal.returns-clause-found
 returns-clause-found c =
     let ends : c.loop-at.at ≡ length c.args.bytes.now = omega (arith, c.loop-at-test.false, c.loop-at.invariant.0) in
     (c.loop-at.invariant.1, sofar-end c.args.kind c.args.bytes.now c.args.start c.loop-at.at c.loop-at.invariant.1 ends c.loop-at.invariant.2, c.loop-at.invariant.3)
+
+pub loop-at-init : goal.loop-at-init
+loop-at-init c = (c.requires.place, [], sofar-start c.args.kind c.args.bytes.now c.args.start, ap items_of c.in_ok-values.ensures.items)

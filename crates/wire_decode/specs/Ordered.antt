@@ -1,0 +1,95 @@
+-- What a reader finds that reads records straight into the tree that they mean.
+use Rattle.std.specs.Prelude.{◌≡◌, ℕ, ◌+◌, ◌/◌, ◌%◌, nat_le, Bool, true, false, Option, Some, List, [], ◌∷◌, ◌++◌, map}
+use Rattle.mrpc_table.specs.Node.{Node, no_fields, Content, one, Item, node}
+use Rattle.mrpc_table.specs.declared.table.Kind.{Kind}
+use Rattle.mrpc_table.specs.declared.table.Kind.TheVariants.{Text, Octets}
+use Rattle.mrpc_table.specs.declared.table.Label.{Label}
+use Rattle.mrpc_table.specs.declared.table.Label.TheVariants.{Plain, Optional, Map, Member}
+use Rattle.mrpc_table.specs.declared.table.Field.{Field}
+use Rattle.mrpc_table.specs.declared.table.Table.{Table}
+use Rattle.wire_base.specs.Records.{TagAt, PayloadAt}
+use Rattle.wire_base.specs.declared.records.Payload.{Payload}
+use Rattle.wire_decode.specs.Words.{is_map}
+use Rattle.wire_decode.specs.Reads.{Reads, Holds, HasRoom, entry_fields}
+use Rattle.wire_decode.specs.Merged.{merged, counted, with_fields, with_content, join_fields, field_content, element, entry, present, present_if_set}
+
+-- the fields of the message that the bytes from a place on mean
+pub record IsWhole (T : Table) (room : ℕ) (fs : List Field) (bytes : List ℕ) (at : ℕ) (t : Node) : Type 0 where
+  pub raw : Node
+  pub reads : Reads T room fs bytes at raw
+  pub same : t ≡ with_fields (merged T room) (counted fs raw) fs
+
+-- a value of the kind from the payload of a wire type, and the place behind it
+pub record IsValue (T : Table) (room : ℕ) (k : Kind) (bytes : List ℕ) (at w : ℕ) (i : Item) (next : ℕ) : Type 0 where
+  pub payload : Payload
+  pub held : Item
+  pub stands : PayloadAt bytes at w payload next
+  pub holds : (label : Label) → is_map label ≡ false → Holds T room label k bytes payload (one held)
+  pub has_room : HasRoom room k
+  pub same : i ≡ element (merged T room) k held
+
+-- records with this tag stand from a place on up to another one, and have these contents
+pub data AreRun (T : Table) (room : ℕ) (label : Label) (k : Kind) (bytes : List ℕ) (tag from : ℕ)
+    : List Content → ℕ → Type 0 where
+  none_yet : {cs : List Content} {at : ℕ} → cs ≡ [] → at ≡ from → AreRun T room label k bytes tag from cs at
+  one_more : {cs : List Content} {at : ℕ} (before : List Content) (c : Content) (p : Payload) (middle first : ℕ)
+      → AreRun T room label k bytes tag from before middle → TagAt bytes middle tag first
+      → PayloadAt bytes first (tag % 8) p at → Holds T room label k bytes p c → cs ≡ before ++ c ∷ []
+      → AreRun T room label k bytes tag from cs at
+
+-- the records of a field, of which the first tag ends at `start`, and what they add to the fields in front of them
+pub record IsFieldRead (T : Table) (room : ℕ) (label : Label) (k : Kind) (bytes : List ℕ) (tag start next : ℕ)
+    (old new : Node) : Type 0 where
+  pub contents : List Content
+  pub run : (at : ℕ) → TagAt bytes at tag start → AreRun T room label k bytes tag at contents next
+  pub same : new ≡ join_fields old (with_content (tag / 8) (field_content (merged T room) label k contents) no_fields)
+
+-- values of the kind, a record for each
+pub record AreValues (T : Table) (room : ℕ) (k : Kind) (bytes : List ℕ) (tag start next : ℕ) (is : List Item)
+    : Type 0 where
+  pub held : List Item
+  pub run : (label : Label) → is_map label ≡ false → (at : ℕ) → TagAt bytes at tag start
+      → AreRun T room label k bytes tag at (map one held) next
+  pub same : is ≡ map (element (merged T room) k) held
+
+-- entries of a map, a record for each
+pub record AreEntries (T : Table) (room : ℕ) (key k : Kind) (bytes : List ℕ) (tag start next : ℕ)
+    (es : List (Item × Item)) : Type 0 where
+  pub held : List Item
+  pub run : (at : ℕ) → TagAt bytes at tag start → AreRun T room (Map key) k bytes tag at (map one held) next
+  pub same : es ≡ map (entry (merged T room) key k) held
+
+-- an entry of a map, as a message of its own
+pub record IsPair (T : Table) (room : ℕ) (key k : Kind) (bytes : List ℕ) (at : ℕ) (e : Item × Item) : Type 0 where
+  pub raw : Node
+  pub reads : Reads T room (entry_fields key k) bytes at raw
+  pub has_room : HasRoom room k
+  pub same : e ≡ entry (merged T room) key k (node raw)
+
+-- whether a field of this label may stand behind members of oneofs below this number
+abbrev pub may_follow : Label → ℕ → Bool
+may_follow (Member o) oneofs = nat_le oneofs o
+may_follow _ oneofs = true
+
+-- a number that all oneofs are below of which a member stands there, a field of this label included
+abbrev pub oneofs_with : Label → ℕ → ℕ
+oneofs_with (Member o) oneofs = o + 1
+oneofs_with _ oneofs = oneofs
+
+-- a label of a field that has one value at most
+abbrev pub is_single : Label → Bool
+is_single Plain = true
+is_single Optional = true
+is_single (Member o) = true
+is_single _ = false
+
+-- a kind whose values are runs of bytes
+abbrev pub is_run : Kind → Bool
+is_run Text = true
+is_run Octets = true
+is_run _ = false
+
+-- what a singular field with this value has
+abbrev pub single_content : Label → Item → Option Content
+single_content Plain i = present_if_set (Some i)
+single_content _ i = present (Some i)

@@ -1,0 +1,571 @@
+//! Messages whose records come in order: those of each field behind those of the fields in front of it, and one for
+//! each field but for lists and maps, as encoders write them. They are read straight into the tree that they mean. What
+//! comes otherwise is not read here, and neither is what has a fault.
+
+ghost use Rattle.std.specs.Prelude.{◌≡◌, ℕ, ◌/◌, ◌%◌, ◌<◌, ◌≤◌, length, map, option_map, IfSome, true};
+ghost use Rattle.mrpc_table.specs.View.{item_of, content_of, node_of};
+ghost use Rattle.mrpc_table.specs.declared.table.Kind.TheVariants.{Text, Octets, Message as OfMessage};
+ghost use Rattle.mrpc_table.specs.declared.table.Label.TheVariants.{Map};
+ghost use Rattle.mrpc_table.specs.Words.{is_numeric};
+ghost use Rattle.map_entries.specs.Sorted.{items_of_entry};
+ghost use Rattle.wire_base.specs.Records.{TagAt, PayloadAt};
+ghost use Rattle.wire_base.specs.Encoding.{wire_type_of};
+ghost use Rattle.wire_base.specs.declared.records.Payload.{Payload};
+ghost use Rattle.wire_base.specs.declared.records.Payload.TheVariants.{Len};
+ghost use Rattle.wire_decode.specs.Ascending.{AllAscend, FieldsAscend};
+ghost use Rattle.wire_decode.specs.Words.{is_list, number_in};
+ghost use Rattle.wire_decode.specs.Ordered.{IsWhole, IsValue, IsFieldRead, AreValues, AreEntries, IsPair, may_follow, oneofs_with, is_single, single_content};
+
+use crate::look_up::{fields_of, find_field};
+use crate::merge::{many, pairs, present, present_if_set, push_content};
+use crate::number::{is_numeric, wire_type_of, word_of};
+use crate::read::{element, elements, is_text};
+use map_entries::last_of_each;
+use mrpc_table::{
+    Bytes, Entries, Field, FieldValue, Kind, Label, Numbered, Table, Tree, Value, Values,
+};
+use std::alloc::Global;
+use wire_base::{read_tag, read_varint};
+
+/// The fields of the message, from the place `start` to the end of the bytes, where its records come in order.
+/// `room` more messages may stand in one another inside.
+#[cycle(ordered)]
+pub fn ordered_message(
+    alloc: Global,
+    bytes: &[u8],
+    start: usize,
+    table: &Table,
+    fields: &[Field],
+    room: u32,
+) -> Option<Numbered>
+    requires all { AllAscend table.now }
+    requires ascend { FieldsAscend fields.now }
+    requires place { start ≤ length bytes.now }
+    ensures { IfSome result (λ parts. IsWhole table.now room fields.now bytes.now start (node_of parts.items)) }
+{
+    let most = fields.len().min((bytes.len() - start) / 2);
+    let mut whole = Vec::with_capacity(alloc, most).ok()?;
+    let mut at = start;
+    let mut last = 0;
+    let mut hint = 0;
+    let mut oneofs = 0;
+    while at < bytes.len() {
+        let (tag, behind) = read_tag(bytes, at).ok()?;
+        let number = tag / 8;
+        let place = find_field(fields, number, hint)?;
+        let field = &fields[place];
+        if number <= last || !may_follow(field.label, oneofs) {
+            return None;
+        }
+        let (label, kind) = (field.label, field.kind);
+        at = ordered_field(
+            alloc, &mut whole, bytes, behind, tag, table, label, kind, room,
+        )?;
+        oneofs = oneofs_with(field.label, oneofs);
+        last = number;
+        hint = place.saturating_add(1);
+    }
+    Some(whole)
+}
+
+/// Whether a field of this label may stand behind members of the first so many oneofs: one of them is no rival.
+fn may_follow(label: Label, oneofs: u64) -> bool
+    ensures { result ≡ may_follow label oneofs }
+{
+    match label {
+        Label::Member(oneof) => oneofs <= u64::from(oneof),
+        _ => true,
+    }
+}
+
+/// The number of the first oneofs of which members stand in front, with a field of this label, too.
+fn oneofs_with(label: Label, oneofs: u64) -> u64
+    ensures { result ≡ oneofs_with label oneofs }
+{
+    match label {
+        Label::Member(oneof) => u64::from(oneof) + 1,
+        _ => oneofs,
+    }
+}
+
+/// Appends what a field has whose first tag ends at `start`, and says where its records end.
+#[cycle(ordered)]
+fn ordered_field(
+    alloc: Global,
+    whole: &mut Numbered,
+    bytes: &[u8],
+    start: usize,
+    tag: u32,
+    table: &Table,
+    label: Label,
+    kind: Kind,
+    room: u32,
+) -> Option<usize>
+    requires all { AllAscend table.now }
+    requires place { start ≤ length bytes.now }
+    ensures found { IfSome result
+        (λ next. IsFieldRead table.now room label kind bytes.now tag start next
+        (node_of whole.old.items) (node_of whole.new.items)) }
+    ensures ahead { IfSome result (λ next. start < next) }
+    ensures within { IfSome result (λ next. next ≤ length bytes.now) }
+{
+    match label {
+        Label::Repeated | Label::Packed => {
+            ordered_list(alloc, whole, bytes, start, tag, table, label, kind, room)
+        }
+        Label::Map(key) => ordered_map(alloc, whole, bytes, start, tag, table, key, kind, room),
+        _ => ordered_single(alloc, whole, bytes, start, tag, table, label, kind, room),
+    }
+}
+
+/// The same for a singular field.
+#[cycle(ordered)]
+#[inline(always)]
+fn ordered_single(
+    alloc: Global,
+    whole: &mut Numbered,
+    bytes: &[u8],
+    start: usize,
+    tag: u32,
+    table: &Table,
+    label: Label,
+    kind: Kind,
+    room: u32,
+) -> Option<usize>
+    requires all { AllAscend table.now }
+    requires place { start ≤ length bytes.now }
+    requires single { is_single label ≡ true }
+    ensures found { IfSome result
+        (λ next. IsFieldRead table.now room label kind bytes.now tag start next
+        (node_of whole.old.items) (node_of whole.new.items)) }
+    ensures ahead { IfSome result (λ next. start < next) }
+    ensures within { IfSome result (λ next. next ≤ length bytes.now) }
+{
+    if is_numeric(kind) {
+        return ordered_number(whole, bytes, start, tag, table, label, kind, room);
+    }
+    let (value, next) = ordered_value(alloc, bytes, start, tag, table, kind, room)?;
+    push_content(whole, tag / 8, single_content(label, value)).ok()?;
+    Some(next)
+}
+
+/// The same for a number.
+#[inline(always)]
+fn ordered_number(
+    whole: &mut Numbered,
+    bytes: &[u8],
+    start: usize,
+    tag: u32,
+    table: &Table,
+    label: Label,
+    kind: Kind,
+    room: u32,
+) -> Option<usize>
+    requires place { start ≤ length bytes.now }
+    requires single { is_single label ≡ true }
+    requires numeric { is_numeric kind ≡ true }
+    ensures found { IfSome result
+        (λ next. IsFieldRead table.now room label kind bytes.now tag start next
+        (node_of whole.old.items) (node_of whole.new.items)) }
+    ensures ahead { IfSome result (λ next. start < next) }
+    ensures within { IfSome result (λ next. next ≤ length bytes.now) }
+{
+    let (v, next) = number_at(bytes, start, tag, kind)?;
+    let value = Value::Number(word_of(kind, v));
+    push_content(whole, tag / 8, single_content(label, value)).ok()?;
+    Some(next)
+}
+
+/// What a singular field with this value has: nothing for a default under implicit presence.
+#[inline(always)]
+fn single_content(label: Label, value: Value) -> Option<FieldValue>
+    ensures { option_map content_of result ≡ single_content label (item_of value) }
+{
+    match label {
+        Label::Plain => present_if_set(Some(value)),
+        _ => present(Some(value)),
+    }
+}
+
+/// The same for a repeated field.
+#[cycle(ordered)]
+#[inline(never)]
+fn ordered_list(
+    alloc: Global,
+    whole: &mut Numbered,
+    bytes: &[u8],
+    start: usize,
+    tag: u32,
+    table: &Table,
+    label: Label,
+    kind: Kind,
+    room: u32,
+) -> Option<usize>
+    requires all { AllAscend table.now }
+    requires place { start ≤ length bytes.now }
+    requires list { is_list label ≡ true }
+    ensures found { IfSome result
+        (λ next. IsFieldRead table.now room label kind bytes.now tag start next
+        (node_of whole.old.items) (node_of whole.new.items)) }
+    ensures ahead { IfSome result (λ next. start < next) }
+    ensures within { IfSome result (λ next. next ≤ length bytes.now) }
+{
+    if tag % 8 == 2 && is_numeric(kind) {
+        return ordered_piece(alloc, whole, bytes, start, tag, table, label, kind, room);
+    }
+    let (values, next) = ordered_values(alloc, bytes, start, tag, table, kind, room)?;
+    push_content(whole, tag / 8, many(values)).ok()?;
+    Some(next)
+}
+
+/// The same for numbers in one packed piece.
+fn ordered_piece(
+    alloc: Global,
+    whole: &mut Numbered,
+    bytes: &[u8],
+    start: usize,
+    tag: u32,
+    table: &Table,
+    label: Label,
+    kind: Kind,
+    room: u32,
+) -> Option<usize>
+    requires place { start ≤ length bytes.now }
+    requires list { is_list label ≡ true }
+    requires numeric { is_numeric kind ≡ true }
+    requires delimited { tag % 8 ≡ 2 }
+    ensures found { IfSome result
+        (λ next. IsFieldRead table.now room label kind bytes.now tag start next
+        (node_of whole.old.items) (node_of whole.new.items)) }
+    ensures ahead { IfSome result (λ next. start < next) }
+    ensures within { IfSome result (λ next. next ≤ length bytes.now) }
+{
+    let (first, end) = span_at(bytes, start)?;
+    let values = elements(alloc, &bytes[..end], first, kind).ok()?;
+    push_content(whole, tag / 8, many(values)).ok()?;
+    Some(end)
+}
+
+/// The same for a map.
+#[cycle(ordered)]
+#[inline(never)]
+fn ordered_map(
+    alloc: Global,
+    whole: &mut Numbered,
+    bytes: &[u8],
+    start: usize,
+    tag: u32,
+    table: &Table,
+    key: Kind,
+    kind: Kind,
+    room: u32,
+) -> Option<usize>
+    requires all { AllAscend table.now }
+    requires place { start ≤ length bytes.now }
+    ensures found { IfSome result
+        (λ next. IsFieldRead table.now room (Map key) kind bytes.now tag start next
+        (node_of whole.old.items) (node_of whole.new.items)) }
+    ensures ahead { IfSome result (λ next. start < next) }
+    ensures within { IfSome result (λ next. next ≤ length bytes.now) }
+{
+    let (entries, next) = ordered_entries(alloc, bytes, start, tag, table, key, kind, room)?;
+    let kept = last_of_each(alloc, entries, key).ok()?;
+    push_content(whole, tag / 8, pairs(kept)).ok()?;
+    Some(next)
+}
+
+/// The elements of a repeated field whose first tag ends at `start`, a record for each, and where the records end.
+#[cycle(ordered)]
+fn ordered_values(
+    alloc: Global,
+    bytes: &[u8],
+    start: usize,
+    tag: u32,
+    table: &Table,
+    kind: Kind,
+    room: u32,
+) -> Option<(Values, usize)>
+    requires all { AllAscend table.now }
+    requires place { start ≤ length bytes.now }
+    ensures found { IfSome result (λ r. AreValues table.now room kind bytes.now tag start r.1 (map item_of r.0.items)) }
+    ensures ahead { IfSome result (λ r. start < r.1) }
+    ensures within { IfSome result (λ r. r.1 ≤ length bytes.now) }
+{
+    let mut values = Vec::with_capacity(alloc, records_ahead(bytes, start, tag)).ok()?;
+    let mut first = start;
+    while first <= bytes.len() {
+        let (value, next) = ordered_value(alloc, bytes, first, tag, table, kind, room)?;
+        values.push(value).ok()?;
+        match tag_again(bytes, next, tag) {
+            Some(behind) => first = behind,
+            None => return Some((values, next)),
+        }
+    }
+    None
+}
+
+/// The place behind the same tag, where it stands at a place.
+fn tag_again(bytes: &[u8], at: usize, tag: u32) -> Option<usize>
+    requires { at ≤ length bytes.now }
+    ensures found { IfSome result (λ behind. TagAt bytes.now at tag behind) }
+    ensures ahead { IfSome result (λ behind. at < behind) }
+    ensures within { IfSome result (λ behind. behind ≤ length bytes.now) }
+{
+    let (next, behind) = read_tag(bytes, at).ok()?;
+    if next == tag { Some(behind) } else { None }
+}
+
+/// How many records stand here with this tag, of which the first ends at `start`, for records behind a length; for
+/// others 1. So many values find room.
+fn records_ahead(bytes: &[u8], start: usize, tag: u32) -> usize
+    requires { start ≤ length bytes.now }
+{
+    let mut first = start;
+    for count in 1..bytes.len() {
+        match record_behind(bytes, first, tag) {
+            Some(next) => first = next,
+            None => return count,
+        }
+    }
+    1
+}
+
+/// Where the tag of the next record ends, if it is the same tag.
+fn record_behind(bytes: &[u8], start: usize, tag: u32) -> Option<usize>
+    requires { start ≤ length bytes.now }
+    ensures { IfSome result (λ next. next ≤ length bytes.now) }
+{
+    if tag % 8 != 2 {
+        return None;
+    }
+    let (_, end) = span_at(bytes, start)?;
+    tag_again(bytes, end, tag)
+}
+
+/// The entries of a map whose first tag ends at `start`, and where its records end.
+#[cycle(ordered)]
+fn ordered_entries(
+    alloc: Global,
+    bytes: &[u8],
+    start: usize,
+    tag: u32,
+    table: &Table,
+    key: Kind,
+    kind: Kind,
+    room: u32,
+) -> Option<(Entries, usize)>
+    requires all { AllAscend table.now }
+    requires place { start ≤ length bytes.now }
+    ensures found { IfSome result
+        (λ r. AreEntries table.now room key kind bytes.now tag start r.1 (map items_of_entry r.0.items)) }
+    ensures ahead { IfSome result (λ r. start < r.1) }
+    ensures within { IfSome result (λ r. r.1 ≤ length bytes.now) }
+{
+    if tag % 8 != 2 {
+        return None;
+    }
+    let mut entries = Vec::with_capacity(alloc, records_ahead(bytes, start, tag)).ok()?;
+    let mut first = start;
+    while first <= bytes.len() {
+        let (inside, next) = span_at(bytes, first)?;
+        let entry = ordered_entry(alloc, &bytes[..next], inside, table, key, kind, room)?;
+        entries.push(entry).ok()?;
+        match tag_again(bytes, next, tag) {
+            Some(behind) => first = behind,
+            None => return Some((entries, next)),
+        }
+    }
+    None
+}
+
+/// An entry that has its key and then its value.
+#[cycle(ordered)]
+fn ordered_entry(
+    alloc: Global,
+    bytes: &[u8],
+    start: usize,
+    table: &Table,
+    key: Kind,
+    kind: Kind,
+    room: u32,
+) -> Option<(Value, Value)>
+    requires all { AllAscend table.now }
+    requires place { start ≤ length bytes.now }
+    ensures { IfSome result (λ e. IsPair table.now room key kind bytes.now start (items_of_entry e)) }
+{
+    let (tag, first) = read_tag(bytes, start).ok()?;
+    if tag / 8 != 1 {
+        return None;
+    }
+    let (entry_key, middle) = ordered_value(alloc, bytes, first, tag, table, key, room)?;
+    let (tag, second) = read_tag(bytes, middle).ok()?;
+    if tag / 8 != 2 {
+        return None;
+    }
+    let (value, next) = ordered_value(alloc, bytes, second, tag, table, kind, room)?;
+    if next == bytes.len() {
+        Some((entry_key, value))
+    } else {
+        None
+    }
+}
+
+/// The value behind a tag, and where it ends.
+#[cycle(ordered)]
+#[inline(never)]
+fn ordered_value(
+    alloc: Global,
+    bytes: &[u8],
+    start: usize,
+    tag: u32,
+    table: &Table,
+    kind: Kind,
+    room: u32,
+) -> Option<(Value, usize)>
+    requires all { AllAscend table.now }
+    requires place { start ≤ length bytes.now }
+    ensures found { IfSome result (λ r. IsValue table.now room kind bytes.now start (tag % 8) (item_of r.0) r.1) }
+    ensures ahead { IfSome result (λ r. start < r.1) }
+    ensures within { IfSome result (λ r. r.1 ≤ length bytes.now) }
+{
+    match kind {
+        Kind::Message(place) => ordered_node(alloc, bytes, start, tag, table, place, room),
+        Kind::Text => ordered_text(alloc, bytes, start, tag, table, room),
+        Kind::Octets => ordered_octets(alloc, bytes, start, tag, table, room),
+        _ => number_value(bytes, start, tag, table, kind, room),
+    }
+}
+
+fn number_value(
+    bytes: &[u8],
+    start: usize,
+    tag: u32,
+    table: &Table,
+    kind: Kind,
+    room: u32,
+) -> Option<(Value, usize)>
+    requires place { start ≤ length bytes.now }
+    requires numeric { is_numeric kind ≡ true }
+    ensures found { IfSome result (λ r. IsValue table.now room kind bytes.now start (tag % 8) (item_of r.0) r.1) }
+    ensures ahead { IfSome result (λ r. start < r.1) }
+    ensures within { IfSome result (λ r. r.1 ≤ length bytes.now) }
+{
+    let (v, next) = number_at(bytes, start, tag, kind)?;
+    Some((Value::Number(word_of(kind, v)), next))
+}
+
+/// Text behind its length.
+fn ordered_text(
+    alloc: Global,
+    bytes: &[u8],
+    start: usize,
+    tag: u32,
+    table: &Table,
+    room: u32,
+) -> Option<(Value, usize)>
+    requires place { start ≤ length bytes.now }
+    ensures found { IfSome result (λ r. IsValue table.now room Text bytes.now start (tag % 8) (item_of r.0) r.1) }
+    ensures ahead { IfSome result (λ r. start < r.1) }
+    ensures within { IfSome result (λ r. r.1 ≤ length bytes.now) }
+{
+    if tag % 8 != 2 {
+        return None;
+    }
+    let (first, end) = span_at(bytes, start)?;
+    let run = &bytes[first..end];
+    if !is_text(run) {
+        return None;
+    }
+    let run = Bytes::from_slice(alloc, run).ok()?;
+    Some((Value::Run(run), end))
+}
+
+/// Bytes behind its length.
+fn ordered_octets(
+    alloc: Global,
+    bytes: &[u8],
+    start: usize,
+    tag: u32,
+    table: &Table,
+    room: u32,
+) -> Option<(Value, usize)>
+    requires place { start ≤ length bytes.now }
+    ensures found { IfSome result (λ r. IsValue table.now room Octets bytes.now start (tag % 8) (item_of r.0) r.1) }
+    ensures ahead { IfSome result (λ r. start < r.1) }
+    ensures within { IfSome result (λ r. r.1 ≤ length bytes.now) }
+{
+    if tag % 8 != 2 {
+        return None;
+    }
+    let (first, end) = span_at(bytes, start)?;
+    let run = &bytes[first..end];
+    let run = Bytes::from_slice(alloc, run).ok()?;
+    Some((Value::Run(run), end))
+}
+
+/// A message behind its length.
+#[cycle(ordered)]
+fn ordered_node(
+    alloc: Global,
+    bytes: &[u8],
+    start: usize,
+    tag: u32,
+    table: &Table,
+    place: u32,
+    room: u32,
+) -> Option<(Value, usize)>
+    requires all { AllAscend table.now }
+    requires place { start ≤ length bytes.now }
+    ensures found { IfSome result
+        (λ r. IsValue table.now room (OfMessage place) bytes.now start (tag % 8) (item_of r.0) r.1) }
+    ensures ahead { IfSome result (λ r. start < r.1) }
+    ensures within { IfSome result (λ r. r.1 ≤ length bytes.now) }
+{
+    if tag % 8 != 2 || room == 0 {
+        return None;
+    }
+    let (first, end) = span_at(bytes, start)?;
+    let inside = &bytes[..end];
+    let fields = ordered_message(
+        alloc,
+        inside,
+        first,
+        table,
+        fields_of(table, place),
+        room - 1,
+    )?;
+    Some((Value::Node(Tree { fields }), end))
+}
+
+/// The number behind a tag, and where it ends.
+#[inline(always)]
+fn number_at(bytes: &[u8], start: usize, tag: u32, kind: Kind) -> Option<(u64, usize)>
+    requires place { start ≤ length bytes.now }
+    requires numeric { is_numeric kind ≡ true }
+    ensures fits { IfSome result (λ _. tag % 8 ≡ wire_type_of kind) }
+    ensures found { IfSome result
+        (λ e. (p : Payload) × PayloadAt bytes.now start (wire_type_of kind) p e.1 × (e.0 ≡ number_in p)) }
+    ensures ahead { IfSome result (λ e. start < e.1) }
+    ensures within { IfSome result (λ e. e.1 ≤ length bytes.now) }
+{
+    let wire_type = wire_type_of(kind);
+    if tag % 8 != u32::from(wire_type) {
+        return None;
+    }
+    element(bytes, start, wire_type)
+}
+
+/// The place behind a length, and the place behind so many bytes.
+fn span_at(bytes: &[u8], start: usize) -> Option<(usize, usize)>
+    requires { start ≤ length bytes.now }
+    ensures found { IfSome result (λ r. PayloadAt bytes.now start 2 (Len r.0 r.1) r.1) }
+    ensures ahead { IfSome result (λ r. start < r.0) }
+    ensures order { IfSome result (λ r. r.0 ≤ r.1) }
+    ensures within { IfSome result (λ r. r.1 ≤ length bytes.now) }
+{
+    let (len, first) = read_varint(bytes, start).ok()?;
+    if len > (bytes.len() - first) as u64 {
+        return None;
+    }
+    Some((first, first + len as usize))
+}
