@@ -20,7 +20,10 @@ use wire_encode::encode;
 pub fn put_number(out: &mut Bytes, number: u64) -> Result<(), Memory>
     ensures { OnOk result (out.new ≡ out.old ++ 32 ∷ decimal number) }
 {
-    out.append(b" ")?;
+    out.push(b' ')?;
+    if number < 10 {
+        return out.push(b'0' + number as u8);
+    }
     out.append_decimal(number)
 }
 
@@ -29,9 +32,9 @@ pub fn put_number(out: &mut Bytes, number: u64) -> Result<(), Memory>
 pub fn put_hex(alloc: Global, out: &mut Bytes, bytes: &[u8]) -> Result<(), Memory>
     ensures { OnOk result (out.new ≡ out.old ++ 32 ∷ hex_word bytes.now) }
 {
-    out.append(b" ")?;
+    out.push(b' ')?;
     if bytes.is_empty() {
-        return out.append(b"-");
+        return out.push(b'-');
     }
     out.append_hex(alloc, bytes)
 }
