@@ -239,5 +239,5 @@ fn put_call(alloc: Global, frame: &Frame, bytes: &[u8], lines: &mut Bytes) -> Re
     put_number(lines, u64::from(frame.conn))?;
     put_number(lines, u64::from(frame.number))?;
     put_hex(alloc, lines, bytes)?;
-    lines.append(b"\n")
+    lines.push(b'\n')
 }
