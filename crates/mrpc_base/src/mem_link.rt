@@ -34,7 +34,19 @@ impl Model for MemLink {
 
     ghost Value = { Linking };
 
-    ghost view = { λ l. record { handed = map (λ frame. frame.items) l.handed.items; given = l.incoming.given; left = l.incoming.left; lengths = l.lengths.items; failing_sends = l.sends.failing; failing_receives = l.receives.failing; sends = l.sends.calls; receives = l.receives.calls; faults = l.faults; ended = l.ended; finished = l.finished } };
+    ghost view = { λ l. record {
+      handed = map (λ frame. frame.items) l.handed.items;
+      given = l.incoming.given;
+      left = l.incoming.left;
+      lengths = l.lengths.items;
+      failing_sends = l.sends.failing;
+      failing_receives = l.receives.failing;
+      sends = l.sends.calls;
+      receives = l.receives.calls;
+      faults = l.faults;
+      ended = l.ended;
+      finished = l.finished;
+    } };
 }
 
 impl MemLink {
@@ -157,7 +169,8 @@ impl Link for MemLink {
 
     fn send(&mut self, frame: &[u8]) -> Handed
         // A send fails exactly where its number is listed, or the sending side was ended.
-        ensures fails { (result ≡ Handed.Failed) ↔ (Contains self.old.failing_sends self.new.sends ⊎ IsTrue self.old.finished) }
+        ensures fails { (result ≡ Handed.Failed)
+            ↔ (Contains self.old.failing_sends self.new.sends ⊎ IsTrue self.old.finished) }
 
         ensures appended { result ≡ Handed.Done → self.new.handed ≡ self.old.handed ++ frame.now ∷ [] }
         ensures kept { result ≢ Handed.Done → self.new.handed ≡ self.old.handed }
@@ -166,7 +179,11 @@ impl Link for MemLink {
         ensures sends { self.new.sends ≡ raised self.old.sends }
         ensures faults { result ≡ Handed.Failed → self.new.faults ≡ raised self.old.faults }
         ensures cause { HasCause (result ≡ Handed.Failed) self.old.faults self.new.faults }
-        ensures same { self.new ≡ record self.old { handed = self.new.handed; sends = self.new.sends; faults = self.new.faults } }
+        ensures same { self.new ≡ record self.old {
+          handed = self.new.handed;
+          sends = self.new.sends;
+          faults = self.new.faults;
+        } }
     {
         if self.sends.next() || self.finished {
             self.fault();
@@ -185,7 +202,8 @@ impl Link for MemLink {
         ensures idle { (result ≡ Came.Idle) ↔ (slice_get self.old.lengths self.old.receives ≡ Some 0)
             × (self.old.left ≢ []) × (result ≢ Came.Failed) }
         ensures memory { result ≢ Came.Memory }
-        ensures exact { OnCame result (λ n. n ≡ given_count (slice_get self.old.lengths self.old.receives) (length buf.old) (length self.old.left)) }
+        ensures exact { OnCame result (λ n.
+            n ≡ given_count (slice_get self.old.lengths self.old.receives) (length buf.old) (length self.old.left)) }
 
         // The bytes that come are the next ones.
         ensures count { OnCame result (λ n. (0 < n) × (n ≤ length buf.old)) }
@@ -201,7 +219,13 @@ impl Link for MemLink {
         ensures receives { self.new.receives ≡ raised self.old.receives }
         ensures faults { result ≡ Came.Failed → self.new.faults ≡ raised self.old.faults }
         ensures cause { HasCause (result ≡ Came.Failed) self.old.faults self.new.faults }
-        ensures same { self.new ≡ record self.old { given = self.new.given; left = self.new.left; receives = self.new.receives; faults = self.new.faults; ended = self.new.ended } }
+        ensures same { self.new ≡ record self.old {
+          given = self.new.given;
+          left = self.new.left;
+          receives = self.new.receives;
+          faults = self.new.faults;
+          ended = self.new.ended;
+        } }
     {
         let before = self.receives.calls();
         if self.receives.next() {

@@ -21,7 +21,12 @@ impl Model for MemSink {
 
     ghost Value = { Writing };
 
-    ghost view = { λ s. record { written = s.written.items; failing = s.calls.failing; calls = s.calls.calls; faults = s.calls.faults } };
+    ghost view = { λ s. record {
+      written = s.written.items;
+      failing = s.calls.failing;
+      calls = s.calls.calls;
+      faults = s.calls.faults;
+    } };
 }
 
 impl MemSink {

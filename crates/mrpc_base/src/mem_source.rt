@@ -23,7 +23,13 @@ impl Model for MemSource {
 
     ghost Value = { Reading };
 
-    ghost view = { λ s. record { left = s.supply.left; lengths = s.lengths.items; failing = s.calls.failing; calls = s.calls.calls; faults = s.calls.faults } };
+    ghost view = { λ s. record {
+      left = s.supply.left;
+      lengths = s.lengths.items;
+      failing = s.calls.failing;
+      calls = s.calls.calls;
+      faults = s.calls.faults;
+    } };
 
     ghost invariant = { λ s. All (λ most. 0 < most) s.lengths.items };
 }
@@ -101,7 +107,8 @@ impl Source for MemSource {
         // A read fails exactly where its number is listed, and finds the end exactly where nothing is left.
         ensures fails { (result ≡ Got.Failed) ↔ Contains self.old.failing self.new.calls }
         ensures ends { (result ≡ Got.End) ↔ (self.old.left ≡ []) × (result ≢ Got.Failed) }
-        ensures exact { OnBytes result (λ n. n ≡ given_count (slice_get self.old.lengths self.old.calls) (length buf.old) (length self.old.left)) }
+        ensures exact { OnBytes result (λ n.
+            n ≡ given_count (slice_get self.old.lengths self.old.calls) (length buf.old) (length self.old.left)) }
 
         // The bytes that are given are the next ones.
         ensures count { OnBytes result (λ n. (0 < n) × (n ≤ length buf.old)) }

@@ -71,7 +71,8 @@ impl Tickets for PlainTickets {
         // The ticket is the number of draws before; it stands still at 2^64 - 1.
         ensures ticket { result ≡ drawn_in self.old tenant window }
         ensures counted { drawn_in self.new tenant window ≡ raised (drawn_in self.old tenant window) }
-        ensures drawn { IfSome (tickets_of (drawn_in self.new tenant window)) (λ tickets. IsSomeAnd (tickets_of (drawn_in self.old tenant window)) (λ before. tickets ≡ before ++ result ∷ [])) }
+        ensures drawn { IfSome (tickets_of (drawn_in self.new tenant window)) (λ tickets.
+            IsSomeAnd (tickets_of (drawn_in self.old tenant window)) (λ before. tickets ≡ before ++ result ∷ [])) }
         ensures others { (t w : ℕ) → t < self.old.tenants → w < WINDOWS → (t ≢ tenant) ⊎ (w ≢ window)
             → drawn_in self.new t w ≡ drawn_in self.old t w }
         ensures tenants { self.new.tenants ≡ self.old.tenants }

@@ -34,9 +34,18 @@ impl Model for PlainWords {
 
     ghost Value = { Heap };
 
-    ghost view = { λ h. record { size = h.words.size; loads = h.loads.items; stores = h.words.stores; begun = vec_len h.loads - h.finished; races = h.races.races; load_room = h.load_room; store_room = h.store_room } };
+    ghost view = { λ h. record {
+      size = h.words.size;
+      loads = h.loads.items;
+      stores = h.words.stores;
+      begun = vec_len h.loads - h.finished;
+      races = h.races.races;
+      load_room = h.load_room;
+      store_room = h.store_room;
+    } };
 
-    ghost invariant = { λ h. KeepsRoom h.words h.races (vec_len h.loads) h.finished (vec_capacity h.loads) h.load_room h.store_room };
+    ghost invariant = { λ h. KeepsRoom h.words h.races (vec_len h.loads) h.finished
+        (vec_capacity h.loads) h.load_room h.store_room };
 }
 
 // Makes room for so many stores besides those of the races that wait.
@@ -63,7 +72,8 @@ fn make_due(words: &mut StoredWords, races: &mut Races, number: u64)
     ensures size { words.new.size ≡ words.old.size }
     ensures listed { races.new.listed ≡ races.old.listed }
     // Each race that was made is a store, and took no more than its room.
-    ensures counted { length words.new.stores + length races.new.races ≡ length words.old.stores + length races.old.races }
+    ensures counted { length words.new.stores + length races.new.races
+        ≡ length words.old.stores + length races.old.races }
     ensures room { words.old.room + length races.new.races ≤ words.new.room + length races.old.races }
     ensures in_heap { All (λ race. race.place < words.new.size) races.new.races }
 {
@@ -247,7 +257,8 @@ impl Words for PlainWords {
         ensures size { self.new.size ≡ self.old.size }
 
         // The races up to this load are made first, and the load sees them.
-        ensures stores { self.new.stores ≡ self.old.stores ++ stores_of (races_up_to (self.old.begun + 1) self.old.races) }
+        ensures stores { self.new.stores
+            ≡ self.old.stores ++ stores_of (races_up_to (self.old.begun + 1) self.old.races) }
         ensures races { self.new.races ≡ races_past (self.old.begun + 1) self.old.races }
         ensures word { result ≡ word_after self.new.stores place }
 

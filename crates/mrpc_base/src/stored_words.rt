@@ -19,7 +19,11 @@ impl Model for StoredWords {
 
     ghost Value = { Stored };
 
-    ghost view = { λ s. record { size = vec_len s.words; stores = s.stores.items; room = vec_capacity s.stores - vec_len s.stores } };
+    ghost view = { λ s. record {
+      size = vec_len s.words;
+      stores = s.stores.items;
+      room = vec_capacity s.stores - vec_len s.stores;
+    } };
 
     ghost invariant = { λ s. StandsAfter s.stores.items s.words.items };
 }

@@ -17,7 +17,8 @@ pub trait Tickets {
         requires window { window < WINDOWS }
 
         // Where the tickets are told afterwards, they are those of before and then this one.
-        ensures drawn { IfSome (drawn self.new tenant window) (λ tickets. IsSomeAnd (drawn self.old tenant window) (λ before. tickets ≡ before ++ result ∷ [])) }
+        ensures drawn { IfSome (drawn self.new tenant window) (λ tickets.
+            IsSomeAnd (drawn self.old tenant window) (λ before. tickets ≡ before ++ result ∷ [])) }
         ensures others { (t w : ℕ) → knows self.old t → w < WINDOWS → (t ≢ tenant) ⊎ (w ≢ window)
             → drawn self.new t w ≡ drawn self.old t w }
         ensures knows { (t : ℕ) → knows self.old t → knows self.new t };

@@ -41,7 +41,9 @@ tail (gcons a b) = b
 mutual
   pub inj_node : (x y : Node) → code_node x ≡ code_node y → x ≡ y
   inj_node no_fields no_fields p = refl
-  inj_node (field n c t) (field m d u) p = λ i. field (num (head (p i))) (inj_content c d (ap (λ g. head (tail g)) p) i) (inj_node t u (ap (λ g. tail (tail g)) p) i)
+  inj_node (field n c t) (field m d u) p =
+      λ i. field (num (head (p i))) (inj_content c d (ap (λ g. head (tail g)) p) i)
+      (inj_node t u (ap (λ g. tail (tail g)) p) i)
   inj_node no_fields (field m d u) p = cc
   inj_node (field n c t) no_fields p = cc
 
@@ -75,7 +77,9 @@ mutual
 
   pub inj_pairs : (x y : Pairs) → code_pairs x ≡ code_pairs y → x ≡ y
   inj_pairs no_pairs no_pairs p = refl
-  inj_pairs (pair a v x) (pair b w y) p = λ i. pair (inj_item a b (ap head p) i) (inj_item v w (ap (λ g. head (tail g)) p) i) (inj_pairs x y (ap (λ g. tail (tail g)) p) i)
+  inj_pairs (pair a v x) (pair b w y) p =
+      λ i. pair (inj_item a b (ap head p) i) (inj_item v w (ap (λ g. head (tail g)) p) i)
+      (inj_pairs x y (ap (λ g. tail (tail g)) p) i)
   inj_pairs no_pairs (pair b w bs) p = cc
   inj_pairs (pair a v x) no_pairs p = cc
 

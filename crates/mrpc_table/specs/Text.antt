@@ -61,13 +61,17 @@ abbrev pub enum_lines : Choices → List ℕ
 enum_lines e = line (codes "enum" ∷ e.name ∷ []) ++ flat_map value_line e.values
 
 abbrev pub field_line : Table → List (List ℕ) → Field → List ℕ
-field_line T oneofs f = line (codes "field" ∷ decimal f.number ∷ label_text T oneofs f.label ∷ kind_text T f.kind ∷ f.name ∷ [])
+field_line T oneofs f =
+    line (codes "field" ∷ decimal f.number ∷ label_text T oneofs f.label ∷ kind_text T f.kind ∷ f.name ∷ [])
 
 abbrev pub message_lines : Table → Message → List ℕ
 message_lines T m = line (codes "message" ∷ m.name ∷ []) ++ flat_map (field_line T m.oneofs) m.fields
 
 abbrev pub method_line : Table → ℕ × Method → List ℕ
-method_line T m = line (codes "method" ∷ decimal m.0 ∷ m.1.service ∷ m.1.name ∷ message_name T m.1.input ∷ message_name T m.1.output ∷ [])
+method_line T m =
+    line (codes "method" ∷ decimal m.0 ∷ m.1.service ∷ m.1.name
+    ∷ message_name T m.1.input ∷ message_name T m.1.output ∷ [])
 
 abbrev pub table_text : Table → List ℕ
-table_text T = flat_map enum_lines T.enums ++ flat_map (message_lines T) T.messages ++ flat_map (method_line T) (enumerate_from 0 T.methods)
+table_text T = flat_map enum_lines T.enums ++ flat_map (message_lines T) T.messages
+    ++ flat_map (method_line T) (enumerate_from 0 T.methods)

@@ -11,7 +11,9 @@ use crate::limits::{MAX_FULL_NAME, MAX_NAME};
 
 /// What stands before the first separator, and what stands behind it; none where it doesn't stand there.
 pub fn cut(text: &[u8], separator: u8) -> Option<(&[u8], &[u8])>
-    ensures parts { MatchOption result (slice_split (λ c. c == separator) text.now ≡ text.now ∷ []) (λ p. slice_split (λ c. c == separator) text.now ≡ p.0.now ∷ slice_split (λ c. c == separator) p.1.now) }
+    ensures parts { MatchOption result (slice_split (λ c. c == separator) text.now ≡ text.now ∷ [])
+        (λ p. slice_split (λ c. c == separator) text.now
+        ≡ p.0.now ∷ slice_split (λ c. c == separator) p.1.now) }
     ensures long { IfSome result (λ p. length p.0.now + 1 + length p.1.now ≡ length text.now) }
 {
     for (i, byte) in text.iter().enumerate() {
