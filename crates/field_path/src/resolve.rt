@@ -10,23 +10,13 @@ use crate::path::{Path, PathWord};
 use mrpc_table::{Decimal, Field, Kind, Label, Memory, Sequence, Table};
 use std::alloc::Global;
 
-fn field_of(table: &Table, msg: u32, number: u32) -> Option<&Field>
-    requires { IsValid table.now }
-    ensures { option_copied result ≡ field_at (fields_of table.now msg) number }
-{
-    match table.messages.as_slice().get(msg as usize) {
-        Some(message) => message.field(number),
-        None => None,
-    }
-}
-
 // The field of a number; no field has a number of more than 32 bits.
 fn field_numbered(table: &Table, msg: u32, number: Decimal) -> Option<&Field>
     requires { IsValid table.now }
     ensures { option_copied result ≡ field_numbered table.now msg number }
 {
     match number {
-        Decimal::Small(number) if number < 0x1_0000_0000 => field_of(table, msg, number as u32),
+        Decimal::Small(number) if number < 0x1_0000_0000 => table.field(msg, number as u32),
         _ => None,
     }
 }

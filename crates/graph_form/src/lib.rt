@@ -16,4 +16,4 @@ pub use laws::{
 };
 pub use placed::{Loads, Placed};
 pub use reason::Reason;
-pub use size::{size_words, slot_of};
+pub use size::{is_member, oneofs_of, size_words, slot_of};

@@ -3,19 +3,36 @@
 ghost use Rattle.std.specs.Prelude.{◌≡◌, ◌<◌, ◌≤◌, ◌+◌, ◌*◌, length, IsSome};
 ghost use Rattle.mrpc_table.specs.Valid.{IsValid};
 ghost use Rattle.mrpc_table.specs.Normal.{fields_of, field_at};
-ghost use Rattle.graph_form.specs.Roles.{has_own_slot, own_slots, size_words, slots_before, slot_of};
+ghost use Rattle.graph_form.specs.Roles.{has_own_slot, is_member, oneofs_of, own_slots, size_words, slots_before, slot_of};
 
 use mrpc_table::{Field, Label, Table};
 
 /// The number of words of a message's node: two for each field that is no member of a oneof, and
-/// three for each oneof.
+/// three for each oneof. A message that the table lacks has none.
 pub fn size_words(table: &Table, msg: u32) -> u64
-    requires valid { IsValid table.now }
-    requires known { msg < length table.now.messages }
+    requires { IsValid table.now }
     ensures { result ≡ size_words table.now msg }
 {
-    let message = &table.messages.as_slice()[msg as usize];
-    2 * own_slots(message.fields.as_slice()) + 3 * message.oneofs.as_slice().len() as u64
+    2 * own_slots(table.fields(msg)) + 3 * u64::from(oneofs_of(table, msg))
+}
+
+/// The number of oneofs of a message; 0 where the table lacks it.
+pub fn oneofs_of(table: &Table, msg: u32) -> u32
+    requires { IsValid table.now }
+    ensures number { result ≡ oneofs_of table.now msg }
+    ensures few { result ≤ 128 }
+{
+    match table.messages.as_slice().get(msg as usize) {
+        Some(message) => message.oneofs.len() as u32,
+        None => 0,
+    }
+}
+
+/// Whether the label is that of a member of a oneof, which has no slot of its own.
+pub fn is_member(label: Label) -> bool
+    ensures { result ≡ is_member label }
+{
+    matches!(label, Label::Member(_))
 }
 
 /// The first word of the slot of a field of the message, or of its oneof's slot, counted from the node's first word.
@@ -40,7 +57,7 @@ pub fn slot_of(table: &Table, msg: u32, field: u32) -> u64
 fn has_own_slot(field: &Field) -> bool
     ensures { result ≡ has_own_slot field.now }
 {
-    !matches!(field.label, Label::Member(_))
+    !is_member(field.label)
 }
 
 // How many fields before the one of this number have slots of their own.

@@ -5,14 +5,15 @@ use Rattle.std.specs.Ordering.{nat_cmp, ordering_index}
 use Rattle.std.specs.List.Sorted.{IsNonDecreasingBy, IsPartitionPoint}
 use Rattle.std.specs.declared.cmp.Ordering.TheVariants.{Less, Equal, Greater}
 use Rattle.std.proofs.lemmas.Bool.{cases_lt}
+use Rattle.std.specs.List.{HoldsAt, slice_get}
+use Rattle.std.proofs.lemmas.Option.{slice_get-get_or}
+use Rattle.mrpc_table.specs.declared.table.Kind.TheVariants.{Uint64}
+use Rattle.mrpc_table.specs.declared.table.Label.TheVariants.{Plain}
 use Rattle.mrpc_table.specs.Normal.{field_at}
-use Rattle.mrpc_table.specs.Valid.{Ascends}
+use Rattle.mrpc_table.specs.Ascending.{FieldsAscend}
 use Rattle.mrpc_table.specs.declared.table.Field.{Field}
 
-abbrev pub FieldsAscend : List Field → Type 0
-FieldsAscend fs = Ascends (λ f g. f.number < g.number) fs
-
-pub above_first : (f : Field) (fs : List Field) → FieldsAscend (f ∷ fs) → (k : ℕ) (d : Field) → k < length fs → f.number < (get_or fs k d).number
+above_first : (f : Field) (fs : List Field) → FieldsAscend (f ∷ fs) → (k : ℕ) (d : Field) → k < length fs → f.number < (get_or fs k d).number
 above_first f [] up k d within = absurd (omega arith)
 above_first f (g ∷ gs) up zero d within = up.0
 above_first f (g ∷ gs) up (suc k) d within = omega (arith, up.0, above_first g gs up.1 k d (omega arith))
@@ -21,16 +22,15 @@ tail_ascends : (f : Field) (fs : List Field) → FieldsAscend (f ∷ fs) → Fie
 tail_ascends f [] up = tt
 tail_ascends f (g ∷ gs) up = up.1
 
-pub found : (fs : List Field) (n i : ℕ) (f : Field) → FieldsAscend fs → i < length fs → f ≡ get_or fs i f → f.number ≡ n → field_at fs n ≡ Some f
-found [] n i f up within at is = absurd (omega arith)
-found (g ∷ gs) n zero f up within at is = let e : g.number ≡ n = ap (λ (h : Field). h.number) (sym at) ∙ is in rw (eq-eqb g.number n e) (ap Some (sym at))
-found (g ∷ gs) n (suc i) f up within at is =
-    let low : g.number < (get_or gs i f).number = above_first g gs up i f (omega arith) in
-    let e : (get_or gs i f).number ≡ n = ap (λ (h : Field). h.number) (sym at) ∙ is in
+found_at : (fs : List Field) → FieldsAscend fs → (n i : ℕ) (d : Field) → i < length fs → (get_or fs i d).number ≡ n → field_at fs n ≡ Some (get_or fs i d)
+found_at [] up n i d within is = absurd (omega arith)
+found_at (g ∷ gs) up n zero d within is = rw (eq-eqb g.number n is) refl
+found_at (g ∷ gs) up n (suc i) d within is =
+    let low : g.number < (get_or gs i d).number = above_first g gs up i d (omega arith) in
     let ne : (g.number == n) ≡ false = grind arith in
-    rw ne (found gs n i f (tail_ascends g gs up) (omega arith) at is)
+    rw ne (found_at gs (tail_ascends g gs up) n i d (omega arith) is)
 
-pub not_found : (fs : List Field) (n : ℕ) → ((k : ℕ) (d : Field) → k < length fs → (get_or fs k d).number ≢ n) → field_at fs n ≡ None
+not_found : (fs : List Field) (n : ℕ) → ((k : ℕ) (d : Field) → k < length fs → (get_or fs k d).number ≢ n) → field_at fs n ≡ None
 not_found [] n none = refl
 not_found (g ∷ gs) n none =
     let other : g.number ≢ n = none 0 g (omega arith) in
@@ -47,7 +47,7 @@ numbers_rise (f ∷ fs) up (suc i) (suc j) d le within = numbers_rise fs (tail_a
 index_rises : (a b n : ℕ) → a ≤ b → ordering_index (nat_cmp a n) ≤ ordering_index (nat_cmp b n)
 index_rises a b n le = grind arith
 
-pub orders_rise : (fs : List Field) (n : ℕ) → FieldsAscend fs → IsNonDecreasingBy (λ f. ordering_index (nat_cmp f.number n)) fs
+orders_rise : (fs : List Field) (n : ℕ) → FieldsAscend fs → IsNonDecreasingBy (λ f. ordering_index (nat_cmp f.number n)) fs
 orders_rise fs n up i j d le within = index_rises (get_or fs i d).number (get_or fs j d).number n (numbers_rise fs up i j d le within)
 
 differs_less : (a b : ℕ) → nat_cmp a b ≡ Less → a ≢ b
@@ -56,10 +56,21 @@ differs_less a b e same = grind arith
 differs_greater : (a b : ℕ) → nat_cmp a b ≡ Greater → a ≢ b
 differs_greater a b e same = grind arith
 
-pub equal_is : (a b : ℕ) → nat_cmp a b ≡ Equal → a ≡ b
+equal_is : (a b : ℕ) → nat_cmp a b ≡ Equal → a ≡ b
 equal_is a b e = grind arith
 
 pub missed : (fs : List Field) (n i : ℕ) → FieldsAscend fs → (IsNonDecreasingBy (λ f. ordering_index (nat_cmp f.number n)) fs → IsPartitionPoint (λ f. nat_cmp f.number n ≡ Less) (λ f. nat_cmp f.number n ≡ Greater) fs i) → field_at fs n ≡ None
 missed fs n i up parts =
     let point = parts (orders_rise fs n up) in
     not_found fs n (λ k d within. elim (cases_lt k i) [ inl lt ↦ differs_less (get_or fs k d).number n (point.0 k d (omega arith) lt) | inr le ↦ differs_greater (get_or fs k d).number n (point.1 k d le within) ])
+
+-- the place that a binary search found
+pub slice_get_found : (fs : List Field) → FieldsAscend fs → (n i : ℕ) → i < length fs → HoldsAt (λ y. nat_cmp y.number n ≡ Equal) fs i → slice_get fs i ≡ field_at fs n
+slice_get_found fs up n i within equal =
+    let d : Field = record { number = 0; name = []; kind = Uint64; label = Plain } in
+    slice_get-get_or fs i d within ∙ sym (found_at fs up n i d within (equal_is (get_or fs i d).number n (equal d)))
+
+-- the place that was tried
+pub slice_get_tried : (fs : List Field) → FieldsAscend fs → (n i : ℕ) (f : Field) → i < length fs → f ≡ get_or fs i f → f.number ≡ n → slice_get fs i ≡ field_at fs n
+slice_get_tried fs up n i f within is same =
+    slice_get-get_or fs i f within ∙ sym (found_at fs up n i f within (ap (λ (x : Field). x.number) (sym is) ∙ same))

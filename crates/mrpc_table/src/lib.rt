@@ -9,6 +9,7 @@
 #![tactic(auto)]
 
 mod copied;
+mod field_search;
 mod hexadecimal;
 mod limits;
 mod memory;
@@ -18,6 +19,7 @@ mod table;
 mod tree;
 mod words;
 
+pub use field_search::find_field;
 pub use limits::{
     MAX_DEPTH, MAX_ENUMS, MAX_FIELDS, MAX_FULL_NAME, MAX_MESSAGES, MAX_METHODS, MAX_NAME, MAX_TEXT,
     MAX_VALUES,

@@ -3,11 +3,13 @@
 
 ghost use Rattle.std.specs.Prelude.{◌≡◌, ◌<◌, length};
 ghost use Rattle.std.specs.Option.{option_copied};
-ghost use Rattle.mrpc_table.specs.Normal.{field_at};
-ghost use Rattle.mrpc_table.specs.Valid.{Ascends, IsValid};
+ghost use Rattle.mrpc_table.specs.Ascending.{AllAscend, FieldsAscend};
+ghost use Rattle.mrpc_table.specs.Normal.{fields_of, field_at};
+ghost use Rattle.mrpc_table.specs.Valid.{IsValid};
 ghost use Rattle.mrpc_table.specs.Calls.{message_at};
 ghost use Rattle.mrpc_table.specs.Words.{is_numeric, is_key, rank};
 
+use crate::field_search::search;
 use crate::sequence::{Name, Sequence};
 
 /// The kind of a value. A `Message` or a `Choice` names a message or an enum of the table.
@@ -129,13 +131,13 @@ pub struct Message {
 impl Message {
     /// The field of a number, in time by the logarithm of the fields.
     pub fn field(&self, number: u32) -> Option<&Field>
-        requires { Ascends (λ f g. f.number < g.number) self.now.fields }
+        requires { FieldsAscend self.now.fields }
         ensures { option_copied result ≡ field_at self.now.fields number }
     {
         let fields = self.fields.as_slice();
-        match fields.binary_search_by_key(&number, |field| field.number) {
-            Ok(place) => Some(&fields[place]),
-            Err(_) => None,
+        match search(fields, number) {
+            Some(place) => Some(&fields[place]),
+            None => None,
         }
     }
 }
@@ -180,6 +182,28 @@ pub struct Table {
 }
 
 impl Table {
+    /// The fields of the message at a place; none where there is no such message.
+    pub fn fields(&self, message: u32) -> &[Field]
+        ensures value { result.now ≡ fields_of self.now message }
+        ensures ascend { AllAscend self.now → FieldsAscend result.now }
+    {
+        match self.messages.as_slice().get(message as usize) {
+            Some(message) => message.fields.as_slice(),
+            None => &[],
+        }
+    }
+
+    /// The field of a number in the message at a place, in time by the logarithm of its fields.
+    pub fn field(&self, message: u32, number: u32) -> Option<&Field>
+        requires { IsValid self.now }
+        ensures { option_copied result ≡ field_at (fields_of self.now message) number }
+    {
+        match self.messages.as_slice().get(message as usize) {
+            Some(message) => message.field(number),
+            None => None,
+        }
+    }
+
     /// The message that a call of a method has, by its place in the table: the method's input for a
     /// request, whose number is 0, and its output for a reply.
     pub fn message_of(&self, method: u16, number: u32) -> u32

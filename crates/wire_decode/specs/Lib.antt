@@ -1,4 +1,3 @@
-pub mod Ascending
 pub mod Behind
 pub mod Faults
 pub mod Gathered

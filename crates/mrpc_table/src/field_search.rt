@@ -1,0 +1,50 @@
+//! Where the field of a number stands among the fields of a message.
+
+ghost use Rattle.std.specs.Prelude.{◌≡◌, ◌<◌, length, IsTrue, IfSome, IfNone, None, slice_get};
+ghost use Rattle.mrpc_table.specs.Ascending.{FieldsAscend};
+ghost use Rattle.mrpc_table.specs.Normal.{field_at};
+
+use crate::table::Field;
+
+/// The place of the field of a number, in time by the logarithm of the fields. Records and the fields of trees mostly
+/// stand in order, so that the place at hand is tried first, and then the next one.
+pub fn find_field(fields: &[Field], number: u32, hint: usize) -> Option<usize>
+    requires { FieldsAscend fields.now }
+    ensures bound { IfSome result (λ place. place < length fields.now) }
+    ensures found { IfSome result (λ place. slice_get fields.now place ≡ field_at fields.now number) }
+    ensures absent { IfNone result (field_at fields.now number ≡ None) }
+{
+    if stands_at(fields, number, hint) {
+        return Some(hint);
+    }
+    let next = hint.saturating_add(1);
+    if stands_at(fields, number, next) {
+        return Some(next);
+    }
+    search(fields, number)
+}
+
+/// Whether the field of a number stands at a place.
+fn stands_at(fields: &[Field], number: u32, place: usize) -> bool
+    requires { FieldsAscend fields.now }
+    ensures bound { IsTrue result → place < length fields.now }
+    ensures found { IsTrue result → slice_get fields.now place ≡ field_at fields.now number }
+{
+    match fields.get(place) {
+        Some(field) => field.number == number,
+        None => false,
+    }
+}
+
+/// The same without a place at hand.
+pub fn search(fields: &[Field], number: u32) -> Option<usize>
+    requires { FieldsAscend fields.now }
+    ensures bound { IfSome result (λ place. place < length fields.now) }
+    ensures found { IfSome result (λ place. slice_get fields.now place ≡ field_at fields.now number) }
+    ensures absent { IfNone result (field_at fields.now number ≡ None) }
+{
+    match fields.binary_search_by_key(&number, |field| field.number) {
+        Ok(place) => Some(place),
+        Err(_) => None,
+    }
+}
