@@ -39,11 +39,13 @@ sendings T cs = map (sending T) cs
 -- the words of a line that tell the copy, or why there is none
 abbrev pub copy_words : Table → ℕ → TookCopy → List (List ℕ)
 copy_words T message (Copy tree) = codes "copy" ∷ hex_word (encoding T message tree) ∷ []
-copy_words T message (Malformed reason place value) = codes "malformed" ∷ reason_word reason ∷ decimal place ∷ decimal value ∷ []
+copy_words T message (Malformed reason place value) =
+    codes "malformed" ∷ reason_word reason ∷ decimal place ∷ decimal value ∷ []
 
 abbrev pub took_line : Table → Call → List ℕ
 took_line T c =
-    line (codes "took" ∷ decimal c.conn ∷ decimal c.seq ∷ decimal c.method ∷ decimal c.number ∷ decimal c.addr ∷ decimal c.after ∷ decimal c.count ∷ copy_words T (message_of T c) c.copy)
+    line (codes "took" ∷ decimal c.conn ∷ decimal c.seq ∷ decimal c.method ∷ decimal c.number ∷ decimal c.addr
+    ∷ decimal c.after ∷ decimal c.count ∷ copy_words T (message_of T c) c.copy)
 
 abbrev pub sent_line : ℕ → ℕ → ℕ → List ℕ
 sent_line conn seq bytes = line (codes "sent" ∷ decimal conn ∷ decimal seq ∷ decimal bytes ∷ [])
@@ -56,7 +58,16 @@ abbrev pub refused_line : ℕ → ℕ → Cause → List ℕ
 refused_line conn seq cause = line (codes "refused" ∷ decimal conn ∷ decimal seq ∷ cause_words cause)
 
 abbrev pub audit_line : Table → Happening → List ℕ
-audit_line T (Took conn seq method number addr after count copy) = took_line T (record { conn = conn; seq = seq; method = method; number = number; addr = addr; after = after; count = count; copy = copy })
+audit_line T (Took conn seq method number addr after count copy) = took_line T (record {
+  conn = conn;
+  seq = seq;
+  method = method;
+  number = number;
+  addr = addr;
+  after = after;
+  count = count;
+  copy = copy;
+})
 audit_line T (Sent conn seq bytes) = sent_line conn seq bytes
 audit_line T (Refused conn seq cause) = refused_line conn seq cause
 
@@ -65,7 +76,9 @@ audit T h = flat_map (audit_line T) h
 
 -- the frame of a call: kind 1 with its own number for a request, kind 2 with the answered number for a reply
 abbrev pub frame_of : Table → Call → List ℕ
-frame_of T c = frame_bytes (if c.number == 0 then 1 else 2) 1 c.method c.conn (if c.number == 0 then c.seq else c.number) (payload T c)
+frame_of T c =
+    frame_bytes (if c.number == 0 then 1 else 2) 1 c.method c.conn (if c.number == 0 then c.seq else c.number)
+    (payload T c)
 
 -- the call of a number on a connection
 abbrev pub call_of : ℕ → ℕ → History → Option Call

@@ -36,7 +36,16 @@ message_of T c = message_at T c.method c.number
 -- the calls that were accepted, in order
 abbrev pub calls : History → List Call
 calls [] = []
-calls (Took conn seq method number addr after count copy ∷ h) = record { conn = conn; seq = seq; method = method; number = number; addr = addr; after = after; count = count; copy = copy } ∷ calls h
+calls (Took conn seq method number addr after count copy ∷ h) = record {
+  conn = conn;
+  seq = seq;
+  method = method;
+  number = number;
+  addr = addr;
+  after = after;
+  count = count;
+  copy = copy;
+} ∷ calls h
 calls (_ ∷ h) = calls h
 
 abbrev pub calls_on : ℕ → History → List Call

@@ -116,7 +116,8 @@ fn put_copy(
 ) -> Result<(), Memory>
     requires valid { IsValid table.now }
     requires fits { TookFits table.now method number copy.now }
-    ensures { OnOk result (out.new ≡ out.old ++ behind_spaces (copy_words table.now (message_at table.now method number) copy.now)) }
+    ensures { OnOk result (out.new
+        ≡ out.old ++ behind_spaces (copy_words table.now (message_at table.now method number) copy.now)) }
 {
     match copy {
         TookCopy::Copy { tree } => {

@@ -101,7 +101,8 @@ pub fn sendings_go_on()
     ensures calls_on { (T : Table) (conn : ℕ) (h : History) (cs : List Call)
         → calls_on conn (h ++ sendings T cs) ≡ calls_on conn h }
     ensures audit { (T : Table) (h : History) (cs : List Call)
-        → audit T (h ++ sendings T cs) ≡ audit T h ++ flat_map (λ c. sent_line c.conn c.seq (16 + length (payload T c))) cs }
+        → audit T (h ++ sendings T cs)
+        ≡ audit T h ++ flat_map (λ c. sent_line c.conn c.seq (16 + length (payload T c))) cs }
     ensures frames { (T : Table) (limit conn : ℕ) (h : History) (cs others : List Call) → IsLegal T limit h
         → standing conn h ≡ cs ++ others → frames T (h ++ sendings T cs) ≡ frames T h ++ flat_map (frame_of T) cs }
 {}

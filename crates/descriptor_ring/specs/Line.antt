@@ -1,4 +1,5 @@
--- The rule of a ring, over what its queue holds and what each pass knows: what was sent is what was taken and then what waits.
+-- The rule of a ring, over what its queue holds and what each pass knows: what was sent is what was taken and then what
+-- waits.
 use Rattle.std.specs.Prelude.{◌≡◌, ◌⊎◌, ℕ, ◌≤◌, Bool, true, false, List, [], ◌∷◌, ◌++◌, All, length}
 use mathlib.Core.Option.{some}
 use mathlib.Core.List.{IsPrefix}
@@ -22,7 +23,15 @@ module _ {T : Type 0} where
   queued waiting closed false = slips waiting closed
 
   abbrev pub view_of : HeapId → Bool → List T → Bool → Bool → List T → Bool → View T
-  view_of heap sends sent closed takes taken ended = record { heap = heap; sends = sends; sent = sent; closed = closed; takes = takes; taken = taken; ended = ended }
+  view_of heap sends sent closed takes taken ended = record {
+    heap = heap;
+    sends = sends;
+    sent = sent;
+    closed = closed;
+    takes = takes;
+    taken = taken;
+    ended = ended;
+  }
 
   -- the first pass of a ring, whose heap was not told yet
   abbrev pub first : View T

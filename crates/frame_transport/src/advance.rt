@@ -33,7 +33,8 @@ pub(crate) fn go_on(
 ) -> Result<Advance, Memory>
     requires partial { IsPartial begun.old.items }
     requires room { end + length begun.old.items + length piece.now < 2 ^ 63 }
-    ensures ok { IfOk result (Advances end begun.old.items piece.now waiting.old.items waiting.new.items begun.new.items) }
+    ensures ok { IfOk result (Advances end begun.old.items piece.now waiting.old.items waiting.new.items
+        begun.new.items) }
     ensures waiting { OnErr result (waiting.new.items ≡ waiting.old.items) }
     ensures begun { OnErr result (begun.new.items ≡ begun.old.items) }
 {

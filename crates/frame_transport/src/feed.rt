@@ -39,7 +39,11 @@ impl Model for Feed {
 
     ghost Value = { Fed };
 
-    ghost view = { λ f. record { place = f.taken; bytes = joined f.waiting.items ++ f.begun.items; behind = f.behind } };
+    ghost view = { λ f. record {
+      place = f.taken;
+      bytes = joined f.waiting.items ++ f.begun.items;
+      behind = f.behind;
+    } };
 
     ghost invariant = { λ f. IsKept f.taken f.waiting.items f.end f.begun.items f.behind };
 }
@@ -74,7 +78,8 @@ impl Feed {
         ensures clean { OnOk result (Ends self.old.place (self.old.bytes ++ piece.now) None) }
 
         // A fault is the first one of the stream with the piece.
-        ensures fault { IfErr result (λ fault. (fault ≡ FeedFault.Memory) ⊎ Ends self.old.place (self.old.bytes ++ piece.now) (Some fault)) }
+        ensures fault { IfErr result (λ fault. (fault ≡ FeedFault.Memory)
+            ⊎ Ends self.old.place (self.old.bytes ++ piece.now) (Some fault)) }
         ensures stops { IfErr result (λ fault. (fault ≡ FeedFault.Memory) ⊎ StopsAt self.old piece.now fault self.new) }
         ensures again { (fault : FeedFault) → Ends self.old.place self.old.bytes (Some fault) → result ≡ Err fault }
 

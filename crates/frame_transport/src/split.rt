@@ -33,7 +33,8 @@ pub(crate) fn split<'a>(
 ) -> Result<Found<'a>, Memory>
     requires partial { IsPartial begun.now }
     requires room { place + length begun.now + length piece.now < 2 ^ 63 }
-    ensures { IfOk result (λ found. SplitsParts place begun.now piece.now found.frames.items found.end found.left.now found.fault) }
+    ensures { IfOk result (λ found.
+        SplitsParts place begun.now piece.now found.frames.items found.end found.left.now found.fault) }
 {
     let mut frames = VecDeque::new(alloc);
     let mut ahead = begun;

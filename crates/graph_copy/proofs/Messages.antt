@@ -28,32 +28,6 @@ fields_at T i m got = ap (λ o. unwrap_or (option_map (λ x. x.fields) o) []) go
 pub no_fields_at : (T : Table) (i : ℕ) → slice_get T.messages i ≡ None → fields_of T i ≡ []
 no_fields_at T i got = ap (λ (o : Option Message). unwrap_or (option_map (λ x. x.fields) o) []) got
 
-pub oneofs_at : (T : Table) (i : ℕ) (m : Message) → slice_get T.messages i ≡ Some m → oneofs_of T i ≡ length m.oneofs
-oneofs_at T i m got = ap (λ o. unwrap_or (option_map (λ x. length x.oneofs) o) 0) got
-
-pub no_oneofs_at : (T : Table) (i : ℕ) → slice_get T.messages i ≡ None → oneofs_of T i ≡ 0
-no_oneofs_at T i got = ap (λ (o : Option Message). unwrap_or (option_map (λ x. length x.oneofs) o) 0) got
-
-pub no_words_at : (T : Table) (i : ℕ) → slice_get T.messages i ≡ None → size_words T i ≡ 0
-no_words_at T i got =
-    let none : length (own_slots (fields_of T i)) ≡ 0 = ap (λ fs. length (own_slots fs)) (no_fields_at T i got) in
-    omega (arith, none, no_oneofs_at T i got)
-
-joined_le : (met all n : ℕ) (l : Label) (Same Next : Type 0) → (Same → all ≤ met + n) → (Next → all ≤ met + 1 + n) → Joins met l Same Next → all ≤ met + suc n
-joined_le met all n Plain Same Next same next h = omega (arith, same h)
-joined_le met all n Optional Same Next same next h = omega (arith, same h)
-joined_le met all n Repeated Same Next same next h = omega (arith, same h)
-joined_le met all n Packed Same Next same next h = omega (arith, same h)
-joined_le met all n (Map k) Same Next same next h = omega (arith, same h)
-joined_le met all n (Member o) Same Next same next h = elim h [ inl old ↦ omega (arith, same old.1) | inr new ↦ omega (arith, next new.1) ]
-
-follow_le : (met all : ℕ) (fs : List Field) → OneofsFollow met all fs → all ≤ met + length fs
-follow_le met all [] h = omega (arith, h)
-follow_le met all (f ∷ fs) h = joined_le met all (length fs) f.label (OneofsFollow met all fs) (OneofsFollow (met + 1) all fs) (follow_le met all fs) (follow_le (met + 1) all fs) h
-
-pub few_oneofs : (T : Table) (m : Message) → IsMessage T m → length m.oneofs ≤ 128
-few_oneofs T m h = omega (arith, follow_le 0 (length m.oneofs) m.fields h.oneof_order, h.few)
-
 no_field_past : (T : Table) (oneofs : ℕ) (fs : List Field) (n : ℕ) → All (IsField T oneofs) fs → 2 ^ 32 ≤ n → field_at fs n ≡ None
 no_field_past T oneofs [] n all past = refl
 no_field_past T oneofs (f ∷ fs) n all past =

@@ -32,8 +32,8 @@ TakesBehind T e v before after Made =
     (H : ℕ) (content : Placed) (rest : List (ℕ × ℕ)) → IsFine T H e.0 v → AreSound T H (behind T e.0 e.1 v) content
     → before ≡ loads content ++ rest → Made content × (after ≡ rest)
 
--- the same of the slots of fields, where other words are expected behind: their placed tree is left, and the fields come
--- in front of what it has
+-- the same of the slots of fields, where other words are expected behind: their placed tree is left, and the fields
+-- come in front of what it has
 pub record SlotsTaken (T : Table) (H : ℕ) (fs slots : List Field) (others : Expected) (P : Placed)
     (rest after : List (ℕ × ℕ)) (found more : List (ℕ × FieldValue)) : Type 0 where
   pub left : Placed

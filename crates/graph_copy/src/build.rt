@@ -14,9 +14,10 @@ ghost use Rattle.graph_form.specs.Placed.{Placed, word, loads, AreSound};
 ghost use Rattle.graph_form.specs.Forgotten.{with_field, run_at, optional_item, slots_tree, slot_content, with_member, plain_item, elements_at, entries_at, tree_of};
 ghost use Rattle.graph_copy.specs.Makes.{insert_all, Takes, TakesWord, TakesBehind, TakesSlots};
 
-use crate::look_up::{field_of, fields_of, next_slot, oneofs_of};
+use crate::look_up::{field_of, next_slot};
 use crate::order::in_order;
 use crate::role::{Shape, shape_of};
+use graph_form::oneofs_of;
 use map_entries::last_of_each;
 use mrpc_table::{
     Bytes, Entries, FieldValue, Kind, Label, MAX_DEPTH, Memory, Numbered, Table, Tree, Value,
@@ -99,7 +100,7 @@ fn slots(
         → TakesSlots table.now (fields_of table.now message) (own_slots (fields_of table.now message)) depth place
         tape.old.loads.now tape.new.loads.now found.old.items found.new.items) }
 {
-    let fields = fields_of(table, message);
+    let fields = table.fields(message);
     let mut from = 0;
     while let Some(place) = next_slot(fields, from) {
         let field = &fields[place];

@@ -9,10 +9,9 @@ ghost use Rattle.graph_copy.specs.Answers.{IfCopied, IfMalformed, loads_of};
 
 use crate::build::make_tree;
 use crate::judge::lies_in;
-use crate::look_up::node_words;
 use crate::take::{Loads, take_words};
 use crate::walk::Walk;
-use graph_form::{Reason, loads_end_malformed};
+use graph_form::{Reason, loads_end_malformed, size_words};
 use mrpc_base::{Room, Words};
 use mrpc_table::{Memory, Table, Tree};
 use std::alloc::Global;
@@ -105,7 +104,7 @@ fn copy_graph<W: Words>(
 {
     loads_end_malformed();
     let size = words.words();
-    let root = node_words(table, msg);
+    let root = size_words(table, msg);
     if !lies_in(size, addr, root) {
         return Ok(CopyResult::Malformed {
             reason: Reason::Address,

@@ -12,10 +12,10 @@ ghost use Rattle.graph_copy.specs.Follows.{Follows, Leads};
 ghost use Rattle.graph_copy.specs.Judged.{Told};
 
 use crate::judge::offence;
-use crate::look_up::{field_of, node_words};
+use crate::look_up::field_of;
 use crate::role::{Role, plain_role};
 use crate::walk::{Frame, Next, RunWord, Walk};
-use graph_form::Reason;
+use graph_form::{Reason, size_words};
 use mrpc_table::{Kind, Memory, Table};
 
 impl Walk {
@@ -171,7 +171,7 @@ impl Walk {
         if value == 0 {
             return Ok(());
         }
-        let words = node_words(table, message);
+        let words = size_words(table, message);
         self.expect_node(table, message, depth + 1, value, words)
     }
 
@@ -232,7 +232,8 @@ impl Walk {
         requires no_run { self.old.run ≡ None }
         requires fine { IsFine table.now self.old.size (case_word (fields_of table.now message) oneof depth) value }
         ensures expected { OnOk result
-            (Leads table.now (behind table.now (case_word (fields_of table.now message) oneof depth) place value) self.old self.new) }
+            (Leads table.now (behind table.now (case_word (fields_of table.now message) oneof depth) place value)
+            self.old self.new) }
         ensures size { self.new.size ≡ self.old.size }
     {
         if value == 0 {

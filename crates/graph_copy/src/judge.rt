@@ -10,9 +10,9 @@ ghost use Rattle.graph_form.specs.Placed.{LiesIn};
 ghost use Rattle.graph_copy.specs.Expects.{role_of};
 ghost use Rattle.graph_copy.specs.Judged.{Judged, Told, IsMember};
 
-use crate::look_up::{field_of, node_words};
+use crate::look_up::field_of;
 use crate::role::{Role, element_words, run_words};
-use graph_form::Reason;
+use graph_form::{Reason, size_words};
 use mrpc_table::{Kind, Label, MAX_DEPTH, Table};
 
 /// Whether the word is the form of a number of the kind.
@@ -55,7 +55,7 @@ pub fn offence(table: &Table, size: u64, role: Role, value: u64) -> Option<Reaso
             message,
             depth,
             needed,
-        } => judge_link(size, node_words(table, message), depth, needed, value),
+        } => judge_link(size, size_words(table, message), depth, needed, value),
         Role::Count { kind, depth: _ } => judge_length(value, (size - 1) / element_words(kind)),
         Role::Elements {
             kind,

@@ -7,9 +7,10 @@ ghost use Rattle.graph_form.specs.Roles.{size_words, node_words, elements_from, 
 ghost use Rattle.graph_copy.specs.Expects.{expected, frame_words, stack_words, next_word, AllFit};
 ghost use Rattle.graph_copy.specs.Opens.{Opens};
 
-use crate::look_up::{fields_of, next_slot, oneofs_of};
+use crate::look_up::next_slot;
 use crate::role::{Role, element_words, plain_role, slot_role};
 use crate::stack::Stack;
+use graph_form::oneofs_of;
 use mrpc_table::{Kind, Memory, Table};
 use std::alloc::Global;
 
@@ -236,7 +237,7 @@ impl Walk {
         ensures run { self.new.run ≡ self.old.run }
         ensures bytes { self.new.bytes ≡ self.old.bytes }
     {
-        let fields = fields_of(table, message);
+        let fields = table.fields(message);
         match next_slot(fields, from) {
             Some(index) => {
                 let field = &fields[index];

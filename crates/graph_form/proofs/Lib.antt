@@ -1,5 +1,6 @@
 mod Determined
 mod Ends
+mod FewOneofs
 mod FieldOrder
 mod Forms
 mod Inserting

@@ -57,15 +57,18 @@ abbrev mutual
   pub slots_tree : Table → List Field → List Field → Placed → Node
   slots_tree T fs slots nothing = no_fields
   slots_tree T fs [] (first w others) = with_member T fs w (slots_tree T fs [] others)
-  slots_tree T fs (f ∷ slots) (first w others) = with_field f.number (slot_content T f.label f.kind w) (slots_tree T fs slots others)
+  slots_tree T fs (f ∷ slots) (first w others) =
+      with_field f.number (slot_content T f.label f.kind w) (slots_tree T fs slots others)
 
   -- what a field has by its slot: nothing where the first word is 0
   pub slot_content : Table → Label → Kind → Word → Option Content
   slot_content T Optional k (word place v content) = unless_zero v (one (optional_item k v content))
   slot_content T Repeated k (word place v content) = unless_zero v (many (elements_at T k content))
   slot_content T Packed k (word place v content) = unless_zero v (many (elements_at T k content))
-  slot_content T (Map key) k (word place v content) = unless_zero v (pairs (last_of_each key (entries_at T key k content)))
-  slot_content T _ (OfMessage m) (word place v content) = unless_zero v (one (node (slots_tree T (fields_of T m) (own_slots (fields_of T m)) content)))
+  slot_content T (Map key) k (word place v content) =
+      unless_zero v (pairs (last_of_each key (entries_at T key k content)))
+  slot_content T _ (OfMessage m) (word place v content) =
+      unless_zero v (one (node (slots_tree T (fields_of T m) (own_slots (fields_of T m)) content)))
   slot_content T _ k (word place v content) = unless_zero v (one (scalar_item k v content))
 
   -- the fields with the member that a oneof's slot has, if its case isn't 0
@@ -75,7 +78,8 @@ abbrev mutual
 
   -- the value of a plain slot: that of a message is the tree of the node behind its address
   pub plain_item : Table → Kind → Word → Item
-  plain_item T (OfMessage m) (word place v content) = node (slots_tree T (fields_of T m) (own_slots (fields_of T m)) content)
+  plain_item T (OfMessage m) (word place v content) =
+      node (slots_tree T (fields_of T m) (own_slots (fields_of T m)) content)
   plain_item T k (word place v content) = scalar_item k v content
 
   -- the elements whose address stands there

@@ -86,7 +86,8 @@ cases_from (suc more) fs oneof depth at = (case_word fs oneof depth, at) ∷ cas
 -- the words of a node: the slots of its fields, and then those of its oneofs
 abbrev pub node_words : Table → ℕ → ℕ → ℕ → Expected
 node_words T m depth at =
-    slots_from (own_slots (fields_of T m)) depth at ++ cases_from (oneofs_of T m) (fields_of T m) 0 depth (at + 2 * length (own_slots (fields_of T m)))
+    slots_from (own_slots (fields_of T m)) depth at
+    ++ cases_from (oneofs_of T m) (fields_of T m) 0 depth (at + 2 * length (own_slots (fields_of T m)))
 
 abbrev pub size_words : Table → ℕ → ℕ
 size_words T m = 2 * length (own_slots (fields_of T m)) + 3 * oneofs_of T m
@@ -117,7 +118,8 @@ elements_from (suc more) k depth at = (plain_role k depth true, at) ∷ elements
 -- an entry is the key and the value, each as a plain slot
 abbrev pub entries_from : ℕ → Kind → Kind → ℕ → ℕ → Expected
 entries_from zero key k depth at = []
-entries_from (suc more) key k depth at = (plain_role key depth true, at) ∷ (plain_role k depth true, at + 2) ∷ entries_from more key k depth (at + 4)
+entries_from (suc more) key k depth at =
+    (plain_role key depth true, at) ∷ (plain_role k depth true, at + 2) ∷ entries_from more key k depth (at + 4)
 
 -- the eight bytes of a word, byte 0 in its low bits
 abbrev pub word_bytes : ℕ → List ℕ
@@ -138,7 +140,8 @@ behind T (presence k) p v = if v == 0 then [] else (value k, p + 1) ∷ []
 behind T (run_length k) p v = if v == 0 then [] else (run_address k v, p + 1) ∷ []
 behind T (run_presence k) p v = if nat_le v 1 then [] else (run_address k (v - 1), p + 1) ∷ []
 behind T (run_address k bytes) p v = (run_word k bytes [], v) ∷ []
-behind T (run_word k left before) p v = if nat_le left 8 then [] else (run_word k (left - 8) (before ++ word_bytes v), p + 1) ∷ []
+behind T (run_word k left before) p v =
+    if nat_le left 8 then [] else (run_word k (left - 8) (before ++ word_bytes v), p + 1) ∷ []
 behind T (link m depth needed) p v = if v == 0 then [] else node_words T m (depth + 1) v
 behind T (count k depth) p v = if v == 0 then [] else (elements_address k v depth, p + 1) ∷ []
 behind T (elements_address k elements depth) p v = elements_from elements k depth v

@@ -47,7 +47,8 @@ pub fn malformed_graphs_keep_the_limit()
         → IsMalformed T H msg address limit xs reason place value → reason ≢ NoMethod }
 {}
 
-/// What is read of a graph determines which words are loaded of it, and what they come to: its tree, or why it is refused.
+/// What is read of a graph determines which words are loaded of it, and what they come to: its tree, or why it is
+/// refused.
 pub fn reading_determines_outcome()
     ensures { (T : Table) (H msg address limit : ℕ) (reading : ℕ → ℕ → ℕ) (xs ys : List (ℕ × ℕ)) (o q : Outcome)
         → ReadsBy reading 1 xs → ReadsBy reading 1 ys → ComesTo T H msg address limit xs o

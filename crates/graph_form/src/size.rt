@@ -1,11 +1,11 @@
 //! How many words a message takes in a heap, and where its fields stand among them.
 
-ghost use Rattle.std.specs.Prelude.{◌≡◌, ◌<◌, ◌≤◌, ◌+◌, ◌*◌, length, IsSome};
+ghost use Rattle.std.specs.Prelude.{◌≡◌, ◌<◌, ◌≤◌, ◌+◌, ◌*◌, length, IfNone, IfSome, IsSome, None, Some, slice_get};
 ghost use Rattle.mrpc_table.specs.Valid.{IsValid};
 ghost use Rattle.mrpc_table.specs.Normal.{fields_of, field_at};
 ghost use Rattle.graph_form.specs.Roles.{has_own_slot, is_member, oneofs_of, own_slots, size_words, slots_before, slot_of};
 
-use mrpc_table::{Field, Label, Table};
+use mrpc_table::{Field, Label, Message, Table};
 
 /// The number of words of a message's node: two for each field that is no member of a oneof, and
 /// three for each oneof. A message that the table lacks has none.
@@ -22,10 +22,18 @@ pub fn oneofs_of(table: &Table, msg: u32) -> u32
     ensures number { result ≡ oneofs_of table.now msg }
     ensures few { result ≤ 128 }
 {
-    match table.messages.as_slice().get(msg as usize) {
+    match message_at(table, msg) {
         Some(message) => message.oneofs.len() as u32,
         None => 0,
     }
+}
+
+// The message at a place of the table.
+fn message_at(table: &Table, msg: u32) -> Option<&Message>
+    ensures some { IfSome result (λ m. slice_get table.now.messages msg ≡ Some m.now) }
+    ensures none { IfNone result (slice_get table.now.messages msg ≡ None) }
+{
+    table.messages.as_slice().get(msg as usize)
 }
 
 /// Whether the label is that of a member of a oneof, which has no slot of its own.

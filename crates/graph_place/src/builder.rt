@@ -18,9 +18,9 @@ ghost use Rattle.graph_place.specs.Laid.{Puts, PutsWord, Begun, HoldsItem, membe
 ghost use Rattle.graph_place.specs.Size.{tree_words, fields_words, content_words, item_words, many_words, pairs_words};
 
 use crate::look_up::{
-    content_of, element_words, fields_of, is_member, kind_of, members_of, message_of, node_size,
-    oneofs_of, run_words, value_of,
+    content_of, element_words, kind_of, members_of, message_of, run_words, value_of,
 };
+use graph_form::{is_member, oneofs_of, size_words};
 use mrpc_table::{Entries, Field, FieldValue, Kind, Label, Memory, Table, Tree, Value, Values};
 use std::alloc::Global;
 
@@ -79,7 +79,7 @@ impl Builder {
             self.old.free self.old.free self.old.free self.new.free self.old.words.items self.new.words.items
             (λ P. tree_of table.now message P ≡ tree.now)) }
     {
-        let at = self.take(node_size(table, message));
+        let at = self.take(size_words(table, message));
         let place = self.slots(table, message, tree, at)?;
         self.cases(table, message, tree, place)
     }
@@ -103,7 +103,7 @@ impl Builder {
             (λ P. slots_tree table.now fs (own_slots fs) P ≡ tree.now)
             (λ Q. slots_tree table.now fs [] Q ≡ members fs tree.now)) }
     {
-        let fields = fields_of(table, message);
+        let fields = table.fields(message);
         let mut place = at;
         for field in fields {
             place = self.field(table, field, tree, place)?;

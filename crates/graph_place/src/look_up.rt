@@ -12,78 +12,17 @@ ghost use Rattle.graph_form.specs.Roles.{own_slots, oneofs_of, size_words, is_me
 ghost use Rattle.graph_place.specs.Content.{content_at, Ascends, is_of, is_member_of, member_of};
 ghost use Rattle.graph_place.specs.Size.{message_of};
 
-use graph_form::size_words;
-use mrpc_table::{Field, FieldValue, Kind, Label, MAX_FIELDS, Message, Table, Tree, Value};
-
-/// The message at a place of the table.
-fn message_at(table: &Table, message: u32) -> Option<&Message>
-    ensures some { IfSome result (λ m. slice_get table.now.messages message ≡ Some m.now) }
-    ensures none { IfNone result (slice_get table.now.messages message ≡ None) }
-{
-    table.messages.as_slice().get(message as usize)
-}
-
-/// The fields of the message at a place of the table; none where there is no such message.
-pub fn fields_of(table: &Table, message: u32) -> &[Field]
-    ensures { result.now ≡ fields_of table.now message }
-{
-    match message_at(table, message) {
-        Some(message) => message.fields.as_slice(),
-        None => &[],
-    }
-}
-
-/// The number of oneofs of the message at a place of the table.
-pub fn oneofs_of(table: &Table, message: u32) -> u32
-    requires { IsValid table.now }
-    ensures number { result ≡ oneofs_of table.now message }
-    ensures few { result ≤ 128 }
-{
-    match message_at(table, message) {
-        Some(message) => message.oneofs.len() as u32,
-        None => 0,
-    }
-}
-
-/// How many words a node of the message at a place of the table takes.
-pub fn node_size(table: &Table, message: u32) -> u64
-    requires { IsValid table.now }
-    ensures { result ≡ size_words table.now message }
-{
-    if (message as usize) < table.messages.len() {
-        size_words(table, message)
-    } else {
-        0
-    }
-}
-
-/// The field of a number in the message at a place of the table.
-fn field_of(table: &Table, message: u32, number: u32) -> Option<&Field>
-    requires { IsValid table.now }
-    ensures { option_copied result ≡ field_at (fields_of table.now message) number }
-{
-    match message_at(table, message) {
-        Some(message) => message.field(number),
-        None => None,
-    }
-}
+use mrpc_table::{FieldValue, Kind, Label, MAX_FIELDS, Table, Tree, Value};
 
 /// The kind of the field of a number in the message at a place of the table.
 pub fn kind_of(table: &Table, message: u32, number: u32) -> Kind
     requires { IsValid table.now }
     ensures { result ≡ member_kind (fields_of table.now message) number }
 {
-    match field_of(table, message, number) {
+    match table.field(message, number) {
         Some(field) => field.kind,
         None => Kind::Uint64,
     }
-}
-
-/// Whether the label is that of a member of a oneof.
-pub fn is_member(label: Label) -> bool
-    ensures { result ≡ is_member label }
-{
-    matches!(label, Label::Member(_))
 }
 
 /// The message that a kind names.
@@ -168,7 +107,7 @@ fn note_number(members: &mut [u32], table: &Table, message: u32, number: u32)
     ensures { (oneof : ℕ) → slice_index members.new oneof
         ≡ (if is_member_of (fields_of table.now message) oneof number then number else slice_index members.old oneof) }
 {
-    match field_of(table, message, number) {
+    match table.field(message, number) {
         Some(field) => note_label(members, field.label, number),
         None => (),
     }

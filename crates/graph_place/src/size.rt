@@ -6,7 +6,8 @@ ghost use Rattle.mrpc_table.specs.Valid.{IsValid};
 ghost use Rattle.mrpc_table.specs.View.{item_of, items_of, pairs_of, content_of};
 ghost use Rattle.graph_place.specs.Size.{capped, tree_words, content_words, item_words, many_words, pairs_words, key_words};
 
-use crate::look_up::{element_words, kind_of, message_of, node_size, run_words};
+use crate::look_up::{element_words, kind_of, message_of, run_words};
+use graph_form::size_words;
 use mrpc_table::{Entries, FieldValue, Kind, Table, Tree, Value, Values};
 
 /// How many words a normal tree of the message at the place `msg` of the table takes in a heap, or 2^64 - 1 where it is
@@ -26,7 +27,7 @@ fn node_words(tree: &Tree, table: &Table, msg: u32) -> u64
     requires { IsValid table.now }
     ensures { result ≡ capped (tree_words table.now msg tree.now) }
 {
-    let mut total = node_size(table, msg);
+    let mut total = size_words(table, msg);
     for field in &tree.fields {
         let kind = kind_of(table, msg, field.0);
         total = total.saturating_add(content_words(&field.1, table, kind));

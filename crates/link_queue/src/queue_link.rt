@@ -42,9 +42,21 @@ impl<'r, R> Model for QueueLink<'r, R> {
 
     ghost Value = { Queueing };
 
-    ghost view = { λ l. record { handed = frames_of (put_of l.out); finished = l.finished; given = given_by l.incoming; ended = l.ended; told = bytes_of (told_by l.incoming); most = l.most; health = l.health; faults = l.faults; forward = producer_queue l.out; backward = reader_queue l.incoming } };
+    ghost view = { λ l. record {
+      handed = frames_of (put_of l.out);
+      finished = l.finished;
+      given = given_by l.incoming;
+      ended = l.ended;
+      told = bytes_of (told_by l.incoming);
+      most = l.most;
+      health = l.health;
+      faults = l.faults;
+      forward = producer_queue l.out;
+      backward = reader_queue l.incoming;
+    } };
 
-    ghost invariant = { λ l. QueuesUp l.most (capacity_of l.out) (free_of l.out) (put_of l.out) l.finished (taken_by l.incoming) (given_by l.incoming) l.ended l.health l.faults };
+    ghost invariant = { λ l. QueuesUp l.most (capacity_of l.out) (free_of l.out) (put_of l.out) l.finished
+        (taken_by l.incoming) (given_by l.incoming) l.ended l.health l.faults };
 }
 
 impl<'r, R: Wait> QueueLink<'r, R> {
@@ -152,7 +164,11 @@ impl<'r, R: Wait> QueueLink<'r, R> {
         ensures idle { result ≡ Came.Idle → IsPrefix self.old.told self.new.given }
         ensures fails { (result ≡ Came.Failed) ↔ (self.new.health ≡ Health.Failed) }
         ensures lacks { (result ≡ Came.Memory) ↔ (self.new.health ≡ Health.Memory) }
-        ensures same { self.new ≡ record self.old { given = self.new.given; ended = self.new.ended; health = self.new.health } }
+        ensures same { self.new ≡ record self.old {
+          given = self.new.given;
+          ended = self.new.ended;
+          health = self.new.health;
+        } }
     {
         match self.incoming.read(self.rt, buf) {
             Found::Bytes(count) => Came::Bytes(count),
@@ -226,7 +242,12 @@ impl<'r, R: Wait> Link for QueueLink<'r, R> {
         ensures idle { result ≡ Came.Idle → IsPrefix self.old.told self.new.given }
         ensures end { result ≡ Came.End → self.new.ended ≡ true }
         ensures cause { HasCause (result ≡ Came.Failed) self.old.faults self.new.faults }
-        ensures same { self.new ≡ record self.old { given = self.new.given; ended = self.new.ended; health = self.new.health; faults = self.new.faults } }
+        ensures same { self.new ≡ record self.old {
+          given = self.new.given;
+          ended = self.new.ended;
+          health = self.new.health;
+          faults = self.new.faults;
+        } }
     {
         match self.health {
             Health::Failed => {
@@ -274,7 +295,14 @@ impl Model for Passed {
 
     ghost Value = { PassedOn };
 
-    ghost view = { λ p. record { handed = frames_of (put_of p.out); given = given_by p.incoming; ended = p.ended; failed = p.failed; forward = producer_queue p.out; backward = reader_queue p.incoming } };
+    ghost view = { λ p. record {
+      handed = frames_of (put_of p.out);
+      given = given_by p.incoming;
+      ended = p.ended;
+      failed = p.failed;
+      forward = producer_queue p.out;
+      backward = reader_queue p.incoming;
+    } };
 
     ghost invariant = { λ p. HasQueuedUp (put_of p.out) (taken_by p.incoming) (given_by p.incoming) p.ended p.failed };
 }

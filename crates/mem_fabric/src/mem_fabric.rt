@@ -44,7 +44,15 @@ impl<'r, R> Model for MemFabric<'r, R> {
 
     ghost Value = { FabricState };
 
-    ghost view = { λ f. record { back = f.back.items; away = f.away; failing_openings = f.openings.failing; failing_sends = f.sends.items; failing_receives = f.receives.items; openings = f.openings.calls; faults = f.faults } };
+    ghost view = { λ f. record {
+      back = f.back.items;
+      away = f.away;
+      failing_openings = f.openings.failing;
+      failing_sends = f.sends.items;
+      failing_receives = f.receives.items;
+      openings = f.openings.calls;
+      faults = f.faults;
+    } };
 
     ghost invariant = { λ f. vec_len f.back + f.away ≤ vec_capacity f.back };
 }
@@ -105,8 +113,10 @@ impl<'r, R: Wait> MemFabric<'r, R> {
         ensures handed { IfOk result (λ ends. (ends.0.handed ≡ []) × (ends.1.handed ≡ [])) }
         ensures not_ended { IfOk result (λ ends. (ends.0.ended ≡ false) × (ends.1.ended ≡ false)) }
         ensures no_faults { IfOk result (λ ends. (ends.0.faults ≡ 0) × (ends.1.faults ≡ 0)) }
-        ensures first { IfOk result (λ ends. IsNewEnd (numbers_of a self.now.failing_sends) (numbers_of a self.now.failing_receives) ends.0) }
-        ensures second { IfOk result (λ ends. IsNewEnd (numbers_of b self.now.failing_sends) (numbers_of b self.now.failing_receives) ends.1) }
+        ensures first { IfOk result (λ ends.
+            IsNewEnd (numbers_of a self.now.failing_sends) (numbers_of a self.now.failing_receives) ends.0) }
+        ensures second { IfOk result (λ ends.
+            IsNewEnd (numbers_of b self.now.failing_sends) (numbers_of b self.now.failing_receives) ends.1) }
     {
         let (from_a, to_b) = one_way_queue::open(self.alloc, MOST_PIECES + END_PLACES)?;
         let (from_b, to_a) = one_way_queue::open(self.alloc, MOST_PIECES + END_PLACES)?;
@@ -147,14 +157,20 @@ impl<'r, R: Wait + Sync> Fabric for MemFabric<'r, R> {
         ensures handed { IfOk result (λ ends. (ends.0.handed ≡ []) × (ends.1.handed ≡ [])) }
         ensures not_ended { IfOk result (λ ends. (ends.0.ended ≡ false) × (ends.1.ended ≡ false)) }
         ensures no_faults { IfOk result (λ ends. (ends.0.faults ≡ 0) × (ends.1.faults ≡ 0)) }
-        ensures first { IfOk result (λ ends. IsNewEnd (numbers_of a self.old.failing_sends) (numbers_of a self.old.failing_receives) ends.0) }
-        ensures second { IfOk result (λ ends. IsNewEnd (numbers_of b self.old.failing_sends) (numbers_of b self.old.failing_receives) ends.1) }
+        ensures first { IfOk result (λ ends.
+            IsNewEnd (numbers_of a self.old.failing_sends) (numbers_of a self.old.failing_receives) ends.0) }
+        ensures second { IfOk result (λ ends.
+            IsNewEnd (numbers_of b self.old.failing_sends) (numbers_of b self.old.failing_receives) ends.1) }
 
         ensures away { IfOk result (λ ends. self.new.away ≡ self.old.away + 2) }
         ensures same_away { OnErr result (self.new.away ≡ self.old.away) }
         ensures openings { self.new.openings ≡ raised self.old.openings }
         ensures cause { HasCause (IsErrOf result OpenFault.Failed) self.old.faults self.new.faults }
-        ensures same { self.new ≡ record self.old { away = self.new.away; openings = self.new.openings; faults = self.new.faults } }
+        ensures same { self.new ≡ record self.old {
+          away = self.new.away;
+          openings = self.new.openings;
+          faults = self.new.faults;
+        } }
     {
         if self.openings.next() {
             self.faults = self.faults.saturating_add(1);

@@ -50,7 +50,20 @@ impl<'r, R> Model for PairLink<'r, R> {
 
     ghost Value = { PairEnd };
 
-    ghost view = { λ l. record { handed = frames_of (put_of l.out); finished = l.finished; given = given_by l.incoming; ended = l.ended; told = bytes_of (told_by l.incoming); failing_sends = l.sends.failing; failing_receives = l.receives.failing; sends = l.sends.calls; receives = l.receives.calls; faults = l.faults; outward = producer_queue l.out; inward = reader_queue l.incoming } };
+    ghost view = { λ l. record {
+      handed = frames_of (put_of l.out);
+      finished = l.finished;
+      given = given_by l.incoming;
+      ended = l.ended;
+      told = bytes_of (told_by l.incoming);
+      failing_sends = l.sends.failing;
+      failing_receives = l.receives.failing;
+      sends = l.sends.calls;
+      receives = l.receives.calls;
+      faults = l.faults;
+      outward = producer_queue l.out;
+      inward = reader_queue l.incoming;
+    } };
 
     ghost invariant = { λ l. IsOutgoing l.finished (put_of l.out)
         × ((f : Bool) × IsOutgoing f (told_by l.incoming))
@@ -177,7 +190,8 @@ impl<'r, R: Wait> Link for PairLink<'r, R> {
 
     fn send(&mut self, frame: &[u8]) -> Handed
         // A send fails exactly where its number is listed, or the sending side was ended.
-        ensures fails { (result ≡ Handed.Failed) ↔ (Contains self.old.failing_sends self.new.sends ⊎ IsTrue self.old.finished) }
+        ensures fails { (result ≡ Handed.Failed)
+            ↔ (Contains self.old.failing_sends self.new.sends ⊎ IsTrue self.old.finished) }
 
         ensures appended { result ≡ Handed.Done → self.new.handed ≡ self.old.handed ++ frame.now ∷ [] }
         ensures kept { result ≢ Handed.Done → self.new.handed ≡ self.old.handed }
@@ -186,7 +200,11 @@ impl<'r, R: Wait> Link for PairLink<'r, R> {
         ensures sends { self.new.sends ≡ raised self.old.sends }
         ensures faults { result ≡ Handed.Failed → self.new.faults ≡ raised self.old.faults }
         ensures cause { HasCause (result ≡ Handed.Failed) self.old.faults self.new.faults }
-        ensures same { self.new ≡ record self.old { handed = self.new.handed; sends = self.new.sends; faults = self.new.faults } }
+        ensures same { self.new ≡ record self.old {
+          handed = self.new.handed;
+          sends = self.new.sends;
+          faults = self.new.faults;
+        } }
     {
         if self.sends.next() {
             self.fault();
@@ -220,7 +238,12 @@ impl<'r, R: Wait> Link for PairLink<'r, R> {
         ensures receives { self.new.receives ≡ raised self.old.receives }
         ensures faults { result ≡ Came.Failed → self.new.faults ≡ raised self.old.faults }
         ensures cause { HasCause (result ≡ Came.Failed) self.old.faults self.new.faults }
-        ensures same { self.new ≡ record self.old { given = self.new.given; receives = self.new.receives; faults = self.new.faults; ended = self.new.ended } }
+        ensures same { self.new ≡ record self.old {
+          given = self.new.given;
+          receives = self.new.receives;
+          faults = self.new.faults;
+          ended = self.new.ended;
+        } }
     {
         if self.receives.next() {
             self.fault();

@@ -42,7 +42,9 @@ impl<R: Files + Drop> FileSink<R> {
         requires some { 0 < length piece.now }
 
         ensures count { OnTook result (λ n. (0 < n) × (n ≤ length piece.now)) }
-        ensures appended { OnTook result (λ n. Appends (contents_of R.File.contents self.old.file) (contents_of R.File.contents self.new.file) (take n piece.now)) }
+        ensures appended { OnTook result (λ n.
+            Appends (contents_of R.File.contents self.old.file) (contents_of R.File.contents self.new.file)
+            (take n piece.now)) }
         ensures kept { result ≡ Put.Failed
             → Keeps (contents_of R.File.contents self.old.file) (contents_of R.File.contents self.new.file) }
         ensures made { OnTook result (λ _. IsSome self.new.file) }
@@ -74,7 +76,9 @@ impl<R: Files + Drop> Sink for FileSink<R> {
 
         // What was written.
         ensures count { OnTook result (λ n. (0 < n) × (n ≤ length piece.now)) }
-        ensures appended { OnTook result (λ n. Appends (contents_of R.File.contents self.old.file) (contents_of R.File.contents self.new.file) (take n piece.now)) }
+        ensures appended { OnTook result (λ n.
+            Appends (contents_of R.File.contents self.old.file) (contents_of R.File.contents self.new.file)
+            (take n piece.now)) }
         ensures kept { result ≡ Put.Failed
             → Keeps (contents_of R.File.contents self.old.file) (contents_of R.File.contents self.new.file) }
         ensures made { OnTook result (λ _. IsSome self.new.file) }

@@ -34,7 +34,8 @@ impl<R: Read + Drop> Source for StandardInput<R> {
 
         // What was read.
         ensures count { OnBytes result (λ n. (0 < n) × (n ≤ length buf.old)) }
-        ensures next { OnBytes result (λ n. Consumes (R.remaining self.old.reader) (R.remaining self.new.reader) (take n buf.new)) }
+        ensures next { OnBytes result (λ n. Consumes (R.remaining self.old.reader) (R.remaining self.new.reader)
+            (take n buf.new)) }
         ensures end { result ≡ Got.End → IsAtEnd (R.remaining self.old.reader) }
         ensures kept { OnNoBytes result (Keeps (R.remaining self.old.reader) (R.remaining self.new.reader)) }
 

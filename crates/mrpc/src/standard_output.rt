@@ -36,7 +36,8 @@ impl<W: Write + Drop> Sink for StandardOutput<W> {
 
         // What was written.
         ensures count { OnTook result (λ n. (0 < n) × (n ≤ length piece.now)) }
-        ensures appended { OnTook result (λ n. Appends (W.contents self.old.writer) (W.contents self.new.writer) (take n piece.now)) }
+        ensures appended { OnTook result (λ n. Appends (W.contents self.old.writer) (W.contents self.new.writer)
+            (take n piece.now)) }
         ensures kept { result ≡ Put.Failed → Keeps (W.contents self.old.writer) (W.contents self.new.writer) }
 
         // What is counted.

@@ -32,7 +32,8 @@ hello_line f = line (codes "hello" ∷ decimal f.conn ∷ decimal (length f.payl
 
 -- the line of a request or a reply whose message has this encoding
 abbrev pub call_line : Frame → List ℕ → List ℕ
-call_line f bytes = line (codes "frame" ∷ decimal f.kind ∷ decimal f.method ∷ decimal f.conn ∷ decimal f.number ∷ hex_word bytes ∷ [])
+call_line f bytes = line (codes "frame" ∷ decimal f.kind ∷ decimal f.method ∷ decimal f.conn ∷ decimal f.number
+    ∷ hex_word bytes ∷ [])
 
 -- the line of a frame
 pub data IsLineOf (T : Table) (f : Frame) (text : List ℕ) : Type 0 where

@@ -46,7 +46,8 @@ pub const WIRE_FAILED: u8 = 6;
 /// Runs the command that the words name, and answers its exit status.
 ///
 /// `replay` reads a script from `input`, runs it, and writes the audit to `out` and the frames to `wire`. The first
-/// fault of a text that is no script (`script_lang` says which are) is written to `out` as one line `fault LINE REASON`.
+/// fault of a text that is no script (`script_lang` says which are) is written to `out` as one line `fault LINE
+/// REASON`.
 ///
 /// `decode` reads the line `mrpc-decode 1`, the line `table`, the canonical text of a table and the line
 /// `end`, and behind them frames to the end of the input. For each frame it writes a line to `out`:

@@ -20,7 +20,8 @@ AllOf queue [] = ⊤
 AllOf queue (credit ∷ credits) = (credit.pass.table_id ≡ queue) × AllOf queue credits
 
 -- what one pass knows of the queue that all credits are of: its name; or it is the only pass, and nothing waits
-pub record Names {T : Type 0} (queue : TableId) (items : List (Credit T)) (views : List Desk) (port : ℕ) (v : Desk) : Type 0 where
+pub record Names {T : Type 0} (queue : TableId) (items : List (Credit T)) (views : List Desk) (port : ℕ)
+    (v : Desk) : Type 0 where
   pub named : v.named ≡ true → v.queue ≡ queue
   pub alone : v.named ≡ false → (items ≡ []) × ((other : ℕ) (u : Desk) → get_elem? views other ≡ some u → other ≡ port)
 

@@ -60,7 +60,8 @@ impl<M> PieceReader<M> {
         ensures given { OnBytes result (λ n. given_by self.new ≡ given_by self.old ++ take n buf.new) }
         ensures no_bytes { OnNoBytes result (given_by self.new ≡ given_by self.old) }
         // What a mark and an empty queue tell.
-        ensures mark { OnMark result (λ mark. marks_of (taken_by self.new) ≡ marks_of (taken_by self.old) ++ mark ∷ []) }
+        ensures mark { OnMark result (λ mark.
+            marks_of (taken_by self.new) ≡ marks_of (taken_by self.old) ++ mark ∷ []) }
         ensures agree { OnMark result (λ mark. Agree (told_by self.old) (taken_by self.new)) }
         ensures no_mark { OnNoMark result (marks_of (taken_by self.new) ≡ marks_of (taken_by self.old)) }
         ensures all { OnNoBytes result (given_by self.new ≡ bytes_of (taken_by self.new)) }
@@ -105,11 +106,13 @@ impl<M> PieceReader<M> {
     fn next_piece<R: Wait>(&mut self, rt: &R) -> Next<M>
         requires done { length self.old.piece ≤ self.old.at }
         ensures given { given_by self.new ≡ given_by self.old }
-        ensures mark { OnNextMark result (λ mark. marks_of (taken_by self.new) ≡ marks_of (taken_by self.old) ++ mark ∷ []) }
+        ensures mark { OnNextMark result (λ mark.
+            marks_of (taken_by self.new) ≡ marks_of (taken_by self.old) ++ mark ∷ []) }
         ensures agree { OnNextMark result (λ mark. Agree (told_by self.old) (taken_by self.new)) }
         ensures no_mark { OnNextBytes result (marks_of (taken_by self.new) ≡ marks_of (taken_by self.old)) }
         ensures all { OnNoNextBytes result (given_by self.new ≡ bytes_of (taken_by self.new)) }
-        ensures empty { OnNoNext result ((taken_by self.new ≡ taken_by self.old) × IsPrefix (told_by self.old) (taken_by self.old)) }
+        ensures empty { OnNoNext result ((taken_by self.new ≡ taken_by self.old)
+            × IsPrefix (told_by self.old) (taken_by self.old)) }
         ensures told { told_by self.new ≡ told_by self.old }
         ensures queue { reader_queue self.new ≡ reader_queue self.old }
     {

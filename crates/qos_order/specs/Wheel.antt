@@ -8,7 +8,8 @@ use Rattle.qos_order.specs.declared.weights.Weight.{Weight}
 use Rattle.qos_order.specs.declared.seat.Seat.{Seat}
 use Rattle.qos_order.specs.Account.{Fits, IsBalanced, IsWeight, Visit, granted, new_account, visited}
 
--- a wheel: the connections that were listed, with their weights and accounts, and the numbers of those that are on it, from the first to the last
+-- a wheel: the connections that were listed, with their weights and accounts, and the numbers of those that are on it,
+-- from the first to the last
 pub record WheelState : Type 0 where
   pub listed : List Seat
   pub order : List ℕ
@@ -56,7 +57,11 @@ pub record Turn : Type 0 where
 
 -- the connection after a visit
 abbrev pub seat_visited : Visit → Seat → Seat
-seat_visited visit seat = record { conn = seat.conn; weight = seat.weight; account = visited seat.weight seat.account visit }
+seat_visited visit seat = record {
+  conn = seat.conn;
+  weight = seat.weight;
+  account = visited seat.weight seat.account visit;
+}
 
 -- the listed connections after a visit of this one
 abbrev pub listed_after : ℕ → Visit → List Seat → List Seat
@@ -114,12 +119,17 @@ weight_on wheel conn = option_map_or (λ s. s.weight) (seat_of wheel conn) 0
 
 -- the visits and the rounds that a connection had in these turns
 abbrev pub visits_in : WheelState → List Turn → ℕ → ℕ
-visits_in wheel turns conn = option_map_or (λ a. a.visits) (account_of (wheel_after wheel turns) conn) 0 - option_map_or (λ a. a.visits) (account_of wheel conn) 0
+visits_in wheel turns conn =
+    option_map_or (λ a. a.visits) (account_of (wheel_after wheel turns) conn) 0
+    - option_map_or (λ a. a.visits) (account_of wheel conn) 0
 
 abbrev pub rounds_in : WheelState → List Turn → ℕ → ℕ
-rounds_in wheel turns conn = option_map_or (λ a. a.rounds) (account_of (wheel_after wheel turns) conn) 0 - option_map_or (λ a. a.rounds) (account_of wheel conn) 0
+rounds_in wheel turns conn =
+    option_map_or (λ a. a.rounds) (account_of (wheel_after wheel turns) conn) 0
+    - option_map_or (λ a. a.rounds) (account_of wheel conn) 0
 
--- in a stretch that begins with nothing kept, in which none leaves, no account is at its end and every ending is Given, two connections on the wheel differ by one visit at most
+-- in a stretch that begins with nothing kept, in which none leaves, no account is at its end and every ending is Given,
+-- two connections on the wheel differ by one visit at most
 abbrev pub VisitsAreEven : Type 0
 VisitsAreEven = (wheel : WheelState) (turns : List Turn) (conn other : ℕ) → IsWheel wheel → NothingKept wheel
     → AreWhole wheel turns
@@ -131,4 +141,5 @@ abbrev pub SharesAreEven : Type 0
 SharesAreEven = (wheel : WheelState) (turns : List Turn) (conn other : ℕ) → IsWheel wheel → NothingKept wheel
     → AreWhole wheel turns
     → Contains wheel.order conn → Contains wheel.order other
-    → rounds_in wheel turns conn * weight_on wheel other ≤ rounds_in wheel turns other * weight_on wheel conn + weight_on wheel conn * weight_on wheel other
+    → rounds_in wheel turns conn * weight_on wheel other
+    ≤ rounds_in wheel turns other * weight_on wheel conn + weight_on wheel conn * weight_on wheel other

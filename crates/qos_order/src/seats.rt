@@ -31,7 +31,8 @@ pub fn count(seats: &mut [Seat], conn: u32, given: u64, ending: Ending)
     requires ascends { SeatsAscend seats.old }
     requires weights { All (λ s. IsWeight s.weight) seats.old }
     requires balanced { All (λ s. IsBalanced s.weight s.account) seats.old }
-    requires fits { IsSomeAnd (find (λ s. s.conn == conn) seats.old) (λ s. Fits (granted s.weight s.account.kept) (record { given = given; ending = ending })) }
+    requires fits { IsSomeAnd (find (λ s. s.conn == conn) seats.old) (λ s.
+        Fits (granted s.weight s.account.kept) (record { given = given; ending = ending })) }
     ensures { seats.new ≡ listed_after conn (record { given = given; ending = ending }) seats.old }
 {
     let Some(place) = place_of(seats, conn) else {

@@ -86,7 +86,10 @@ impl Wheel {
     /// whether it leaves the wheel. Else it goes last.
     pub fn visit(&mut self, given: u64, ending: Ending, leaves: bool)
         requires { IsTurn self.old (record { visit = record { given = given; ending = ending }; leaves = leaves }) }
-        ensures turned { self.new ≡ turned self.old (record { visit = record { given = given; ending = ending }; leaves = leaves }) }
+        ensures turned { self.new ≡ turned self.old (record {
+          visit = record { given = given; ending = ending };
+          leaves = leaves;
+        }) }
         ensures wheel { IsWheel self.new }
     {
         let Some(conn) = self.first() else {
@@ -111,7 +114,8 @@ impl Wheel {
 // The first leaves, or goes last.
 fn turn(order: &mut VecDeque<u32>, leaves: bool)
     requires { 0 < length order.old.items }
-    ensures { order.new.items ≡ (if leaves then drop 1 order.old.items else drop 1 order.old.items ++ take 1 order.old.items) }
+    ensures { order.new.items ≡ (if leaves then drop 1 order.old.items
+        else drop 1 order.old.items ++ take 1 order.old.items) }
 {
     if leaves {
         order.pop_front();

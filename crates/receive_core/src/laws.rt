@@ -16,9 +16,9 @@ pub fn one_fate()
     one_meaning();
 }
 
-/// Over the life of a connection the frames that had their fates are the first of its stream, in order and once, however
-/// it was cut: so it is at the opening, and it stays so at each piece of [`crate::Inbound::bytes`] and at each frame that
-/// [`crate::Inbound::turn`] takes. The call does nothing.
+/// Over the life of a connection the frames that had their fates are the first of its stream, in order and once,
+/// however it was cut: so it is at the opening, and it stays so at each piece of [`crate::Inbound::bytes`] and at each
+/// frame that [`crate::Inbound::turn`] takes. The call does nothing.
 pub fn frames_in_order()
     ensures begins { BeginsSo }
     ensures goes_on { GoesOnSo }

@@ -19,7 +19,8 @@ has_place at words place = nat_le at place && nat_lt place (at + words)
 
 -- how many of the holes and held blocks have a place
 abbrev pub owners_of : Layout → ℕ → ℕ
-owners_of layout place = count_by (λ hole. has_place hole.at hole.words place) layout.holes + count_by (λ block. has_place block.at block.words place) layout.held
+owners_of layout place = count_by (λ hole. has_place hole.at hole.words place) layout.holes
+    + count_by (λ block. has_place block.at block.words place) layout.held
 
 -- each place from 1 on is in one hole or one held block, and they have no other place
 pub record IsPartition (layout : Layout) : Type 0 where

@@ -74,4 +74,7 @@ pub record Keeps (layout : Layout) (entries : List (ℕ × Block)) (capacity : �
 
 -- so many words of the front of the hole at an index
 abbrev pub front_of : List Span → ℕ → ℕ → Span
-front_of holes index words = record { at = (slice_index_or holes index (record { at = 0; words = 0 })).at; words = words }
+front_of holes index words = record {
+  at = (slice_index_or holes index (record { at = 0; words = 0 })).at;
+  words = words;
+}

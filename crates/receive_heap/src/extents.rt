@@ -67,9 +67,19 @@ impl Model for Extents {
 
     ghost Value = { Layout };
 
-    ghost view = { λ e. record { words = e.words; holes = e.holes.items; held = values_of e.held.entries; next = e.next } };
+    ghost view = { λ e. record {
+      words = e.words;
+      holes = e.holes.items;
+      held = values_of e.held.entries;
+      next = e.next;
+    } };
 
-    ghost invariant = { λ e. Keeps (record { words = e.words; holes = e.holes.items; held = values_of e.held.entries; next = e.next }) e.held.entries (vec_capacity e.holes) };
+    ghost invariant = { λ e. Keeps (record {
+      words = e.words;
+      holes = e.holes.items;
+      held = values_of e.held.entries;
+      next = e.next;
+    }) e.held.entries (vec_capacity e.holes) };
 }
 
 impl Extents {

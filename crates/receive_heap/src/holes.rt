@@ -42,7 +42,8 @@ pub(crate) fn cut(holes: &mut Vec<Span>, index: usize, words: u64)
     requires some { 1 ≤ words }
     requires fits { FitsAt holes.old.items words index }
     ensures holes { AreHoles holes.new.items }
-    ensures places { (place : ℕ) → holes_at holes.new.items place + one_at (front_of holes.old.items index words) place ≡ holes_at holes.old.items place }
+    ensures places { (place : ℕ) → holes_at holes.new.items place + one_at (front_of holes.old.items index words) place
+        ≡ holes_at holes.old.items place }
     ensures len { vec_len holes.new ≤ vec_len holes.old }
     ensures capacity { vec_capacity holes.new ≡ vec_capacity holes.old }
 {

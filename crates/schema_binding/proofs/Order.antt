@@ -76,9 +76,6 @@ place_of T valid m has i within named =
 
 -- ---- fields
 
-abbrev pub FieldsAscend : List Field → Type 0
-FieldsAscend fs = Ascends (λ f g. f.number < g.number) fs
-
 number_trans : (f g h : Field) → f.number < g.number → g.number < h.number → f.number < h.number
 number_trans f g h a b = omega arith
 

@@ -20,7 +20,8 @@ IsSkipped (c ∷ text) = c ≡ 35
 -- the first words of the forms that aren't built yet
 abbrev pub later_words : List (List ℕ)
 later_words =
-    codes "tenant" ∷ codes "policy" ∷ codes "attach" ∷ codes "detach" ∷ codes "upgrade" ∷ codes "moment" ∷ codes "turn" ∷ codes "send" ∷ []
+    codes "tenant" ∷ codes "policy" ∷ codes "attach" ∷ codes "detach" ∷ codes "upgrade" ∷ codes "moment" ∷ codes "turn"
+    ∷ codes "send" ∷ []
 
 abbrev pub IsLater : List ℕ → Type 0
 IsLater text = (first : List ℕ) × (others : List (List ℕ)) × (words_of text ≡ first ∷ others)

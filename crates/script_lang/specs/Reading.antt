@@ -243,9 +243,19 @@ submits_after n (line.Submit conn method number addr) = n + 1
 submits_after n _ = n
 
 abbrev pub noted : Body → Line → Body
-noted b l = record { lines = b.lines; opened = opened_after b.opened l; submits = submits_after b.submits l; closed = b.closed }
+noted b l = record {
+  lines = b.lines;
+  opened = opened_after b.opened l;
+  submits = submits_after b.submits l;
+  closed = b.closed;
+}
 
 abbrev pub body_after : Body → Said → Body
 body_after b said.Nothing = b
 body_after b said.Close = record { lines = b.lines; opened = b.opened; submits = b.submits; closed = true }
-body_after b (said.Line l) = record { lines = b.lines ++ l ∷ []; opened = opened_after b.opened l; submits = submits_after b.submits l; closed = b.closed }
+body_after b (said.Line l) = record {
+  lines = b.lines ++ l ∷ [];
+  opened = opened_after b.opened l;
+  submits = submits_after b.submits l;
+  closed = b.closed;
+}

@@ -1,5 +1,5 @@
-//! The first line of a text. A long script is nearly all `store` lines of three short decimal numbers, so these are read
-//! without a search for their ends; every other line is cut at its line feed first.
+//! The first line of a text. A long script is nearly all `store` lines of three short decimal numbers, so these are
+//! read without a search for their ends; every other line is cut at its line feed first.
 
 ghost use Rattle.std.specs.Prelude.{◌≡◌, ◌<◌, [], ◌∷◌, length, IfSome, IfNone, IsTrue, MatchOption, Ok};
 ghost use Rattle.mrpc_table.specs.Lines.{pieces_of};

@@ -19,8 +19,8 @@ use mrpc_table::{Memory, Table};
 use std::alloc::Global;
 use table_text::{TableFault, one_fault, read_table, split_table};
 
-/// The bytes of the shortest line that stores a word, `store 1 1 0`. So many lines at most are worth a room of their own:
-/// nearly all lines of a long script store a word, and a text of nothing but line feeds gets no more.
+/// The bytes of the shortest line that stores a word, `store 1 1 0`. So many lines at most are worth a room of their
+/// own: nearly all lines of a long script store a word, and a text of nothing but line feeds gets no more.
 const SHORTEST_STORE: usize = 12;
 
 /// Why the lines of a text weren't read to their end.
@@ -46,8 +46,8 @@ impl From<Memory> for Stop {
 ///
 /// A text (this project's own format; the manual's "Scripts") begins with `mrpc-replay 1`, with `loads N` where the
 /// limit of loads isn't 1024, and with `table`. Then come the canonical text of a table, `end`, and lines that do
-/// something, the last of which is `close`. Behind the table empty lines and lines that begin with `#` say nothing. Each
-/// line ends with a line feed. Reading takes time in proportion to the text.
+/// something, the last of which is `close`. Behind the table empty lines and lines that begin with `#` say nothing.
+/// Each line ends with a line feed. Reading takes time in proportion to the text.
 ///
 /// # Errors
 ///

@@ -14,7 +14,8 @@ HeapId = TableId
 abbrev pub BeginsWith : {X : Type 0} → List X → List X → Type 0
 BeginsWith {X} whole front = (rest : List X) × (whole ≡ front ++ rest)
 
--- a load's number: so many first stores gave its place the value that was loaded; they are no fewer than its reader knew
+-- a load's number: so many first stores gave its place the value that was loaded; they are no fewer than its reader
+-- knew
 pub record IsNumberOf (stores : List (ℕ × ℕ)) (load : Load) (number : ℕ) : Type 0 where
   pub known : load.knew ≤ number
   pub made : number ≤ length stores

@@ -1,4 +1,5 @@
--- The rule of a heap's table, and what each step tells. The words are those of one list of stores, of which each seat knows a front.
+-- The rule of a heap's table, and what each step tells. The words are those of one list of stores, of which each seat
+-- knows a front.
 use Rattle.std.specs.Prelude.{◌≡◌, ℕ, List, [], ◌∷◌, ◌++◌, length, Option, None, Some, slice_index, ◌<◌}
 use mathlib.Core.Option.{some}
 use lib.ListN.{get_elem?}

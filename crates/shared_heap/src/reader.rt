@@ -27,9 +27,15 @@ impl Model for Reader {
     ghost use Rattle.std.specs.Prelude.{is_some};
     ghost use Rattle.shared_heap.specs.Reading.{IsReading};
 
-    ghost view = { λ r. record { heap = r.seat.table_id; known = r.seat.me.0.known; whole = is_some r.seat.me.0.all; loads = r.seat.me.0.loads } };
+    ghost view = { λ r. record {
+      heap = r.seat.table_id;
+      known = r.seat.me.0.known;
+      whole = is_some r.seat.me.0.all;
+      loads = r.seat.me.0.loads;
+    } };
 
-    ghost invariant = { λ r. IsReading r.seat.table_id (arc_value r.words).shared.table_id (arc_value r.words).shared.key r.seat.me };
+    ghost invariant = { λ r. IsReading r.seat.table_id (arc_value r.words).shared.table_id
+        (arc_value r.words).shared.key r.seat.me };
 }
 
 impl Words for Reader {

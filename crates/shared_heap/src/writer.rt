@@ -27,7 +27,8 @@ impl Model for Writer {
 
     ghost view = { λ w. record { heap = w.seat.table_id; stores = w.seat.me.0.known } };
 
-    ghost invariant = { λ w. IsWriting w.seat.table_id (arc_value w.words).shared.table_id (arc_value w.words).shared.key w.made w.seat.me };
+    ghost invariant = { λ w. IsWriting w.seat.table_id (arc_value w.words).shared.table_id
+        (arc_value w.words).shared.key w.made w.seat.me };
 }
 
 impl Stores for Writer {

@@ -25,7 +25,8 @@ impl Model for Seat {
 
     ghost view = { λ s. record { quota = s.seat.table_id; draws = s.seat.me.0.draws; share = s.seat.me.0.share } };
 
-    ghost invariant = { λ s. IsSeat s.seat.table_id (arc_value s.words).shared.table_id (arc_value s.words).shared.key s.seat.me };
+    ghost invariant = { λ s. IsSeat s.seat.table_id (arc_value s.words).shared.table_id
+        (arc_value s.words).shared.key s.seat.me };
 }
 
 impl Seat {

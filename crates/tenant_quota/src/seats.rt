@@ -56,7 +56,8 @@ impl Tickets for Seats {
         requires known { tenant < length self.old }
         requires window { window < WINDOWS }
 
-        ensures drawn { IfSome (drawn_by self.new tenant window) (λ tickets. IsSomeAnd (drawn_by self.old tenant window) (λ before. tickets ≡ before ++ result ∷ [])) }
+        ensures drawn { IfSome (drawn_by self.new tenant window) (λ tickets.
+            IsSomeAnd (drawn_by self.old tenant window) (λ before. tickets ≡ before ++ result ∷ [])) }
         ensures others { (t w : ℕ) → t < length self.old → w < WINDOWS → (t ≢ tenant) ⊎ (w ≢ window)
             → drawn_by self.new t w ≡ drawn_by self.old t w }
         ensures tenants { length self.new ≡ length self.old }

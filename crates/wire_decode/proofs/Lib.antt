@@ -7,7 +7,6 @@ mod EncodedMeaning
 mod EncodedReads
 mod FaultPlaces
 mod Faulty
-mod FieldPlaces
 mod Gathering
 mod Members
 mod Merging

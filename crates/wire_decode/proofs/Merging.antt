@@ -13,7 +13,7 @@ use Rattle.mrpc_table.specs.declared.table.Label.{Label}
 use Rattle.mrpc_table.specs.declared.table.Label.TheVariants.{Plain, Optional, Repeated, Packed, Map, Member}
 use Rattle.mrpc_table.specs.declared.table.Field.{Field}
 use Rattle.mrpc_table.specs.declared.table.Table.{Table}
-use Rattle.wire_decode.specs.Ascending.{FieldsAscend}
+use Rattle.mrpc_table.specs.Ascending.{FieldsAscend}
 use Rattle.wire_decode.specs.Reads.{is_message}
 use Rattle.wire_decode.specs.Merged.{contents_of, items_from, singles_in, join_fields, singular, element, default_of, some_items, some_pairs, present, present_if_set, field_content, with_content, with_fields, counted, merged}
 use Rattle.wire_decode.specs.Gathered.{RiseFrom, Rise, finish_at, finished_of, MeansAll, IsWith, part_of, IsGathered}

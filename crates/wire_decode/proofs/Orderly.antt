@@ -9,7 +9,7 @@ use Rattle.mrpc_table.specs.declared.table.Field.{Field}
 use Rattle.mrpc_table.specs.declared.table.Table.{Table}
 use Rattle.wire_base.specs.Records.{RecordAt, TagAt}
 use Rattle.wire_base.specs.declared.records.Record.{Record}
-use Rattle.wire_decode.specs.Ascending.{FieldsAscend}
+use Rattle.mrpc_table.specs.Ascending.{FieldsAscend}
 use Rattle.wire_decode.specs.Gathered.{AreAtMost}
 use Rattle.wire_decode.specs.Merged.{contents_of, join_fields, field_content, with_content, with_fields, counted, merged, oneof_of, oneof_at, are_rivals, is_overtaken}
 use Rattle.wire_decode.specs.Ordered.{AreRun, none_yet, one_more, IsWhole, IsFieldRead, may_follow, oneofs_with}

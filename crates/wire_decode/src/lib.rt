@@ -13,21 +13,19 @@ ghost use Rattle.std.specs.Prelude.{◌≡◌, ◌<◌, ◌≤◌, length, IfOk,
 ghost use Rattle.mrpc_table.specs.Valid.{IsValid};
 ghost use Rattle.mrpc_table.specs.Normal.{IsNormal};
 ghost use Rattle.mrpc_table.specs.Node.{Node};
-ghost use Rattle.wire_decode.specs.Ascending.{AllAscend};
+ghost use Rattle.mrpc_table.specs.Ascending.{AllAscend};
 ghost use Rattle.wire_decode.specs.Means.{Means};
 ghost use Rattle.wire_decode.specs.Faults.{IsFirstFault, FaultsAs};
 
 mod fault;
 mod gather;
 mod laws;
-mod look_up;
 mod merge;
 mod number;
 mod oneof;
 mod ordered;
 mod read;
 
-use crate::look_up::fields_of;
 use crate::merge::merged;
 use crate::ordered::ordered_message;
 use crate::read::read_message;
@@ -69,7 +67,7 @@ fn decoded(alloc: Global, bytes: &[u8], table: &Table, msg: u32) -> Result<Tree,
         → MatchResult result (λ u. u ≡ t) (λ f. f ≡ DecodeFault.Memory) }
 {
     one_meaning();
-    let fields = fields_of(table, msg);
+    let fields = table.fields(msg);
     match ordered_message(alloc, bytes, 0, table, fields, MAX_DEPTH - 1) {
         Some(fields) => Ok(Tree { fields }),
         None => merged_records(alloc, bytes, table, msg),
@@ -86,7 +84,7 @@ fn merged_records(alloc: Global, bytes: &[u8], table: &Table, msg: u32) -> Resul
 {
     one_meaning();
     meaning_or_fault();
-    let fields = fields_of(table, msg);
+    let fields = table.fields(msg);
     let raw = read_message(alloc, bytes, 0, table, fields, MAX_DEPTH - 1)?;
     Ok(merged(alloc, raw, table, msg, MAX_DEPTH)?)
 }

@@ -9,16 +9,16 @@ ghost use Rattle.wire_decode.specs.Gathered.{MeansAll, finish_at, NeverFallFrom,
 ghost use Rattle.map_entries.specs.Sorted.{items_of_entry};
 ghost use Rattle.mrpc_table.specs.Normal.{field_at};
 ghost use Rattle.mrpc_table.specs.declared.table.Field.{Field};
-ghost use Rattle.wire_decode.specs.Ascending.{AllAscend, FieldsAscend};
+ghost use Rattle.mrpc_table.specs.Ascending.{AllAscend, FieldsAscend};
 ghost use Rattle.mrpc_table.specs.Node.{Item, field, no_fields};
 
 use crate::gather::{Form, add, form_of, joined_value, values_of};
-use crate::look_up::{fields_of, find_field};
 use crate::number::is_message;
 use crate::oneof::counted;
 use map_entries::last_of_each;
 use mrpc_table::{
     Bytes, Entries, Field, FieldValue, Kind, Label, Memory, Numbered, Table, Tree, Value, Values,
+    find_field,
 };
 use std::alloc::Global;
 
@@ -40,7 +40,7 @@ pub fn merged(
             fields: Vec::new(alloc),
         });
     }
-    let fields = fields_of(table, place);
+    let fields = table.fields(place);
     let raw = by_number(counted(alloc, raw, fields)?)?;
     let held = gathered(alloc, raw, fields)?;
     let fields = finished(alloc, held, table, fields, depth - 1)?;

@@ -3,12 +3,11 @@
 ghost use Rattle.std.specs.Prelude.{◌≡◌, ◌≢◌, ℕ, ◌<◌, ◌^◌, [], ◌∷◌, ◌++◌, if◌then◌else◌, length, not, false, IfOk, OnOk, IfSome, vec_len, slice_index_or};
 ghost use Rattle.mrpc_table.specs.Node.{Node, Content, field};
 ghost use Rattle.mrpc_table.specs.View.{node_of};
-ghost use Rattle.wire_decode.specs.Ascending.{FieldsAscend};
+ghost use Rattle.mrpc_table.specs.Ascending.{FieldsAscend};
 ghost use Rattle.wire_decode.specs.Merged.{counted, oneof_at, is_overtaken};
 ghost use Rattle.wire_decode.specs.Behind.{overtakes, IsInFront, IsNoted, Tell, HasNoMember, IsCounted};
 
-use crate::look_up::find_field;
-use mrpc_table::{Field, FieldValue, Label, Memory, Numbered};
+use mrpc_table::{Field, FieldValue, Label, Memory, Numbered, find_field};
 use std::alloc::Global;
 
 /// The members of a oneof among the records behind a place.

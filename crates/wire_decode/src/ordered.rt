@@ -12,17 +12,17 @@ ghost use Rattle.wire_base.specs.Records.{TagAt, PayloadAt};
 ghost use Rattle.wire_base.specs.Encoding.{wire_type_of};
 ghost use Rattle.wire_base.specs.declared.records.Payload.{Payload};
 ghost use Rattle.wire_base.specs.declared.records.Payload.TheVariants.{Len};
-ghost use Rattle.wire_decode.specs.Ascending.{AllAscend, FieldsAscend};
+ghost use Rattle.mrpc_table.specs.Ascending.{AllAscend, FieldsAscend};
 ghost use Rattle.wire_decode.specs.Words.{is_list, number_in};
 ghost use Rattle.wire_decode.specs.Ordered.{IsWhole, IsValue, IsFieldRead, AreValues, AreEntries, IsPair, may_follow, oneofs_with, is_single, single_content};
 
-use crate::look_up::{fields_of, find_field};
 use crate::merge::{many, pairs, present, present_if_set, push_content};
 use crate::number::{is_numeric, wire_type_of, word_of};
 use crate::read::{element, elements, is_text};
 use map_entries::last_of_each;
 use mrpc_table::{
     Bytes, Entries, Field, FieldValue, Kind, Label, Numbered, Table, Tree, Value, Values,
+    find_field,
 };
 use std::alloc::Global;
 use wire_base::{read_tag, read_varint};
@@ -526,14 +526,7 @@ fn ordered_node(
     }
     let (first, end) = span_at(bytes, start)?;
     let inside = &bytes[..end];
-    let fields = ordered_message(
-        alloc,
-        inside,
-        first,
-        table,
-        fields_of(table, place),
-        room - 1,
-    )?;
+    let fields = ordered_message(alloc, inside, first, table, table.fields(place), room - 1)?;
     Some((Value::Node(Tree { fields }), end))
 }
 

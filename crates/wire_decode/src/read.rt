@@ -7,7 +7,7 @@ ghost use Rattle.mrpc_table.specs.Words.{is_numeric};
 ghost use Rattle.wire_base.specs.Encoding.{wire_type_of};
 ghost use Rattle.wire_base.specs.Records.{PayloadAt, VarintAt, IsWithin};
 ghost use Rattle.wire_base.specs.declared.records.Payload.{Payload};
-ghost use Rattle.wire_decode.specs.Ascending.{AllAscend, FieldsAscend};
+ghost use Rattle.mrpc_table.specs.Ascending.{AllAscend, FieldsAscend};
 ghost use Rattle.wire_decode.specs.Words.{AreElements, number_in, suits, word_of};
 ghost use Rattle.wire_decode.specs.Reads.{Reads, Holds, numbers, is_message};
 ghost use Rattle.wire_decode.specs.Parts.{IsPiece, NoPiece, IsFixedOrVarint, IsEntry, NoEntry, IsInner, NoInner};
@@ -17,10 +17,9 @@ ghost use Rattle.wire_decode.specs.Faults.{Faults, Fails, FaultsAs, reason_of};
 ghost use Rattle.wire_decode.specs.declared.fault.DecodeReason.TheVariants.{PackedLength, Utf8};
 
 use crate::fault::{DecodeFault, DecodeReason};
-use crate::look_up::{fields_of, find_field};
 use crate::number::{is_message, suits, wire_type_of, word_of};
 use mrpc_table::{
-    Bytes, Field, FieldValue, Kind, Label, Name, Numbered, Table, Tree, Value, Values,
+    Bytes, Field, FieldValue, Kind, Label, Name, Numbered, Table, Tree, Value, Values, find_field,
 };
 use std::alloc::Global;
 use wire_base::{Payload, WireFault, WireReason, payload_or_reason, read_record, read_varint};
@@ -179,14 +178,7 @@ fn message(
     if room == 0 {
         return Err(fault(DecodeReason::Depth, start));
     }
-    let fields = read_message(
-        alloc,
-        bytes,
-        start,
-        table,
-        fields_of(table, place),
-        room - 1,
-    )?;
+    let fields = read_message(alloc, bytes, start, table, table.fields(place), room - 1)?;
     Ok(FieldValue::One(Value::Node(Tree { fields })))
 }
 

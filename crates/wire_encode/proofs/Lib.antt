@@ -1,4 +1,3 @@
-mod FieldPlaces
 mod Fronts
 mod Parts
 mod ShortVarints

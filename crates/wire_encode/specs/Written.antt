@@ -1,9 +1,6 @@
 -- Bytes that are written from the end of a buffer to its front, and lengths that fit 64 bits.
 use Rattle.std.specs.Prelude.{◌≡◌, ℕ, ◌+◌, ◌-◌, ◌^◌, ◌<◌, min, List, ◌++◌, length, drop}
-use Rattle.mrpc_table.specs.Valid.{Ascends}
-use Rattle.mrpc_table.specs.Normal.{fields_of}
 use Rattle.mrpc_table.specs.Node.{Item}
-use Rattle.mrpc_table.specs.declared.table.Field.{Field}
 use Rattle.mrpc_table.specs.declared.table.Kind.{Kind}
 use Rattle.mrpc_table.specs.declared.table.Table.{Table}
 use Rattle.wire_base.specs.Encoding.{tag, delimited, wire_len, wire_type_of, item_bytes}
@@ -24,11 +21,3 @@ entry_bytes T n key k i j = tag n wire_len ++ delimited (record_bytes T 1 key i 
 -- a length, or the largest number of 64 bits where it is larger
 abbrev pub capped : ℕ → ℕ
 capped n = min n (2 ^ 64 - 1)
-
--- fields by ascending number
-abbrev pub FieldsAscend : List Field → Type 0
-FieldsAscend fs = Ascends (λ f g. f.number < g.number) fs
-
--- the fields of each message of the table
-pub record AllAscend (T : Table) : Type 0 where
-  pub each : (i : ℕ) → FieldsAscend (fields_of T i)

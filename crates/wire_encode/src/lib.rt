@@ -11,14 +11,14 @@ ghost use Rattle.std.specs.Prelude.{◌≡◌, ◌<◌, length, IfOk};
 ghost use Rattle.mrpc_table.specs.Valid.{IsValid};
 ghost use Rattle.mrpc_table.specs.Normal.{IsNormal};
 ghost use Rattle.wire_base.specs.Encoding.{encoding, fields_bytes};
-ghost use Rattle.wire_encode.specs.Written.{capped, AllAscend, FieldsAscend};
+ghost use Rattle.mrpc_table.specs.Ascending.{AllAscend, FieldsAscend};
+ghost use Rattle.wire_encode.specs.Written.{capped};
 
 mod look_up;
 mod output;
 mod size;
 mod write;
 
-use crate::look_up::fields_of;
 use crate::output::Output;
 use crate::size::message_len;
 use crate::write::write_message;
@@ -35,7 +35,7 @@ pub fn encode(alloc: Global, tree: &Tree, table: &Table, msg: u32) -> Result<Byt
     requires normal { IsNormal table.now msg tree.now }
     ensures { IfOk result (λ bytes. bytes ≡ encoding table.now msg tree.now) }
 {
-    encoded(alloc, tree, table, fields_of(table, msg))
+    encoded(alloc, tree, table, table.fields(msg))
 }
 
 /// The length in bytes of the encoding of a normal tree of the message at the place `msg` of the
@@ -46,7 +46,7 @@ pub fn encoded_len(tree: &Tree, table: &Table, msg: u32) -> u64
     requires normal { IsNormal table.now msg tree.now }
     ensures { result ≡ capped (length (encoding table.now msg tree.now)) }
 {
-    message_len(tree, table, fields_of(table, msg))
+    message_len(tree, table, table.fields(msg))
 }
 
 /// The encoding of any tree as a message with these fields.

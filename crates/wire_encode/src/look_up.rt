@@ -3,20 +3,9 @@
 ghost use Rattle.std.specs.Prelude.{◌≡◌, ◌<◌, length, IsTrue, IfSome, IfNone, None, slice_get};
 ghost use Rattle.mrpc_table.specs.Normal.{fields_of, field_at};
 ghost use Rattle.wire_base.specs.Encoding.{kind_at, label_at, key_kind, message_of, wire_type_of};
-ghost use Rattle.wire_encode.specs.Written.{AllAscend, FieldsAscend};
+ghost use Rattle.mrpc_table.specs.Ascending.{FieldsAscend};
 
-use mrpc_table::{Field, Kind, Label, Table};
-
-/// The fields of the message at a place of the table; none where there is no such message.
-pub fn fields_of(table: &Table, place: u32) -> &[Field]
-    ensures value { result.now ≡ fields_of table.now place }
-    ensures ascend { AllAscend table.now → FieldsAscend result.now }
-{
-    match table.messages.as_slice().get(place as usize) {
-        Some(message) => message.fields.as_slice(),
-        None => &[],
-    }
-}
+use mrpc_table::{Field, Kind, Label, find_field};
 
 /// The kind and the label of the field of a number.
 pub fn type_of(fields: &[Field], number: u32) -> (Kind, Label)
@@ -24,10 +13,8 @@ pub fn type_of(fields: &[Field], number: u32) -> (Kind, Label)
     ensures kind { result.0 ≡ kind_at fields.now number }
     ensures label { result.1 ≡ label_at fields.now number }
 {
-    match fields.binary_search_by_key(&number, |field| field.number) {
-        Ok(place) => (fields[place].kind, fields[place].label),
-        Err(_) => (Kind::Uint64, Label::Plain),
-    }
+    let (kind, label, _) = type_near(fields, number, 0);
+    (kind, label)
 }
 
 /// The same, and where the field stands. Trees and tables have their fields in one order, so that the place at hand
@@ -40,43 +27,6 @@ pub fn type_near(fields: &[Field], number: u32, hint: usize) -> (Kind, Label, us
     match find_field(fields, number, hint) {
         Some(place) => (fields[place].kind, fields[place].label, place),
         None => (Kind::Uint64, Label::Plain, hint),
-    }
-}
-
-/// The place of the field of a number.
-fn find_field(fields: &[Field], number: u32, hint: usize) -> Option<usize>
-    requires { FieldsAscend fields.now }
-    ensures bound { IfSome result (λ place. place < length fields.now) }
-    ensures found { IfSome result (λ place. slice_get fields.now place ≡ field_at fields.now number) }
-    ensures absent { IfNone result (field_at fields.now number ≡ None) }
-{
-    if stands_at(fields, number, hint) {
-        return Some(hint);
-    }
-    search(fields, number)
-}
-
-/// Whether the field of a number stands at a place.
-fn stands_at(fields: &[Field], number: u32, place: usize) -> bool
-    requires { FieldsAscend fields.now }
-    ensures bound { IsTrue result → place < length fields.now }
-    ensures found { IsTrue result → slice_get fields.now place ≡ field_at fields.now number }
-{
-    match fields.get(place) {
-        Some(field) => field.number == number,
-        None => false,
-    }
-}
-
-fn search(fields: &[Field], number: u32) -> Option<usize>
-    requires { FieldsAscend fields.now }
-    ensures bound { IfSome result (λ place. place < length fields.now) }
-    ensures found { IfSome result (λ place. slice_get fields.now place ≡ field_at fields.now number) }
-    ensures absent { IfNone result (field_at fields.now number ≡ None) }
-{
-    match fields.binary_search_by_key(&number, |field| field.number) {
-        Ok(place) => Some(place),
-        Err(_) => None,
     }
 }
 

@@ -3,9 +3,10 @@
 ghost use Rattle.std.specs.Prelude.{◌≡◌, ℕ, ◌+◌, ◌<◌, length};
 ghost use Rattle.mrpc_table.specs.View.{item_of, items_of, pairs_of, content_of};
 ghost use Rattle.wire_base.specs.Encoding.{varint, tag, number_bytes, item_bytes, joined_bytes, records_bytes, entries_bytes, content_bytes, fields_bytes};
-ghost use Rattle.wire_encode.specs.Written.{capped, AllAscend, FieldsAscend};
+ghost use Rattle.mrpc_table.specs.Ascending.{AllAscend, FieldsAscend};
+ghost use Rattle.wire_encode.specs.Written.{capped};
 
-use crate::look_up::{fields_of, key_kind, message_of, type_of, wire_type_of};
+use crate::look_up::{key_kind, message_of, type_of, wire_type_of};
 use mrpc_table::{Entries, Field, FieldValue, Kind, Label, Table, Tree, Value, Values};
 use wire_base::{varint_len, zigzag};
 
@@ -104,7 +105,7 @@ fn value_len(value: &Value, table: &Table, kind: Kind) -> u64
         Value::Number(n) => number_len(kind, *n),
         Value::Run(bytes) => delimited_len(bytes.len() as u64),
         Value::Node(tree) => {
-            let fields = fields_of(table, message_of(kind));
+            let fields = table.fields(message_of(kind));
             delimited_len(message_len(tree, table, fields))
         }
     }

@@ -4,9 +4,10 @@ ghost use Rattle.std.specs.Prelude.{◌≡◌, ◌-◌, ◌<◌, ◌≤◌, List
 ghost use Rattle.mrpc_table.specs.View.{item_of, items_of, pairs_of, content_of};
 ghost use Rattle.mrpc_table.specs.declared.table.Field.{Field};
 ghost use Rattle.wire_base.specs.Encoding.{varint, tag, delimited, kind_at, label_at, number_bytes, item_bytes, joined_bytes, records_bytes, entries_bytes, content_bytes, fields_bytes};
-ghost use Rattle.wire_encode.specs.Written.{AllAscend, FieldsAscend, record_bytes, entry_bytes};
+ghost use Rattle.mrpc_table.specs.Ascending.{AllAscend, FieldsAscend};
+ghost use Rattle.wire_encode.specs.Written.{record_bytes, entry_bytes};
 
-use crate::look_up::{fields_of, key_kind, message_of, type_near, wire_type_of};
+use crate::look_up::{key_kind, message_of, type_near, wire_type_of};
 use crate::output::Output;
 use mrpc_table::{Entries, Field, FieldValue, Kind, Label, Memory, Table, Tree, Value, Values};
 use wire_base::zigzag;
@@ -182,7 +183,7 @@ fn write_value(out: &mut Output, value: &Value, table: &Table, kind: Kind) -> Re
         }
         Value::Node(tree) => {
             let behind = out.len();
-            write_message(out, tree, table, fields_of(table, message_of(kind)))?;
+            write_message(out, tree, table, table.fields(message_of(kind)))?;
             write_length(out, behind)
         }
     }

@@ -4,9 +4,9 @@ use Rattle.wire_decode.proofs.decoded.Goals as goal
 
 pub returns-in-Some-clause-means : goal.returns-in-Some-clause-means
 returns-in-Some-clause-means c =
-    whole-means c.args.table.now c.args.msg c.args.bytes.now c.fields_of-fields.result.now _ c.fields_of-fields.ensures.value c.in-Some.ensures
+    whole-means c.args.table.now c.args.msg c.args.bytes.now c.fields-fields.result.now _ c.fields-fields.ensures.value c.in-Some.ensures
 
 pub returns-in-Some-clause-only : goal.returns-in-Some-clause-only
 returns-in-Some-clause-only c u means =
-    let here = whole-means c.args.table.now c.args.msg c.args.bytes.now c.fields_of-fields.result.now _ c.fields_of-fields.ensures.value c.in-Some.ensures in
+    let here = whole-means c.args.table.now c.args.msg c.args.bytes.now c.fields-fields.result.now _ c.fields-fields.ensures.value c.in-Some.ensures in
     c.one_meaning.ensures c.args.table.now c.args.msg c.args.bytes.now (node_of c.in-Some.fields.items) u here means

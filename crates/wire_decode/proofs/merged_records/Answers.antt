@@ -13,12 +13,12 @@ pub returns-in_err-raw-clause-only : goal.returns-in_err-raw-clause-only
 returns-in_err-raw-clause-only c u means =
     let p = err_from_is_err_and c.from_residual.result c.from_residual.ensures.1 in
     let P : List Field → Type 0 = λ fs. FaultsAs (λ r at. Faults c.args.table.now 31 fs c.args.bytes.now 0 r at) c.in_err-raw.field-0.0 in
-    rw (p.1, p.2) (only-memory c.meaning_or_fault.ensures.not_both c.args.table.now c.args.msg c.args.bytes.now u c.in_err-raw.field-0.0 means (subst P c.fields_of-fields.ensures.value c.in_err-raw.ensures.fault))
+    rw (p.1, p.2) (only-memory c.meaning_or_fault.ensures.not_both c.args.table.now c.args.msg c.args.bytes.now u c.in_err-raw.field-0.0 means (subst P c.fields-fields.ensures.value c.in_err-raw.ensures.fault))
 
 pub returns-clause-only : goal.returns-clause-only
 returns-clause-only c u means =
     let P : List Field → Type 0 = λ fs. Reads c.args.table.now 31 fs c.args.bytes.now 0 (node_of c.in_ok-raw.raw.items) in
     let raw = node_of c.in_ok-raw.raw.items in
     let tree = merged c.args.table.now 32 c.args.msg raw in
-    let here : Means c.args.table.now c.args.msg c.args.bytes.now tree = record { raw = raw; reads = subst P c.fields_of-fields.ensures.value c.in_ok-raw.ensures.found; value = refl } in
+    let here : Means c.args.table.now c.args.msg c.args.bytes.now tree = record { raw = raw; reads = subst P c.fields-fields.ensures.value c.in_ok-raw.ensures.found; value = refl } in
     c.in_ok-merged.ensures ∙ c.one_meaning.ensures c.args.table.now c.args.msg c.args.bytes.now tree u here means

@@ -83,14 +83,14 @@ members-loop-oneof-init t c =
 pub members-loop-oneof-preserved : goal.members-loop-oneof-preserved
 members-loop-oneof-preserved t c =
     let n = oneofs_of c.args.table.now c.args.message in
-    let some : oneofs_of c.args.table.now c.args.message - c.loop-oneof._oneof ≡ suc (oneofs_of c.args.table.now c.args.message - (c.loop-oneof._oneof + 1)) = omega (arith, c.loop-oneof-test.true, c.oneofs_of-oneof-end.ensures) in
+    let some : oneofs_of c.args.table.now c.args.message - c.loop-oneof._oneof ≡ suc (oneofs_of c.args.table.now c.args.message - (c.loop-oneof._oneof + 1)) = omega (arith, c.loop-oneof-test.true, c.oneofs_of-oneof-end.ensures.number) in
     cases_more c.args.table.now (fields_of c.args.table.now c.args.message) c.args.room n (n - c.loop-oneof._oneof) (n - (c.loop-oneof._oneof + 1)) c.args.tape.now.loads.now c.loop-oneof.tape.loads.now c.member.new.tape.loads.now c.args.found.now.items c.loop-oneof.found.items c.member.new.found.items
     some c.loop-oneof.invariant c.in_ok-member.ensures
 
 pub members-returns : goal.members-returns
 members-returns t c =
     let n = oneofs_of c.args.table.now c.args.message in
-    let none : oneofs_of c.args.table.now c.args.message - c.loop-oneof._oneof ≡ 0 = omega (arith, c.loop-oneof-test.false, c.oneofs_of-oneof-end.ensures) in
+    let none : oneofs_of c.args.table.now c.args.message - c.loop-oneof._oneof ≡ 0 = omega (arith, c.loop-oneof-test.false, c.oneofs_of-oneof-end.ensures.number) in
     cases_end c.args.table.now (fields_of c.args.table.now c.args.message) c.args.room n c.args.tape.now.loads.now c.loop-oneof.tape.loads.now c.args.found.now.items c.loop-oneof.found.items
     (subst (λ k. CasesOn c.args.table.now (fields_of c.args.table.now c.args.message) c.args.room n c.args.tape.now.loads.now k c.loop-oneof.tape.loads.now c.args.found.now.items c.loop-oneof.found.items) none c.loop-oneof.invariant)
 
@@ -142,14 +142,14 @@ slot-returns-in_ok-value-in-Plain t c =
 pub slots-loop-place-preserved : goal.slots-loop-place-preserved
 slots-loop-place-preserved t c =
     let fs = fields_of c.args.table.now c.args.message in
-    let all = c.fields_of-fields.result.now in
+    let all = c.fields-fields.result.now in
     slots_more c.args.table.now fs (own_slots fs) (own_slots (drop c.loop-place.from all)) (own_slots (drop (c.in-Some.place + 1) all)) c.args.room c.args.tape.now.loads.now c.loop-place.tape.loads.now c.slot.new.tape.loads.now c.args.found.now.items c.loop-place.found.items c.keep.new.found.items c.index-fields-place.result c.in_ok-content.content
     (c.in-Some.ensures.found c.index-fields-place.result c.index-fields-place.is) c.loop-place.invariant c.in_ok-content.ensures c.in_ok-keep.ensures
 
 pub slots-loop-place-init : goal.slots-loop-place-init
 slots-loop-place-init t c =
     let fs = fields_of c.args.table.now c.args.message in
-    subst (λ gs. SlotsOn c.args.table.now fs (own_slots fs) c.args.room c.args.tape.now.loads.now (own_slots gs) c.args.tape.now.loads.now c.args.found.now.items c.args.found.now.items) (sym c.fields_of-fields.ensures)
+    subst (λ gs. SlotsOn c.args.table.now fs (own_slots fs) c.args.room c.args.tape.now.loads.now (own_slots gs) c.args.tape.now.loads.now c.args.found.now.items c.args.found.now.items) (sym c.fields-fields.ensures.value)
     (slots_begin c.args.table.now fs (own_slots fs) c.args.room c.args.tape.now.loads.now c.args.found.now.items)
 
 pub slots-returns : goal.slots-returns

@@ -15,7 +15,7 @@ take_words-requires-clause-fits g c =
     let T = c.args.table.now in
     let H = g.W.Words.size c.args.words.now in
     let lies = c.lies_in.ensures.0 c.if-not-lies_in.false in
-    let here : LiesIn H c.args.addr (size_words T c.args.msg) = record { from_one = lies.from_one; to_end = omega (arith, lies.to_end, c.node_words-root.ensures, c.words-size.ensures) } in
+    let here : LiesIn H c.args.addr (size_words T c.args.msg) = record { from_one = lies.from_one; to_end = omega (arith, lies.to_end, c.size_words-root.ensures, c.words-size.ensures) } in
     let size : c.expect_node.new.self.size ≡ H = c.in_ok-expect_node.ensures.size ∙ c.new-walk.ensures.size ∙ c.words-size.ensures in
     let words : expected T c.expect_node.new.self ≡ node_words T c.args.msg 1 c.args.addr = c.in_ok-expect_node.ensures.expected ∙ ap (λ es. node_words T c.args.msg 1 c.args.addr ++ es) (c.new-walk.ensures.expected T) ∙ append-nil (node_words T c.args.msg 1 c.args.addr) in
     subst (λ es. AllFit c.expect_node.new.self.size es) (sym words) (subst (λ h. AllFit h (node_words T c.args.msg 1 c.args.addr)) (sym size) (node_fits T H c.args.msg 1 c.args.addr here.to_end))
@@ -25,7 +25,7 @@ returns-in-Some-clause-copied g c =
     let T = c.args.table.now in
     let H = g.W.Words.size c.args.words.now in
     let lies = c.lies_in.ensures.0 c.if-not-lies_in.false in
-    let here : LiesIn H c.args.addr (size_words T c.args.msg) = record { from_one = lies.from_one; to_end = omega (arith, lies.to_end, c.node_words-root.ensures, c.words-size.ensures) } in
+    let here : LiesIn H c.args.addr (size_words T c.args.msg) = record { from_one = lies.from_one; to_end = omega (arith, lies.to_end, c.size_words-root.ensures, c.words-size.ensures) } in
     let size : c.expect_node.new.self.size ≡ H = c.in_ok-expect_node.ensures.size ∙ c.new-walk.ensures.size ∙ c.words-size.ensures in
     let words : expected T c.expect_node.new.self ≡ node_words T c.args.msg 1 c.args.addr = c.in_ok-expect_node.ensures.expected ∙ ap (λ es. node_words T c.args.msg 1 c.args.addr ++ es) (c.new-walk.ensures.expected T) ∙ append-nil (node_words T c.args.msg 1 c.args.addr) in
     let stops = at_some _ _ c.in_ok-reason.field-0 c.in-Some.reason c.in-Some.is c.in_ok-reason.ensures.outcome in
@@ -38,7 +38,7 @@ returns-in-Some-clause-malformed g c =
     let T = c.args.table.now in
     let H = g.W.Words.size c.args.words.now in
     let lies = c.lies_in.ensures.0 c.if-not-lies_in.false in
-    let here : LiesIn H c.args.addr (size_words T c.args.msg) = record { from_one = lies.from_one; to_end = omega (arith, lies.to_end, c.node_words-root.ensures, c.words-size.ensures) } in
+    let here : LiesIn H c.args.addr (size_words T c.args.msg) = record { from_one = lies.from_one; to_end = omega (arith, lies.to_end, c.size_words-root.ensures, c.words-size.ensures) } in
     let size : c.expect_node.new.self.size ≡ H = c.in_ok-expect_node.ensures.size ∙ c.new-walk.ensures.size ∙ c.words-size.ensures in
     let words : expected T c.expect_node.new.self ≡ node_words T c.args.msg 1 c.args.addr = c.in_ok-expect_node.ensures.expected ∙ ap (λ es. node_words T c.args.msg 1 c.args.addr ++ es) (c.new-walk.ensures.expected T) ∙ append-nil (node_words T c.args.msg 1 c.args.addr) in
     let stops = at_some _ _ c.in_ok-reason.field-0 c.in-Some.reason c.in-Some.is c.in_ok-reason.ensures.outcome in
@@ -51,7 +51,7 @@ returns-in-Some-clause-counted g c =
     let T = c.args.table.now in
     let H = g.W.Words.size c.args.words.now in
     let lies = c.lies_in.ensures.0 c.if-not-lies_in.false in
-    let here : LiesIn H c.args.addr (size_words T c.args.msg) = record { from_one = lies.from_one; to_end = omega (arith, lies.to_end, c.node_words-root.ensures, c.words-size.ensures) } in
+    let here : LiesIn H c.args.addr (size_words T c.args.msg) = record { from_one = lies.from_one; to_end = omega (arith, lies.to_end, c.size_words-root.ensures, c.words-size.ensures) } in
     let size : c.expect_node.new.self.size ≡ H = c.in_ok-expect_node.ensures.size ∙ c.new-walk.ensures.size ∙ c.words-size.ensures in
     let words : expected T c.expect_node.new.self ≡ node_words T c.args.msg 1 c.args.addr = c.in_ok-expect_node.ensures.expected ∙ ap (λ es. node_words T c.args.msg 1 c.args.addr ++ es) (c.new-walk.ensures.expected T) ∙ append-nil (node_words T c.args.msg 1 c.args.addr) in
     let stops = at_some _ _ c.in_ok-reason.field-0 c.in-Some.reason c.in-Some.is c.in_ok-reason.ensures.outcome in
@@ -64,7 +64,7 @@ returns-clause-copied g c =
     let T = c.args.table.now in
     let H = g.W.Words.size c.args.words.now in
     let lies = c.lies_in.ensures.0 c.if-not-lies_in.false in
-    let here : LiesIn H c.args.addr (size_words T c.args.msg) = record { from_one = lies.from_one; to_end = omega (arith, lies.to_end, c.node_words-root.ensures, c.words-size.ensures) } in
+    let here : LiesIn H c.args.addr (size_words T c.args.msg) = record { from_one = lies.from_one; to_end = omega (arith, lies.to_end, c.size_words-root.ensures, c.words-size.ensures) } in
     let size : c.expect_node.new.self.size ≡ H = c.in_ok-expect_node.ensures.size ∙ c.new-walk.ensures.size ∙ c.words-size.ensures in
     let words : expected T c.expect_node.new.self ≡ node_words T c.args.msg 1 c.args.addr = c.in_ok-expect_node.ensures.expected ∙ ap (λ es. node_words T c.args.msg 1 c.args.addr ++ es) (c.new-walk.ensures.expected T) ∙ append-nil (node_words T c.args.msg 1 c.args.addr) in
     let leads = at_none _ _ c.in_ok-reason.field-0 c.in-None.is c.in_ok-reason.ensures.outcome in

@@ -22,8 +22,8 @@ merged-returns t c =
     let raw = node_of c.args.raw.items in
     let d = c.args.depth - 1 in
     let more : c.args.depth ≡ suc d = omega (arith, c.if-depth-eq0.false) in
-    finished-merged T d c.args.place c.fields_of-fields.result.now raw (node_of c.in_ok-counted.field-0.items) (node_of c.in_ok-raw.raw.items) (node_of c.in_ok-held.held.items) (node_of c.in_ok-fields.fields.items)
-    c.fields_of-fields.ensures.value (c.fields_of-fields.ensures.ascend c.requires) c.in_ok-counted.ensures c.in_ok-raw.ensures.same c.in_ok-held.ensures c.in_ok-fields.ensures
+    finished-merged T d c.args.place c.fields-fields.result.now raw (node_of c.in_ok-counted.field-0.items) (node_of c.in_ok-raw.raw.items) (node_of c.in_ok-held.held.items) (node_of c.in_ok-fields.fields.items)
+    c.fields-fields.ensures.value (c.fields-fields.ensures.ascend c.requires) c.in_ok-counted.ensures c.in_ok-raw.ensures.same c.in_ok-held.ensures c.in_ok-fields.ensures
     ∙ sym (ap (λ x. merged T x c.args.place raw) more)
 
 pub merged-returns-then-depth-eq0 : goal.merged-returns-then-depth-eq0

@@ -106,7 +106,7 @@ ordered_node-returns-clause-found t c =
     let tree = node_of c.in_ok-fields.fields.items in
     let P : List Field → Type 0 = λ fs. IsWhole T (c.args.room - 1) fs (take c.in_ok-first.end bytes) c.in_ok-first.first tree in
     node-value T c.args.room c.args.place bytes c.args.start (c.args.tag % 8) c.in_ok-first.first c.in_ok-first.end tree (omega (arith, c.if-room-eq0.false)) c.if-tag-ne2.false c.in_ok-first.ensures.found
-    (subst P c.fields_of.ensures.value c.in_ok-fields.ensures)
+    (subst P c.fields.ensures.value c.in_ok-fields.ensures)
 
 pub ordered_message-loop-at-init : goal.ordered_message-loop-at-init
 ordered_message-loop-at-init t c =

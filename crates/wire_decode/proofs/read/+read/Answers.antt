@@ -85,7 +85,7 @@ pub message-returns-in_err-fields-clause-fault : goal.message-returns-in_err-fie
 message-returns-in_err-fields-clause-fault t c =
     let more : c.args.room ≡ suc (c.args.room - 1) = omega (arith, c.if-room-eq0.false) in
     let p = err_from_is_err_and c.from_residual.result c.from_residual.ensures.1 in
-    rw (p.1, p.2) (faults_as _ _ c.in_err-fields.field-0.0 c.in_err-fields.ensures.fault (λ r at h. inner_fault (c.args.room - 1) more (let P : List Field → Type 0 = λ fs. Faults c.args.table.now (c.args.room - 1) fs c.args.bytes.now c.args.start r at in subst P c.fields_of.ensures.value h)))
+    rw (p.1, p.2) (faults_as _ _ c.in_err-fields.field-0.0 c.in_err-fields.ensures.fault (λ r at h. inner_fault (c.args.room - 1) more (let P : List Field → Type 0 = λ fs. Faults c.args.table.now (c.args.room - 1) fs c.args.bytes.now c.args.start r at in subst P c.fields.ensures.value h)))
 
 pub read_message-returns-in-Err-clause-fault : goal.read_message-returns-in-Err-clause-fault
 read_message-returns-in-Err-clause-fault t c =

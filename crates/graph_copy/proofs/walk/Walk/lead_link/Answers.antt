@@ -11,4 +11,4 @@ overflow_add-depth c =
 pub expect_node-requires-clause-lies : goal.expect_node-requires-clause-lies
 expect_node-requires-clause-lies c =
     let lies = lies_by_not c.args.self.now.size c.args.value (size_words c.args.table.now c.args.message) (λ no. c.requires.fine Address (inl c.if-value-eq0.false, no)) in
-    omega (arith, lies.to_end, c.node_words-words.ensures)
+    omega (arith, lies.to_end, c.size_words-words.ensures)

@@ -341,17 +341,17 @@ item-returns-in_ok-put-in-Node-clause-puts t c =
     c.in_ok-put-in-Node.ensures.words puts)
     c.node.ensures.free c.node.ensures.puts
 
-pub node-node_size-requires : goal.node-node_size-requires
-node-node_size-requires t c =
+pub node-size_words-requires : goal.node-size_words-requires
+node-size_words-requires t c =
     c.requires.valid
 
 pub node-take-at-requires : goal.node-take-at-requires
 node-take-at-requires t c =
-    omega (arith, c.node_size.ensures, c.requires.room)
+    omega (arith, c.size_words.ensures, c.requires.room)
 
 pub node-slots-requires : goal.node-slots-requires
 node-slots-requires t c =
-    (omega (arith, c.decreases), (c.requires.valid, (c.requires.fields, (omega (arith, c.take-at.ensures.first, c.requires.from_one), (omega (arith, c.take-at.ensures.first, c.take-at.ensures.free, c.node_size.ensures), omega (arith, c.take-at.ensures.free, c.node_size.ensures, c.requires.room))))))
+    (omega (arith, c.decreases), (c.requires.valid, (c.requires.fields, (omega (arith, c.take-at.ensures.first, c.requires.from_one), (omega (arith, c.take-at.ensures.first, c.take-at.ensures.free, c.size_words.ensures), omega (arith, c.take-at.ensures.free, c.size_words.ensures, c.requires.room))))))
 
 pub node-cases-requires : goal.node-cases-requires
 node-cases-requires t c =
@@ -365,7 +365,7 @@ node-cases-requires t c =
             c.requires.oneofs,
             (
               omega (arith, c.in_ok-place.ensures.place, c.take-at.ensures.first, c.requires.from_one),
-              (omega (arith, less, c.in_ok-place.ensures.place, c.in_ok-place.ensures.free, c.take-at.ensures.first, c.take-at.ensures.free, c.node_size.ensures), omega (arith, c.in_ok-place.ensures.free, c.take-at.ensures.free, c.node_size.ensures, c.requires.room)),
+              (omega (arith, less, c.in_ok-place.ensures.place, c.in_ok-place.ensures.free, c.take-at.ensures.first, c.take-at.ensures.free, c.size_words.ensures), omega (arith, c.in_ok-place.ensures.free, c.take-at.ensures.free, c.size_words.ensures, c.requires.room)),
             ),
           ),
         ),
@@ -374,13 +374,13 @@ node-cases-requires t c =
 
 pub node-returns-clause-free : goal.node-returns-clause-free
 node-returns-clause-free t c =
-    on_ok_weaker c.cases.result (λ last. omega (arith, last, c.in_ok-place.ensures.free, c.take-at.ensures.free, c.node_size.ensures)) c.cases.ensures.free
+    on_ok_weaker c.cases.result (λ last. omega (arith, last, c.in_ok-place.ensures.free, c.take-at.ensures.free, c.size_words.ensures)) c.cases.ensures.free
 
 pub node-returns-clause-puts : goal.node-returns-clause-puts
 node-returns-clause-puts t c =
     on_ok_both c.cases.result
     (λ last cases. node_puts c.args.table.now c.args.message c.args.tree.now c.args.self.now.free c.take-at.result c.take-at.new.self.free c.in_ok-place.place c.slots.new.self.free c.cases.new.self.free c.args.self.now.words.items c.take-at.new.self.words.items c.slots.new.self.words.items c.cases.new.self.words.items
-    c.take-at.ensures.first (c.take-at.ensures.free ∙ ap (λ n. c.args.self.now.free + n) c.node_size.ensures) (ap (λ (x : Vec (ℕ × ℕ)). x.items) c.take-at.ensures.words) c.in_ok-place.ensures.place c.in_ok-place.ensures.free last c.in_ok-place.ensures.puts cases)
+    c.take-at.ensures.first (c.take-at.ensures.free ∙ ap (λ n. c.args.self.now.free + n) c.size_words.ensures) (ap (λ (x : Vec (ℕ × ℕ)). x.items) c.take-at.ensures.words) c.in_ok-place.ensures.place c.in_ok-place.ensures.free last c.in_ok-place.ensures.puts cases)
     c.cases.ensures.free c.cases.ensures.puts
 
 pub slot-optional-requires-clause-from_one : goal.slot-optional-requires-clause-from_one
@@ -473,30 +473,30 @@ slot-returns-in_ok-put-in-Pairs-clause-puts t c =
 
 pub slots-loop-field-init : goal.slots-loop-field-init
 slots-loop-field-init t c =
-    subst (λ xs. SlotsOn c.args.table.now (fields_of c.args.table.now c.args.message) c.args.tree.now c.args.at c.args.self.now.free c.args.self.now.words.items xs c.args.at c.args.self.now.free c.args.self.now.words.items) (sym c.fields_of-fields.ensures) (slots_begin c.args.table.now (fields_of c.args.table.now c.args.message) c.args.tree.now c.args.at c.args.self.now.free c.args.self.now.words.items c.requires.fields (are_fields c.args.table.now c.args.message c.requires.valid).ascend)
+    subst (λ xs. SlotsOn c.args.table.now (fields_of c.args.table.now c.args.message) c.args.tree.now c.args.at c.args.self.now.free c.args.self.now.words.items xs c.args.at c.args.self.now.free c.args.self.now.words.items) (sym c.fields-fields.ensures.value) (slots_begin c.args.table.now (fields_of c.args.table.now c.args.message) c.args.tree.now c.args.at c.args.self.now.free c.args.self.now.words.items c.requires.fields (are_fields c.args.table.now c.args.message c.requires.valid).ascend)
 
 pub slots-field-requires : goal.slots-field-requires
 slots-field-requires t c =
-    let fits = field_fits c.args.table.now c.args.message c.args.tree.now c.args.at c.args.self.now.free c.args.self.now.words.items c.fields_of-fields.result.now c.loop-field.field-index c.field-item.result c.loop-field.place c.loop-field.self.free c.loop-field.self.words.items c.requires.valid c.requires.fields c.requires.from_one c.requires.slots c.requires.room c.loop-field-test.true c.field-item.is c.loop-field.invariant in
+    let fits = field_fits c.args.table.now c.args.message c.args.tree.now c.args.at c.args.self.now.free c.args.self.now.words.items c.fields-fields.result.now c.loop-field.field-index c.field-item.result c.loop-field.place c.loop-field.self.free c.loop-field.self.words.items c.requires.valid c.requires.fields c.requires.from_one c.requires.slots c.requires.room c.loop-field-test.true c.field-item.is c.loop-field.invariant in
     (omega (arith, c.decreases), (c.requires.valid, (fits.known, (fits.field, (fits.from, (fits.slot, fits.room))))))
 
 pub slots-loop-field-preserved : goal.slots-loop-field-preserved
 slots-loop-field-preserved t c =
-    slots_step c.args.table.now (fields_of c.args.table.now c.args.message) c.args.tree.now c.args.at c.args.self.now.free c.args.self.now.words.items c.fields_of-fields.result.now c.loop-field.field-index c.field-item.result c.loop-field.place c.in_ok-place.place c.loop-field.self.free c.field.new.self.free c.loop-field.self.words.items c.field.new.self.words.items c.requires.fields c.requires.slots c.loop-field-test.true c.field-item.is c.loop-field.invariant
+    slots_step c.args.table.now (fields_of c.args.table.now c.args.message) c.args.tree.now c.args.at c.args.self.now.free c.args.self.now.words.items c.fields-fields.result.now c.loop-field.field-index c.field-item.result c.loop-field.place c.in_ok-place.place c.loop-field.self.free c.field.new.self.free c.loop-field.self.words.items c.field.new.self.words.items c.requires.fields c.requires.slots c.loop-field-test.true c.field-item.is c.loop-field.invariant
     (λ holds. let same = c.in_ok-place.ensures.member holds in (same.0, ap (λ (b : Builder). b.free) same.1, ap (λ (b : Builder). b.words.items) same.1))
     c.in_ok-place.ensures.place c.in_ok-place.ensures.free c.in_ok-place.ensures.puts
 
 pub slots-returns-clause-place : goal.slots-returns-clause-place
 slots-returns-clause-place t c =
-    let last = subst (λ xs. SlotsOn c.args.table.now (fields_of c.args.table.now c.args.message) c.args.tree.now c.args.at c.args.self.now.free c.args.self.now.words.items xs c.loop-field.place c.loop-field.self.free c.loop-field.self.words.items) (drop_all c.loop-field.field-index c.fields_of-fields.result.now c.loop-field-test.false) c.loop-field.invariant in
+    let last = subst (λ xs. SlotsOn c.args.table.now (fields_of c.args.table.now c.args.message) c.args.tree.now c.args.at c.args.self.now.free c.args.self.now.words.items xs c.loop-field.place c.loop-field.self.free c.loop-field.self.words.items) (drop_all c.loop-field.field-index c.fields-fields.result.now c.loop-field-test.false) c.loop-field.invariant in
     let done = slots_end c.args.table.now (fields_of c.args.table.now c.args.message) c.args.tree.now c.args.at c.args.self.now.free c.args.self.now.words.items c.loop-field.place c.loop-field.self.free c.loop-field.self.words.items last in done.place_is
 
 pub slots-returns-clause-free : goal.slots-returns-clause-free
 slots-returns-clause-free t c =
-    let last = subst (λ xs. SlotsOn c.args.table.now (fields_of c.args.table.now c.args.message) c.args.tree.now c.args.at c.args.self.now.free c.args.self.now.words.items xs c.loop-field.place c.loop-field.self.free c.loop-field.self.words.items) (drop_all c.loop-field.field-index c.fields_of-fields.result.now c.loop-field-test.false) c.loop-field.invariant in
+    let last = subst (λ xs. SlotsOn c.args.table.now (fields_of c.args.table.now c.args.message) c.args.tree.now c.args.at c.args.self.now.free c.args.self.now.words.items xs c.loop-field.place c.loop-field.self.free c.loop-field.self.words.items) (drop_all c.loop-field.field-index c.fields-fields.result.now c.loop-field-test.false) c.loop-field.invariant in
     let done = slots_end c.args.table.now (fields_of c.args.table.now c.args.message) c.args.tree.now c.args.at c.args.self.now.free c.args.self.now.words.items c.loop-field.place c.loop-field.self.free c.loop-field.self.words.items last in done.free_is
 
 pub slots-returns-clause-puts : goal.slots-returns-clause-puts
 slots-returns-clause-puts t c =
-    let last = subst (λ xs. SlotsOn c.args.table.now (fields_of c.args.table.now c.args.message) c.args.tree.now c.args.at c.args.self.now.free c.args.self.now.words.items xs c.loop-field.place c.loop-field.self.free c.loop-field.self.words.items) (drop_all c.loop-field.field-index c.fields_of-fields.result.now c.loop-field-test.false) c.loop-field.invariant in
+    let last = subst (λ xs. SlotsOn c.args.table.now (fields_of c.args.table.now c.args.message) c.args.tree.now c.args.at c.args.self.now.free c.args.self.now.words.items xs c.loop-field.place c.loop-field.self.free c.loop-field.self.words.items) (drop_all c.loop-field.field-index c.fields-fields.result.now c.loop-field-test.false) c.loop-field.invariant in
     let done = slots_end c.args.table.now (fields_of c.args.table.now c.args.message) c.args.tree.now c.args.at c.args.self.now.free c.args.self.now.words.items c.loop-field.place c.loop-field.self.free c.loop-field.self.words.items last in done.on
