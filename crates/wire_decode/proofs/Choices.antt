@@ -22,7 +22,7 @@ use Rattle.wire_base.specs.declared.records.Payload.TheVariants.{Varint, I64, I3
 use Rattle.wire_base.specs.declared.records.Record.{Record}
 use Rattle.wire_decode.specs.Words.{word_of, number_in, payload_type, is_map, suits, AreElements}
 use Rattle.wire_decode.specs.Reads.{Reads, read_end, read_other, read_known, Holds, holds_piece, holds_text, holds_octets, holds_message, holds_entry, HasRoom, is_message, is_known, entry_fields, numbers}
-use Rattle.wire_decode.specs.Faults.{reason_of, Faults, no_record, behind_other, behind_known, in_payload, Fails, no_elements, no_text, too_deep, in_message, in_entry, no_room, IsFirstFault}
+use Rattle.wire_decode.specs.FaultWalk.{reason_of, Faults, no_record, behind_other, behind_known, in_payload, Fails, no_elements, no_text, too_deep, in_message, in_entry, no_room}
 use Rattle.wire_decode.specs.Means.{Means}
 use Rattle.wire_decode.specs.Merged.{merged}
 use Rattle.wire_decode.specs.Parts.{IsFixedOrVarint}
@@ -211,7 +211,7 @@ reads-or law T (suc left) room fs bytes at within few =
     (cases_lt at (length bytes))
 
 pub meaning-or : Law → (T : Table) (msg : ℕ) (bytes : List ℕ)
-    → ((t : Node) × Means T msg bytes t) ⊎ ((reason : DecodeReason) × (place : ℕ) × IsFirstFault T msg bytes reason place)
+    → ((t : Node) × Means T msg bytes t) ⊎ ((reason : DecodeReason) × (place : ℕ) × Faults T 31 (fields_of T msg) bytes 0 reason place)
 meaning-or law T msg bytes =
     ⊎_elim
     (λ t. inl (merged T 32 msg t.0, record { raw = t.0; reads = t.1; value = refl }))

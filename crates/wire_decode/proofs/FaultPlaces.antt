@@ -10,7 +10,7 @@ use Rattle.wire_base.specs.declared.records.Payload.{Payload}
 use Rattle.wire_base.specs.declared.fault.WireFault.{WireFault}
 use Rattle.wire_decode.proofs.Payloads.{PayloadAt-span}
 use Rattle.wire_decode.specs.declared.fault.DecodeReason.{DecodeReason}
-use Rattle.wire_decode.specs.Faults.{Faults, no_record, behind_other, behind_known, in_payload, Fails, no_elements, no_text, too_deep, in_message, in_entry, no_room}
+use Rattle.wire_decode.specs.FaultWalk.{Faults, no_record, behind_other, behind_known, in_payload, Fails, no_elements, no_text, too_deep, in_message, in_entry, no_room}
 
 -- a record fault stands where bytes are read, or right behind a tag
 wire_place : (bytes : List ℕ) (at : ℕ) (f : WireFault) → at ≤ length bytes → FaultAt bytes at f → f.place ≤ length bytes

@@ -7,6 +7,7 @@ mod EncodedMeaning
 mod EncodedReads
 mod FaultPlaces
 mod Faulty
+mod FirstFaults
 mod Gathering
 mod Members
 mod Merging
@@ -22,6 +23,7 @@ mod Reading
 mod Rows
 mod Sorting
 mod Sound
+mod Shifting
 mod SpelledNumbers
 mod Stands
 mod Unique

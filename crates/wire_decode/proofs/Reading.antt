@@ -10,7 +10,7 @@ use Rattle.wire_base.specs.declared.records.Payload.{Payload}
 use Rattle.wire_base.specs.declared.records.Payload.TheVariants.{Varint, I64, I32, Len}
 use Rattle.wire_decode.proofs.Payloads.{VarintAt-moves}
 use Rattle.wire_decode.specs.Reads.{Reads, read_end, read_other, read_known, Holds, is_known}
-use Rattle.wire_decode.specs.Faults.{Faults, behind_other, behind_known}
+use Rattle.wire_decode.specs.FaultWalk.{Faults, behind_other, behind_known}
 use Rattle.wire_decode.specs.Merged.{join_fields}
 use Rattle.wire_decode.specs.declared.fault.DecodeReason.{DecodeReason}
 

@@ -23,7 +23,7 @@ use Rattle.wire_decode.proofs.Payloads.{PayloadAt-ahead, PayloadAt-within, Recor
 use Rattle.std.proofs.lemmas.Bool.{or_left, or_right, eq-eqb}
 use Rattle.wire_decode.specs.Words.{word_of, number_in, payload_type, own_type, is_map, may_be_packed, suits, AreElements}
 use Rattle.wire_decode.specs.Reads.{Reads, read_end, read_other, read_known, Holds, holds_number, holds_piece, holds_text, holds_octets, holds_message, holds_entry, numbers, entry_fields, is_known}
-use Rattle.wire_decode.specs.Faults.{reason_of, Faults, no_record, behind_other, behind_known, in_payload, Fails, no_elements, no_text, too_deep, in_message, in_entry, no_room}
+use Rattle.wire_decode.specs.FaultWalk.{reason_of, Faults, no_record, behind_other, behind_known, in_payload, Fails, no_elements, no_text, too_deep, in_message, in_entry, no_room}
 use Rattle.wire_decode.specs.declared.fault.DecodeReason.{DecodeReason}
 
 -- a record is within the bytes

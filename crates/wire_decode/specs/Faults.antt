@@ -1,79 +1,86 @@
--- The first fault of a byte string that isn't a message of the table: records are read in order, and the payload
--- of a known field is read where it stands.
-use Rattle.std.specs.Prelude.{◌≡◌, ℕ, suc, ◌<◌, true, false, List, length, take, Some, slice_range}
+-- The first fault of a byte string that isn't a message of the table: sound records stand one behind another up to
+-- a place, and there no record stands, or the payload of a known field fails.
+use Rattle.std.specs.Prelude.{◌≡◌, ℕ, suc, ◌<◌, true, false, List, [], ◌∷◌, length, take, Some, slice_range}
 use Rattle.std.specs.Str.{IsUtf8}
 use Rattle.mrpc_table.specs.Node.{Node, Content}
 use Rattle.mrpc_table.specs.Normal.{fields_of, field_at}
 use Rattle.mrpc_table.specs.declared.table.Kind.{Kind}
 use Rattle.mrpc_table.specs.declared.table.Kind.TheVariants.{Text, Message as OfMessage}
-use Rattle.mrpc_table.specs.declared.table.Label.{Label}
 use Rattle.mrpc_table.specs.declared.table.Label.TheVariants.{Map}
 use Rattle.mrpc_table.specs.declared.table.Field.{Field}
 use Rattle.mrpc_table.specs.declared.table.Table.{Table}
 use Rattle.wire_base.specs.Records.{RecordAt, FaultAt}
 use Rattle.wire_base.specs.declared.records.Record.{Record}
-use Rattle.wire_base.specs.declared.records.Payload.{Payload}
 use Rattle.wire_base.specs.declared.records.Payload.TheVariants.{Len}
-use Rattle.wire_base.specs.declared.fault.WireReason.{WireReason}
-use Rattle.wire_base.specs.declared.fault.WireReason.TheVariants as wire
 use Rattle.wire_base.specs.declared.fault.WireFault.{WireFault}
 use Rattle.wire_decode.specs.Words.{is_map, may_be_packed, AreElements}
 use Rattle.wire_decode.specs.Reads.{Reads, Holds, HasRoom, is_known, entry_fields}
+use Rattle.wire_decode.specs.FaultWalk.{reason_of}
 use Rattle.wire_decode.specs.declared.fault.DecodeFault.{DecodeFault}
 use Rattle.wire_decode.specs.declared.fault.DecodeFault.TheVariants.{At, Memory}
 use Rattle.wire_decode.specs.declared.fault.DecodeReason.{DecodeReason}
-use Rattle.wire_decode.specs.declared.fault.DecodeReason.TheVariants.{Varint, TagRange, NumberZero, WireType, Short, Utf8, PackedLength, Depth}
+use Rattle.wire_decode.specs.declared.fault.DecodeReason.TheVariants.{Utf8, PackedLength, Depth}
 
-abbrev pub reason_of : WireReason → DecodeReason
-reason_of wire.Varint = Varint
-reason_of wire.TagRange = TagRange
-reason_of wire.NumberZero = NumberZero
-reason_of wire.WireType = WireType
-reason_of wire.Short = Short
+-- a record that is skipped, or one of a known field whose payload is sound by itself
+pub data IsSound (T : Table) (room : ℕ) (fs : List Field) (bytes : List ℕ) (r : Record) : Type 0 where
+  is_skipped : is_known fs r ≡ false → IsSound T room fs bytes r
+  is_known_and_sound : (f : Field) (c : Content) → field_at fs r.number ≡ Some f
+      → Holds T room f.label f.kind bytes r.payload c → IsSound T room fs bytes r
+
+-- sound records stand one behind another from one place up to another
+abbrev pub AreSound : Table → ℕ → List Field → List ℕ → ℕ → List Record → ℕ → Type 0
+AreSound T room fs bytes from [] at = from ≡ at
+AreSound T room fs bytes from (r ∷ rs) at = RecordAt bytes from r × IsSound T room fs bytes r
+    × AreSound T room fs bytes r.next rs at
+
+-- a delimited payload of a field of the message, from one place up to another, in the record at a place
+pub record HasPayload (fs : List Field) (bytes : List ℕ) (at : ℕ) (f : Field) (start end : ℕ) : Type 0 where
+  pub number : ℕ
+  pub next : ℕ
+  pub stands : RecordAt bytes at (record { number = number; payload = Len start end; next = next })
+  pub known : field_at fs number ≡ Some f
 
 mutual
-  -- Records stand from a place on, and this is the first fault behind them: no record stands there, or the
-  -- payload of a known field is at fault.
-  pub data Faults (T : Table) : ℕ → List Field → List ℕ → ℕ → DecodeReason → ℕ → Type 0 where
-    no_record : {room : ℕ} {fs : List Field} {bytes : List ℕ} {at : ℕ} {reason : DecodeReason} {place : ℕ}
-        (f : WireFault) → at < length bytes → FaultAt bytes at f → reason ≡ reason_of f.reason → place ≡ f.place
-        → Faults T room fs bytes at reason place
-    behind_other : {room : ℕ} {fs : List Field} {bytes : List ℕ} {at : ℕ} {reason : DecodeReason} {place : ℕ}
-        (r : Record) → RecordAt bytes at r → is_known fs r ≡ false → Faults T room fs bytes r.next reason place
-        → Faults T room fs bytes at reason place
-    behind_known : {room : ℕ} {fs : List Field} {bytes : List ℕ} {at : ℕ} {reason : DecodeReason} {place : ℕ}
-        (r : Record) (f : Field) (c : Content) → RecordAt bytes at r → field_at fs r.number ≡ Some f
-        → Holds T room f.label f.kind bytes r.payload c → Faults T room fs bytes r.next reason place
-        → Faults T room fs bytes at reason place
-    in_payload : {room : ℕ} {fs : List Field} {bytes : List ℕ} {at : ℕ} {reason : DecodeReason} {place : ℕ}
-        (r : Record) (f : Field) → RecordAt bytes at r → field_at fs r.number ≡ Some f
-        → Fails T room f.label f.kind bytes r.payload reason place → Faults T room fs bytes at reason place
+  -- the first fault behind a place, of the bytes as a message of these fields; so many messages may stand in one
+  -- another inside
+  pub data FirstFault (T : Table) : ℕ → List Field → List ℕ → ℕ → DecodeReason → ℕ → Type 0 where
+    first_fault : {room : ℕ} {fs : List Field} {bytes : List ℕ} {from : ℕ} {reason : DecodeReason} {place : ℕ}
+        (before : List Record) (at : ℕ) → AreSound T room fs bytes from before at
+        → IsFault T room fs bytes at reason place → FirstFault T room fs bytes from reason place
 
-  -- the first fault of the payload of a field
-  pub data Fails (T : Table) : ℕ → Label → Kind → List ℕ → Payload → DecodeReason → ℕ → Type 0 where
-    -- no join of whole elements
-    no_elements : {room : ℕ} {label : Label} {k : Kind} {bytes : List ℕ} {p : Payload} {reason : DecodeReason} {place : ℕ} (end : ℕ) → may_be_packed label k ≡ true → p ≡ Len place end → reason ≡ PackedLength → ((ws : List ℕ) → AreElements k (take end bytes) place ws → ⊥) → Fails T room label k bytes p reason place
-    no_text : {room : ℕ} {label : Label} {k : Kind} {bytes : List ℕ} {p : Payload} {reason : DecodeReason} {place : ℕ}
-        (end : ℕ) → is_map label ≡ false → k ≡ Text → p ≡ Len place end → reason ≡ Utf8
-        → (IsUtf8 (slice_range bytes place end) → ⊥) → Fails T room label k bytes p reason place
-    -- it would be the 33rd message
-    too_deep : {room : ℕ} {label : Label} {k : Kind} {bytes : List ℕ} {p : Payload} {reason : DecodeReason} {place : ℕ}
-        (i end : ℕ) → is_map label ≡ false → k ≡ OfMessage i → p ≡ Len place end → room ≡ 0 → reason ≡ Depth
-        → Fails T room label k bytes p reason place
-    in_message : {room : ℕ} {label : Label} {k : Kind} {bytes : List ℕ} {p : Payload} {reason : DecodeReason} {place : ℕ} (inside i start end : ℕ) → is_map label ≡ false → k ≡ OfMessage i → p ≡ Len start end → room ≡ suc inside → Faults T inside (fields_of T i) (take end bytes) start reason place → Fails T room label k bytes p reason place
-    in_entry : {room : ℕ} {label : Label} {k : Kind} {bytes : List ℕ} {p : Payload} {reason : DecodeReason} {place : ℕ}
-        (key : Kind) (start end : ℕ) → label ≡ Map key → p ≡ Len start end
-        → Faults T room (entry_fields key k) (take end bytes) start reason place
-        → Fails T room label k bytes p reason place
-    -- the default of the entry's value would be the 33rd message
-    no_room : {room : ℕ} {label : Label} {k : Kind} {bytes : List ℕ} {p : Payload} {reason : DecodeReason} {place : ℕ}
-        (key : Kind) (end : ℕ) (t : Node) → label ≡ Map key → p ≡ Len place end
-        → Reads T room (entry_fields key k) (take end bytes) place t → (HasRoom room k → ⊥) → reason ≡ Depth
-        → Fails T room label k bytes p reason place
+  -- why no sound record stands at a place, and the place of the fault: that of a payload is where it starts
+  pub data IsFault (T : Table) : ℕ → List Field → List ℕ → ℕ → DecodeReason → ℕ → Type 0 where
+    no_record_there : {room : ℕ} {fs : List Field} {bytes : List ℕ} {at : ℕ} {reason : DecodeReason} {place : ℕ}
+        (f : WireFault) → at < length bytes → FaultAt bytes at f → reason ≡ reason_of f.reason → place ≡ f.place
+        → IsFault T room fs bytes at reason place
+    not_whole_elements : {room : ℕ} {fs : List Field} {bytes : List ℕ} {at : ℕ} {reason : DecodeReason} {place : ℕ}
+        (f : Field) (end : ℕ) → HasPayload fs bytes at f place end → may_be_packed f.label f.kind ≡ true
+        → ((ns : List ℕ) → AreElements f.kind (take end bytes) place ns → ⊥) → reason ≡ PackedLength
+        → IsFault T room fs bytes at reason place
+    not_utf8 : {room : ℕ} {fs : List Field} {bytes : List ℕ} {at : ℕ} {reason : DecodeReason} {place : ℕ}
+        (f : Field) (end : ℕ) → HasPayload fs bytes at f place end → is_map f.label ≡ false → f.kind ≡ Text
+        → (IsUtf8 (slice_range bytes place end) → ⊥) → reason ≡ Utf8 → IsFault T room fs bytes at reason place
+    message_too_deep : {room : ℕ} {fs : List Field} {bytes : List ℕ} {at : ℕ} {reason : DecodeReason} {place : ℕ}
+        (f : Field) (i end : ℕ) → HasPayload fs bytes at f place end → is_map f.label ≡ false → f.kind ≡ OfMessage i
+        → room ≡ 0 → reason ≡ Depth → IsFault T room fs bytes at reason place
+    inside_message : {room : ℕ} {fs : List Field} {bytes : List ℕ} {at : ℕ} {reason : DecodeReason} {place : ℕ}
+        (f : Field) (i inside start end : ℕ) → HasPayload fs bytes at f start end → is_map f.label ≡ false
+        → f.kind ≡ OfMessage i → room ≡ suc inside
+        → FirstFault T inside (fields_of T i) (take end bytes) start reason place
+        → IsFault T room fs bytes at reason place
+    inside_entry : {room : ℕ} {fs : List Field} {bytes : List ℕ} {at : ℕ} {reason : DecodeReason} {place : ℕ}
+        (f : Field) (key : Kind) (start end : ℕ) → HasPayload fs bytes at f start end → f.label ≡ Map key
+        → FirstFault T room (entry_fields key f.kind) (take end bytes) start reason place
+        → IsFault T room fs bytes at reason place
+    -- the entry is sound, but the default of its value would be one message too deep
+    default_too_deep : {room : ℕ} {fs : List Field} {bytes : List ℕ} {at : ℕ} {reason : DecodeReason} {place : ℕ}
+        (f : Field) (key : Kind) (end : ℕ) (t : Node) → HasPayload fs bytes at f place end → f.label ≡ Map key
+        → Reads T room (entry_fields key f.kind) (take end bytes) place t → (HasRoom room f.kind → ⊥)
+        → reason ≡ Depth → IsFault T room fs bytes at reason place
 
 -- the first fault of the bytes as a message at a place of the table
 abbrev pub IsFirstFault : Table → ℕ → List ℕ → DecodeReason → ℕ → Type 0
-IsFirstFault T msg bytes reason place = Faults T 31 (fields_of T msg) bytes 0 reason place
+IsFirstFault T msg bytes reason place = FirstFault T 31 (fields_of T msg) bytes 0 reason place
 
 -- the fault is one of these, unless no memory was found
 abbrev pub FaultsAs : (DecodeReason → ℕ → Type 0) → DecodeFault → Type 0

@@ -1,6 +1,8 @@
 pub mod Behind
+pub mod FaultWalk
 pub mod Faults
 pub mod Gathered
+pub mod Joined
 pub mod Means
 pub mod Merged
 pub mod Ordered

@@ -6,7 +6,7 @@ use Rattle.mrpc_table.specs.declared.table.Kind.{Kind}
 use Rattle.mrpc_table.specs.declared.table.Table.{Table}
 use Rattle.wire_decode.specs.Words.{AreElements}
 use Rattle.wire_decode.specs.Reads.{Reads, HasRoom, entry_fields, numbers}
-use Rattle.wire_decode.specs.Faults.{Faults}
+use Rattle.wire_decode.specs.FaultWalk.{Faults}
 use Rattle.wire_decode.specs.declared.fault.DecodeReason.{DecodeReason}
 use Rattle.wire_decode.specs.declared.fault.DecodeReason.TheVariants.{Depth}
 

@@ -1,12 +1,16 @@
 //! Laws of the definitions. These functions do nothing; their clauses hold.
 
-ghost use Rattle.std.specs.Prelude.{◌≡◌, ◌<◌, ◌^◌, ◌⊎◌, ℕ, List, length, All};
-ghost use Rattle.mrpc_table.specs.Node.{Node};
-ghost use Rattle.mrpc_table.specs.Normal.{IsNormal};
+ghost use Rattle.std.specs.Prelude.{◌≡◌, ◌<◌, ◌^◌, ◌⊎◌, ◌++◌, ℕ, List, length, All};
+ghost use Rattle.mrpc_table.specs.Node.{Node, Item};
+ghost use Rattle.mrpc_table.specs.Normal.{IsNormal, fields_of};
 ghost use Rattle.mrpc_table.specs.Valid.{IsValid};
 ghost use Rattle.mrpc_table.specs.declared.table.Table.{Table};
+ghost use Rattle.mrpc_table.specs.declared.table.Field.{Field};
 ghost use Rattle.wire_base.specs.Encoding.{encoding};
 ghost use Rattle.wire_decode.specs.Means.{Means};
+ghost use Rattle.wire_decode.specs.Joined.{AreReadEach, joined_bytes};
+ghost use Rattle.wire_decode.specs.Merged.{join_fields, joined, merged};
+ghost use Rattle.wire_decode.specs.Reads.{Reads};
 ghost use Rattle.wire_decode.specs.Faults.{IsFirstFault};
 ghost use Rattle.wire_decode.specs.declared.fault.DecodeReason.{DecodeReason};
 
@@ -59,3 +63,16 @@ pub fn meaning_of_encoding()
 {
     varint_is_read_back();
 }
+
+/// Strings of whole records, joined, are whole records again, with the contents of all, one behind another. So
+/// what the joined strings mean is what their records mean, one behind another.
+pub fn meaning_of_joined_strings()
+    ensures reads { (T : Table) (room : ℕ) (fs : List Field) (a b : List ℕ) (t u : Node) → Reads T room fs a 0 t
+        → Reads T room fs b 0 u → Reads T room fs (a ++ b) 0 (join_fields t u) }
+    ensures means { (T : Table) (msg : ℕ) (a b : List ℕ) (t u : Node) → Reads T 31 (fields_of T msg) a 0 t
+        → Reads T 31 (fields_of T msg) b 0 u → Means T msg (a ++ b) (merged T 32 msg (join_fields t u)) }
+
+    // The payloads of a singular message mean together what their joined bytes mean.
+    ensures payloads { (T : Table) (room : ℕ) (fs : List Field) (strings : List (List ℕ)) (messages : List Item)
+        → AreReadEach T room fs strings messages → Reads T room fs (joined_bytes strings) 0 (joined messages) }
+{}

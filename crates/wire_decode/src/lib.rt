@@ -16,6 +16,8 @@ ghost use Rattle.mrpc_table.specs.Node.{Node};
 ghost use Rattle.mrpc_table.specs.Ascending.{AllAscend};
 ghost use Rattle.wire_decode.specs.Means.{Means};
 ghost use Rattle.wire_decode.specs.Faults.{IsFirstFault, FaultsAs};
+ghost use Rattle.wire_decode.specs.FaultWalk.{Faults};
+ghost use Rattle.mrpc_table.specs.Normal.{fields_of as fields_in};
 
 mod fault;
 mod gather;
@@ -30,7 +32,10 @@ use crate::merge::merged;
 use crate::ordered::ordered_message;
 use crate::read::read_message;
 pub use fault::{DecodeFault, DecodeReason};
-pub use laws::{meaning_is_normal, meaning_of_encoding, meaning_or_fault, one_fault, one_meaning};
+pub use laws::{
+    meaning_is_normal, meaning_of_encoding, meaning_of_joined_strings, meaning_or_fault, one_fault,
+    one_meaning,
+};
 use mrpc_table::{Table, Tree};
 use std::alloc::Global;
 
@@ -62,7 +67,8 @@ pub fn decode(alloc: Global, bytes: &[u8], table: &Table, msg: u32) -> Result<Tr
 fn decoded(alloc: Global, bytes: &[u8], table: &Table, msg: u32) -> Result<Tree, DecodeFault>
     requires { AllAscend table.now }
     ensures means { IfOk result (λ t. Means table.now msg bytes.now t) }
-    ensures fault { IfErr result (FaultsAs (IsFirstFault table.now msg bytes.now)) }
+    ensures fault { IfErr result
+        (FaultsAs (Faults table.now 31 (fields_in table.now msg) bytes.now 0)) }
     ensures only { (t : Node) → Means table.now msg bytes.now t
         → MatchResult result (λ u. u ≡ t) (λ f. f ≡ DecodeFault.Memory) }
 {
@@ -78,7 +84,8 @@ fn decoded(alloc: Global, bytes: &[u8], table: &Table, msg: u32) -> Result<Tree,
 fn merged_records(alloc: Global, bytes: &[u8], table: &Table, msg: u32) -> Result<Tree, DecodeFault>
     requires { AllAscend table.now }
     ensures means { IfOk result (λ t. Means table.now msg bytes.now t) }
-    ensures fault { IfErr result (FaultsAs (IsFirstFault table.now msg bytes.now)) }
+    ensures fault { IfErr result
+        (FaultsAs (Faults table.now 31 (fields_in table.now msg) bytes.now 0)) }
     ensures only { (t : Node) → Means table.now msg bytes.now t
         → MatchResult result (λ u. u ≡ t) (λ f. f ≡ DecodeFault.Memory) }
 {

@@ -13,7 +13,8 @@ ghost use Rattle.wire_decode.specs.Reads.{Reads, Holds, numbers, is_message};
 ghost use Rattle.wire_decode.specs.Parts.{IsPiece, NoPiece, IsFixedOrVarint, IsEntry, NoEntry, IsInner, NoInner};
 ghost use Rattle.std.specs.Str.{IsUtf8};
 ghost use Rattle.wire_base.specs.declared.records.Payload.TheVariants.{I64, I32};
-ghost use Rattle.wire_decode.specs.Faults.{Faults, Fails, FaultsAs, reason_of};
+ghost use Rattle.wire_decode.specs.FaultWalk.{Faults, Fails, reason_of};
+ghost use Rattle.wire_decode.specs.Faults.{FaultsAs};
 ghost use Rattle.wire_decode.specs.declared.fault.DecodeReason.TheVariants.{PackedLength, Utf8};
 
 use crate::fault::{DecodeFault, DecodeReason};

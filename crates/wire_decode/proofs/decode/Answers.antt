@@ -4,6 +4,7 @@ use Rattle.std.proofs.lemmas.Result.{IfOk-weaker, IfErr-weaker}
 use Rattle.wire_decode.proofs.WordForms.{AreBytes}
 use Rattle.wire_decode.proofs.FaultPlaces.{fault-within}
 use Rattle.wire_decode.proofs.Faulty.{faults_as}
+use Rattle.wire_decode.proofs.FirstFaults.{first-of}
 use Rattle.wire_decode.proofs.decode.Goals as goal
 
 pub returns-clause-normal : goal.returns-clause-normal
@@ -15,3 +16,6 @@ returns-clause-normal c =
 
 pub returns-clause-within : goal.returns-clause-within
 returns-clause-within c = IfErr-weaker c.decoded.result _ _ (λ f h. faults_as _ _ f h (λ r p. fault-within)) c.decoded.ensures.fault
+
+pub returns-clause-fault : goal.returns-clause-fault
+returns-clause-fault c = IfErr-weaker c.decoded.result _ _ (λ f h. faults_as _ _ f h (λ r p. first-of)) c.decoded.ensures.fault

@@ -5,7 +5,10 @@ use Rattle.mrpc_table.specs.declared.table.Field.{Field}
 use Rattle.wire_decode.specs.Means.{Means}
 use Rattle.wire_decode.specs.Merged.{merged}
 use Rattle.wire_decode.specs.Reads.{Reads}
-use Rattle.wire_decode.specs.Faults.{Faults, FaultsAs}
+use Rattle.wire_decode.specs.FaultWalk.{Faults}
+use Rattle.wire_decode.specs.Faults.{FaultsAs}
+use Rattle.wire_decode.proofs.Faulty.{faults_as}
+use Rattle.wire_decode.proofs.FirstFaults.{first-of}
 use Rattle.wire_decode.proofs.Only.{only-memory}
 use Rattle.wire_decode.proofs.merged_records.Goals as goal
 
@@ -13,7 +16,7 @@ pub returns-in_err-raw-clause-only : goal.returns-in_err-raw-clause-only
 returns-in_err-raw-clause-only c u means =
     let p = err_from_is_err_and c.from_residual.result c.from_residual.ensures.1 in
     let P : List Field → Type 0 = λ fs. FaultsAs (λ r at. Faults c.args.table.now 31 fs c.args.bytes.now 0 r at) c.in_err-raw.field-0.0 in
-    rw (p.1, p.2) (only-memory c.meaning_or_fault.ensures.not_both c.args.table.now c.args.msg c.args.bytes.now u c.in_err-raw.field-0.0 means (subst P c.fields-fields.ensures.value c.in_err-raw.ensures.fault))
+    rw (p.1, p.2) (only-memory c.meaning_or_fault.ensures.not_both c.args.table.now c.args.msg c.args.bytes.now u c.in_err-raw.field-0.0 means (faults_as _ _ c.in_err-raw.field-0.0 (subst P c.fields-fields.ensures.value c.in_err-raw.ensures.fault) (λ r p. first-of)))
 
 pub returns-clause-only : goal.returns-clause-only
 returns-clause-only c u means =

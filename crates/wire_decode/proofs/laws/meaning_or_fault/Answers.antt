@@ -1,6 +1,8 @@
+use Rattle.std.proofs.Common.{inl, inr, ⊎_elim}
 use Rattle.wire_decode.proofs.WireLaws.{Law}
 use Rattle.wire_decode.proofs.Choices.{meaning-or}
 use Rattle.wire_decode.proofs.Unique.{reads-faultless}
+use Rattle.wire_decode.proofs.FirstFaults.{first-of, walk-of}
 use Rattle.wire_decode.proofs.laws.meaning_or_fault.Goals as goal
 
 pub returns-clause-either : goal.returns-clause-either
@@ -14,7 +16,7 @@ returns-clause-either c =
       not_both = c.record_or_fault.ensures.not_both;
       one_fault = c.record_or_fault.ensures.one_fault;
     } in
-    meaning-or law
+    λ T msg bytes. ⊎_elim (λ m. inl m) (λ f. inr (f.0, f.1, first-of f.2)) (meaning-or law T msg bytes)
 
 pub returns-clause-not_both : goal.returns-clause-not_both
 returns-clause-not_both c =
@@ -27,4 +29,4 @@ returns-clause-not_both c =
       not_both = c.record_or_fault.ensures.not_both;
       one_fault = c.record_or_fault.ensures.one_fault;
     } in
-    λ T msg bytes t reason place a b. reads-faultless law a.reads b
+    λ T msg bytes t reason place a b. reads-faultless law a.reads (walk-of b)

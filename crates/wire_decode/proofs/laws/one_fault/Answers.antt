@@ -1,5 +1,6 @@
 use Rattle.wire_decode.proofs.WireLaws.{Law}
 use Rattle.wire_decode.proofs.Unique.{faults-same}
+use Rattle.wire_decode.proofs.FirstFaults.{walk-of}
 use Rattle.wire_decode.proofs.laws.one_fault.Goals as goal
 
 pub returns : goal.returns
@@ -13,4 +14,4 @@ returns c =
       not_both = c.record_or_fault.ensures.not_both;
       one_fault = c.record_or_fault.ensures.one_fault;
     } in
-    λ T msg bytes reason other place at a b. faults-same law a b
+    λ T msg bytes reason other place at a b. faults-same law (walk-of a) (walk-of b)

@@ -11,7 +11,7 @@ use Rattle.wire_base.specs.declared.records.Payload.{Payload}
 use Rattle.wire_base.specs.declared.records.Payload.TheVariants.{Len}
 use Rattle.wire_decode.specs.Words.{suits, word_of, number_in, payload_type}
 use Rattle.wire_decode.specs.Reads.{Reads, is_message, Holds}
-use Rattle.wire_decode.specs.Faults.{Faults, no_record, in_payload}
+use Rattle.wire_decode.specs.FaultWalk.{Faults, no_record, in_payload}
 use Rattle.wire_decode.specs.Parts.{entry_room, inner_fault}
 use Rattle.wire_decode.proofs.Faulty.{faults_as}
 use Rattle.wire_decode.proofs.Contents.{number-holds, packs, not_map, numeric-kind, unknown, unsuited, answers-at, entry-answers, message-answers, text-answers, octets-answers, packed-answers}

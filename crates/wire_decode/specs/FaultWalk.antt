@@ -1,0 +1,74 @@
+-- The first fault of a byte string, as it is met by a walk over its records.
+use Rattle.std.specs.Prelude.{◌≡◌, ℕ, suc, ◌<◌, true, false, List, length, take, Some, slice_range}
+use Rattle.std.specs.Str.{IsUtf8}
+use Rattle.mrpc_table.specs.Node.{Node, Content}
+use Rattle.mrpc_table.specs.Normal.{fields_of, field_at}
+use Rattle.mrpc_table.specs.declared.table.Kind.{Kind}
+use Rattle.mrpc_table.specs.declared.table.Kind.TheVariants.{Text, Message as OfMessage}
+use Rattle.mrpc_table.specs.declared.table.Label.{Label}
+use Rattle.mrpc_table.specs.declared.table.Label.TheVariants.{Map}
+use Rattle.mrpc_table.specs.declared.table.Field.{Field}
+use Rattle.mrpc_table.specs.declared.table.Table.{Table}
+use Rattle.wire_base.specs.Records.{RecordAt, FaultAt}
+use Rattle.wire_base.specs.declared.records.Record.{Record}
+use Rattle.wire_base.specs.declared.records.Payload.{Payload}
+use Rattle.wire_base.specs.declared.records.Payload.TheVariants.{Len}
+use Rattle.wire_base.specs.declared.fault.WireReason.{WireReason}
+use Rattle.wire_base.specs.declared.fault.WireReason.TheVariants as wire
+use Rattle.wire_base.specs.declared.fault.WireFault.{WireFault}
+use Rattle.wire_decode.specs.Words.{is_map, may_be_packed, AreElements}
+use Rattle.wire_decode.specs.Reads.{Reads, Holds, HasRoom, is_known, entry_fields}
+use Rattle.wire_decode.specs.declared.fault.DecodeReason.{DecodeReason}
+use Rattle.wire_decode.specs.declared.fault.DecodeReason.TheVariants.{Varint, TagRange, NumberZero, WireType, Short, Utf8, PackedLength, Depth}
+
+abbrev pub reason_of : WireReason → DecodeReason
+reason_of wire.Varint = Varint
+reason_of wire.TagRange = TagRange
+reason_of wire.NumberZero = NumberZero
+reason_of wire.WireType = WireType
+reason_of wire.Short = Short
+
+mutual
+  -- Records stand from a place on, and this is the first fault behind them: no record stands there, or the
+  -- payload of a known field is at fault.
+  pub data Faults (T : Table) : ℕ → List Field → List ℕ → ℕ → DecodeReason → ℕ → Type 0 where
+    no_record : {room : ℕ} {fs : List Field} {bytes : List ℕ} {at : ℕ} {reason : DecodeReason} {place : ℕ}
+        (f : WireFault) → at < length bytes → FaultAt bytes at f → reason ≡ reason_of f.reason → place ≡ f.place
+        → Faults T room fs bytes at reason place
+    behind_other : {room : ℕ} {fs : List Field} {bytes : List ℕ} {at : ℕ} {reason : DecodeReason} {place : ℕ}
+        (r : Record) → RecordAt bytes at r → is_known fs r ≡ false → Faults T room fs bytes r.next reason place
+        → Faults T room fs bytes at reason place
+    behind_known : {room : ℕ} {fs : List Field} {bytes : List ℕ} {at : ℕ} {reason : DecodeReason} {place : ℕ}
+        (r : Record) (f : Field) (c : Content) → RecordAt bytes at r → field_at fs r.number ≡ Some f
+        → Holds T room f.label f.kind bytes r.payload c → Faults T room fs bytes r.next reason place
+        → Faults T room fs bytes at reason place
+    in_payload : {room : ℕ} {fs : List Field} {bytes : List ℕ} {at : ℕ} {reason : DecodeReason} {place : ℕ}
+        (r : Record) (f : Field) → RecordAt bytes at r → field_at fs r.number ≡ Some f
+        → Fails T room f.label f.kind bytes r.payload reason place → Faults T room fs bytes at reason place
+
+  -- the first fault of the payload of a field
+  pub data Fails (T : Table) : ℕ → Label → Kind → List ℕ → Payload → DecodeReason → ℕ → Type 0 where
+    -- no join of whole elements
+    no_elements : {room : ℕ} {label : Label} {k : Kind} {bytes : List ℕ} {p : Payload} {reason : DecodeReason}
+        {place : ℕ} (end : ℕ) → may_be_packed label k ≡ true → p ≡ Len place end → reason ≡ PackedLength
+        → ((ws : List ℕ) → AreElements k (take end bytes) place ws → ⊥) → Fails T room label k bytes p reason place
+    no_text : {room : ℕ} {label : Label} {k : Kind} {bytes : List ℕ} {p : Payload} {reason : DecodeReason} {place : ℕ}
+        (end : ℕ) → is_map label ≡ false → k ≡ Text → p ≡ Len place end → reason ≡ Utf8
+        → (IsUtf8 (slice_range bytes place end) → ⊥) → Fails T room label k bytes p reason place
+    -- it would be the 33rd message
+    too_deep : {room : ℕ} {label : Label} {k : Kind} {bytes : List ℕ} {p : Payload} {reason : DecodeReason} {place : ℕ}
+        (i end : ℕ) → is_map label ≡ false → k ≡ OfMessage i → p ≡ Len place end → room ≡ 0 → reason ≡ Depth
+        → Fails T room label k bytes p reason place
+    in_message : {room : ℕ} {label : Label} {k : Kind} {bytes : List ℕ} {p : Payload} {reason : DecodeReason}
+        {place : ℕ} (inside i start end : ℕ) → is_map label ≡ false → k ≡ OfMessage i → p ≡ Len start end
+        → room ≡ suc inside → Faults T inside (fields_of T i) (take end bytes) start reason place
+        → Fails T room label k bytes p reason place
+    in_entry : {room : ℕ} {label : Label} {k : Kind} {bytes : List ℕ} {p : Payload} {reason : DecodeReason} {place : ℕ}
+        (key : Kind) (start end : ℕ) → label ≡ Map key → p ≡ Len start end
+        → Faults T room (entry_fields key k) (take end bytes) start reason place
+        → Fails T room label k bytes p reason place
+    -- the default of the entry's value would be the 33rd message
+    no_room : {room : ℕ} {label : Label} {k : Kind} {bytes : List ℕ} {p : Payload} {reason : DecodeReason} {place : ℕ}
+        (key : Kind) (end : ℕ) (t : Node) → label ≡ Map key → p ≡ Len place end
+        → Reads T room (entry_fields key k) (take end bytes) place t → (HasRoom room k → ⊥) → reason ≡ Depth
+        → Fails T room label k bytes p reason place
