@@ -1,7 +1,6 @@
 //! Numbers: the word form of what a record or a packed piece has.
 
 ghost use Rattle.std.specs.Prelude.{◌≡◌, ℕ, ◌%◌, ◌^◌};
-ghost use Rattle.mrpc_table.specs.Words.{is_numeric};
 ghost use Rattle.wire_base.specs.Encoding.{wire_type_of};
 ghost use Rattle.wire_decode.specs.Reads.{is_message};
 ghost use Rattle.wire_decode.specs.Words.{word_of, sign_extended, unzigzag_of, is_map, is_list, own_type, payload_type, number_in, suits, may_be_packed};
@@ -49,13 +48,6 @@ fn unzigzag(v: u64) -> u64
     if v % 2 == 0 { half } else { u64::MAX - half }
 }
 
-/// Whether a value of the kind is a number.
-pub fn is_numeric(kind: Kind) -> bool
-    ensures { result ≡ is_numeric kind }
-{
-    !matches!(kind, Kind::Text | Kind::Octets | Kind::Message(_))
-}
-
 /// Whether a value of the kind is a message.
 pub fn is_message(kind: Kind) -> bool
     ensures { result ≡ is_message kind }
@@ -96,5 +88,5 @@ pub fn suits(label: Label, kind: Kind, payload: Payload) -> bool
         Label::Map(_) => 2,
         _ => wire_type_of(kind),
     };
-    found == own || (found == 2 && is_list(label) && is_numeric(kind))
+    found == own || (found == 2 && is_list(label) && kind.is_numeric())
 }

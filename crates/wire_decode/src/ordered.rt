@@ -17,7 +17,7 @@ ghost use Rattle.wire_decode.specs.Words.{is_list, number_in};
 ghost use Rattle.wire_decode.specs.Ordered.{IsWhole, IsValue, IsFieldRead, AreValues, AreEntries, IsPair, may_follow, oneofs_with, is_single, single_content};
 
 use crate::merge::{many, pairs, present, present_if_set, push_content};
-use crate::number::{is_numeric, wire_type_of, word_of};
+use crate::number::{wire_type_of, word_of};
 use crate::read::{element, elements, is_text};
 use map_entries::last_of_each;
 use mrpc_table::{
@@ -141,7 +141,7 @@ fn ordered_single(
     ensures ahead { IfSome result (λ next. start < next) }
     ensures within { IfSome result (λ next. next ≤ length bytes.now) }
 {
-    if is_numeric(kind) {
+    if kind.is_numeric() {
         return ordered_number(whole, bytes, start, tag, table, label, kind, room);
     }
     let (value, next) = ordered_value(alloc, bytes, start, tag, table, kind, room)?;
@@ -210,7 +210,7 @@ fn ordered_list(
     ensures ahead { IfSome result (λ next. start < next) }
     ensures within { IfSome result (λ next. next ≤ length bytes.now) }
 {
-    if tag % 8 == 2 && is_numeric(kind) {
+    if tag % 8 == 2 && kind.is_numeric() {
         return ordered_piece(alloc, whole, bytes, start, tag, table, label, kind, room);
     }
     let (values, next) = ordered_values(alloc, bytes, start, tag, table, kind, room)?;
