@@ -1,9 +1,6 @@
 -- The first fault, as it is found by walking over the records, and as it is said.
-use Rattle.std.proofs.Common.{◌≡◌, ℕ, List, [], ◌∷◌, take, Some, false, refl, ap, sym, subst, ◌∙◌}
-use Rattle.mrpc_table.specs.Node.{Node}
-use Rattle.mrpc_table.specs.Normal.{fields_of, field_at}
-use Rattle.mrpc_table.specs.declared.table.Kind.{Kind}
-use Rattle.mrpc_table.specs.declared.table.Label.{Label}
+use Rattle.std.proofs.Common.{◌≡◌, ℕ, List, [], ◌∷◌, Some, refl, sym, subst}
+use Rattle.mrpc_table.specs.Normal.{field_at}
 use Rattle.mrpc_table.specs.declared.table.Field.{Field}
 use Rattle.mrpc_table.specs.declared.table.Table.{Table}
 use Rattle.wire_base.specs.Records.{RecordAt}

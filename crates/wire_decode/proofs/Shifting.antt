@@ -1,5 +1,5 @@
 -- What stands in bytes stands alike where others stand in front of them, or behind them.
-use Rattle.std.proofs.Common.{◌≡◌, ℕ, ◌+◌, ◌-◌, ◌%◌, ◌≤◌, List, [], ◌∷◌, ◌++◌, length, take, drop, Option, Some, None, Bool, false, refl, ap, sym, subst, ◌∙◌, arith}
+use Rattle.std.proofs.Common.{◌≡◌, ℕ, ◌+◌, ◌-◌, ◌%◌, ◌≤◌, List, [], ◌∷◌, ◌++◌, length, take, drop, Option, Some, None, false, refl, ap, sym, subst, ◌∙◌, arith}
 use Rattle.std.specs.Option.{option_map, unwrap_or}
 use Rattle.std.specs.List.{slice_range}
 use Rattle.std.specs.Str.{IsUtf8}
@@ -12,12 +12,12 @@ use Rattle.mrpc_table.specs.declared.table.Label.{Label}
 use Rattle.mrpc_table.specs.declared.table.Field.{Field}
 use Rattle.mrpc_table.specs.declared.table.Table.{Table}
 use Rattle.wire_base.specs.Encoding.{wire_type_of}
-use Rattle.wire_base.specs.Records.{IsVarint, VarintAt, PayloadAt, TagAt, RecordAt, IsWithin}
+use Rattle.wire_base.specs.Records.{IsVarint, VarintAt, PayloadAt, RecordAt, IsWithin}
 use Rattle.wire_base.specs.declared.records.Record.{Record}
 use Rattle.wire_base.specs.declared.records.Payload.{Payload}
 use Rattle.wire_base.specs.declared.records.Payload.TheVariants.{Varint, I64, I32, Len}
 use Rattle.wire_decode.specs.Words.{number_in, payload_type, suits, word_of, AreElements}
-use Rattle.wire_decode.specs.Reads.{Reads, read_end, read_other, read_known, Holds, holds_number, holds_piece, holds_text, holds_octets, holds_message, holds_entry, is_known, entry_fields, HasRoom}
+use Rattle.wire_decode.specs.Reads.{Reads, read_end, read_other, read_known, Holds, holds_number, holds_piece, holds_text, holds_octets, holds_message, holds_entry, is_known, entry_fields}
 use Rattle.wire_decode.specs.Merged.{join_fields, joined}
 use Rattle.wire_decode.specs.Joined.{joined_bytes, AreReadEach}
 use Rattle.wire_decode.proofs.Payloads.{VarintAt-moves, PayloadAt-span}

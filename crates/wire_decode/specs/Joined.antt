@@ -1,6 +1,6 @@
 -- Strings of whole records, one behind another.
 use Rattle.std.specs.Prelude.{ℕ, List, [], ◌∷◌, ◌++◌}
-use Rattle.mrpc_table.specs.Node.{Item, number, run, node}
+use Rattle.mrpc_table.specs.Node.{Item, node}
 use Rattle.mrpc_table.specs.declared.table.Field.{Field}
 use Rattle.mrpc_table.specs.declared.table.Table.{Table}
 use Rattle.wire_decode.specs.Reads.{Reads}
