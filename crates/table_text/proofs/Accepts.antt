@@ -7,7 +7,7 @@ use Rattle.std.proofs.lemmas.List.{append-nil, nil_from_length}
 use Rattle.std.proofs.lemmas.Bool.{ltb-false, eqb-true}
 use Rattle.mrpc_table.specs.Names.{is_name_form}
 use Rattle.mrpc_table.specs.Valid.{Ascends, AreDistinct, IsBelow, IsKnown, IsMessage, IsMethod}
-use Rattle.table_text.specs.Faults.{Types, Before, is_among, is_empty, falls, lacks_value, lacks_zero, is_within, is_field_number, is_index, clashes, is_unknown_kind, is_unknown_label}
+use Rattle.table_text.specs.Judged.{Types, Before, is_among, is_empty, falls, lacks_value, lacks_zero, is_within, is_field_number, is_index, clashes, is_unknown_kind, is_unknown_label}
 use Rattle.table_text.specs.Places.{place}
 use Rattle.table_text.specs.Drafts.{open_part, enum_names, message_names, method_names, before, method_of, with_message, with_value, with_field, with_part, table_of, added}
 use Rattle.mrpc_table.specs.declared.table.Kind.{Kind}
@@ -44,7 +44,8 @@ use Rattle.mrpc_table.specs.Text.{spaced, line, table_text, message_lines, metho
 use Rattle.mrpc_table.specs.Valid.{IsValid}
 use Rattle.mrpc_table.specs.Lines.{words_of, whole_lines, rest_of, pieces_of}
 use Rattle.table_text.specs.Lines.{line_of, behind}
-use Rattle.table_text.specs.Faults.{line_fault, end_fault, fault_at, types_of, before_of, bytes_of}
+use Rattle.table_text.specs.Faults.{bytes_of}
+use Rattle.table_text.specs.Judged.{line_fault, end_fault, fault_at, types_of, before_of}
 use Rattle.table_text.specs.Drafts.{added_line, draft_of, empty_draft, table_in}
 use Rattle.table_text.specs.declared.fault.TableReason.{TableReason}
 use Rattle.table_text.specs.declared.fault.TableReason.TheVariants.{Syntax, Number}
@@ -55,13 +56,13 @@ use Rattle.table_text.proofs.SpellLemmas.{InRange, line_is, text_is}
 use Rattle.std.proofs.Common.{drop-cons}
 use Rattle.std.specs.List.{fold, cons_option}
 use Rattle.std.proofs.lemmas.Bool.{cases_lt}
-use Rattle.table_text.specs.Faults.{has_short_names, is_full}
+use Rattle.table_text.specs.Judged.{has_short_names, is_full}
 use Rattle.table_text.proofs.TableFacts.{has_part}
 use Rattle.std.specs.List.{join_with_byte}
 use Rattle.std.specs.Prelude.{option_to_list}
 use Rattle.std.proofs.lemmas.List.Splits.{join_with_byte-slice_split}
 use Rattle.mrpc_table.specs.Text.{kind_text, label_text, field_line, enum_name}
-use Rattle.table_text.specs.Faults.{after}
+use Rattle.table_text.specs.Judged.{after}
 use Rattle.table_text.proofs.LastLemmas.{slice_get-map}
 use Rattle.table_text.proofs.DraftText.{flat_push}
 use Rattle.table_text.proofs.LineLemmas.{init_first, end_first, before_line, before_draft, here_is, take_drop, fold_push, bytes_push, get_end}
@@ -172,7 +173,7 @@ lf l = l ++ 10 ∷ []
 abbrev pub IsFaultless : List ℕ → Type 0
 IsFaultless text = (i : ℕ) → fault_at text i ≡ None
 
-some_line : (text : List ℕ) (k : ℕ) → k < length (whole_lines text) → (l : List ℕ) × (more : List (List ℕ)) × (drop k (whole_lines text) ≡ l ∷ more)
+pub some_line : (text : List ℕ) (k : ℕ) → k < length (whole_lines text) → (l : List ℕ) × (more : List (List ℕ)) × (drop k (whole_lines text) ≡ l ∷ more)
 some_line text k within =
     let e = drop-cons (whole_lines text) k [] within in
     (get_or (whole_lines text) k [], drop (suc k) (whole_lines text), e)

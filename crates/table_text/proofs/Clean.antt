@@ -2,7 +2,7 @@
 use Rattle.std.proofs.Common.{◌≡◌, ℕ, suc, ◌+◌, ◌-◌, ◌^◌, min, ◌<◌, ◌≤◌, ◌||◌, not, Bool, true, false, cond, List, [], ◌∷◌, length, map, Option, Some, None, refl, ap, sym, ◌∙◌, arith}
 use Rattle.std.specs.Prelude.{slice_get, unwrap_or, option_map}
 use Rattle.std.specs.Str.{bytes_eq}
-use Rattle.table_text.specs.Faults.{Types, Before, line_fault, is_syntax, is_number, is_duplicate, is_unknown, is_map_key, is_limit, is_among}
+use Rattle.table_text.specs.Judged.{Types, Before, line_fault, is_syntax, is_number, is_duplicate, is_unknown, is_map_key, is_limit, is_among}
 use Rattle.mrpc_table.specs.Text.{message_name, enum_name}
 use Rattle.table_text.specs.Places.{place_from, place, in_range}
 use Rattle.mrpc_table.specs.declared.table.Message.{Message as TheMessage}

@@ -14,7 +14,7 @@ use Rattle.mrpc_table.specs.Names.{is_short, is_short_full, IsName, IsFullName}
 use Rattle.mrpc_table.specs.Words.{is_numeric, is_key}
 use Rattle.mrpc_table.specs.Valid.{Ascends, AreDistinct, IsBelow, IsValueBelow, IsFieldNumber, IsKnown, IsMessageKind, GoesWith, Joins, OneofsFollow, IsField, IsMessage, IsEnum, IsMethod}
 use Rattle.table_text.proofs.TableFacts.{both_left, both_right}
-use Rattle.table_text.specs.Faults.{fields, field_falls, is_field_below, repeats_number, Types, Before, is_among, is_empty, is_value_below, falls, last_of, lacks_value, lacks_zero, is_field_number, is_index, clashes, is_message_word, is_numeric_word, is_key_word, is_unknown_kind, is_unknown_label, is_map_key_label, is_short_kind, is_short_label}
+use Rattle.table_text.specs.Judged.{fields, field_falls, is_field_below, repeats_number, Types, Before, is_among, is_empty, is_value_below, falls, last_of, lacks_value, lacks_zero, is_field_number, is_index, clashes, is_message_word, is_numeric_word, is_key_word, is_unknown_kind, is_unknown_label, is_map_key_label, is_short_kind, is_short_label}
 use Rattle.table_text.specs.Places.{place}
 use Rattle.table_text.specs.Drafts.{open_part, enum_names, message_names, method_names, before, resolved, labeled, new_oneof, joined_with, field_of, method_of, with_enum, with_message, with_field, with_part, table_of, added, added_enum, added_message, added_method}
 use Rattle.mrpc_table.specs.declared.table.Kind.{Kind}
@@ -56,7 +56,8 @@ use Rattle.mrpc_table.specs.Text.{spaced, line, table_text, enum_lines, message_
 use Rattle.mrpc_table.specs.Valid.{IsValid}
 use Rattle.mrpc_table.specs.Lines.{words_of, whole_lines, rest_of, pieces_of}
 use Rattle.table_text.specs.Lines.{line_of, behind}
-use Rattle.table_text.specs.Faults.{line_fault, end_fault, fault_behind, types_of, before_of, bytes_of}
+use Rattle.table_text.specs.Faults.{bytes_of}
+use Rattle.table_text.specs.Judged.{line_fault, end_fault, fault_behind, types_of, before_of}
 use Rattle.table_text.specs.Drafts.{added_line, draft_of, empty_draft, table_in}
 use Rattle.table_text.specs.declared.fault.TableReason.{TableReason}
 use Rattle.std.proofs.lemmas.Bool.{eq-eqb}
@@ -565,7 +566,7 @@ no_clash t T oneofs n (Member o) k w h = refl
 abbrev field_entry : Table → List (List ℕ) → TheField → FieldLine
 field_entry T oneofs f = record { number = Some f.number; label = label_word T oneofs f.label; kind = kind_word T f.kind; name = f.name }
 
-field_number_is : (n : ℕ) → IsFieldNumber n → is_field_number (Some n) ≡ true
+pub field_number_is : (n : ℕ) → IsFieldNumber n → is_field_number (Some n) ≡ true
 field_number_is n h =
     let low : nat_lt 0 n ≡ true = lt-ltb 0 n h.positive in
     let high : nat_lt n 536870912 ≡ true = lt-ltb n 536870912 h.small in

@@ -6,7 +6,7 @@ use Rattle.std.specs.Fmt.{decimal, signed_decimal}
 use Rattle.std.proofs.lemmas.List.{append-nil}
 use Rattle.std.proofs.lemmas.List.Concat.{flat_map-append}
 use Rattle.mrpc_table.specs.Text.{line, kind_text, label_text, value_line, enum_lines, field_line, message_lines, method_line}
-use Rattle.table_text.specs.Faults.{Types, is_among, is_unknown_kind, is_unknown_label}
+use Rattle.table_text.specs.Judged.{Types, is_among, is_unknown_kind, is_unknown_label}
 use Rattle.table_text.specs.Places.{place, in_range}
 use Rattle.table_text.specs.Drafts.{resolved, labeled, new_oneof, joined_with, field_of, with_enum, with_message, with_field, with_part, table_of, added_enum, added_message}
 use Rattle.mrpc_table.specs.declared.table.Label.{Label}

@@ -1,8 +1,8 @@
 -- The names beside a draft, once a line was added.
 use Rattle.std.proofs.Common.{◌≡◌, ℕ, ℤ, List, [], ◌∷◌, ◌++◌, map, Option, Some, None, refl, ap, sym, subst, ◌∙◌}
 use Rattle.std.proofs.lemmas.List.{append-nil}
-use Rattle.table_text.specs.Faults.{Types, Before, nothing, values, fields, after, method_key}
-use Rattle.table_text.specs.Faults as faults
+use Rattle.table_text.specs.Judged.{Types, Before, nothing, values, fields, after, method_key}
+use Rattle.table_text.specs.Judged as faults
 use Rattle.table_text.specs.Places.{Holds}
 use Rattle.table_text.specs.Drafts.{open_enum, open_message, open_part, enum_names, message_names, method_names, names_in, oneofs_of, before, closed, with_enum, with_message, with_value, with_field, with_part, field_of, method_of, added}
 use Rattle.table_text.specs.Readers.{IsKept}

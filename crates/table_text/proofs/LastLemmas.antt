@@ -3,7 +3,7 @@ use Rattle.std.proofs.Common.{arith, ◌+◌, ◌≡◌, ℕ, zero, suc, ◌-◌
 use Rattle.std.specs.List.{enumerate_from}
 use Rattle.std.specs.Prelude.{option_map, slice_get}
 use Rattle.std.proofs.lemmas.List.{append-nil, length-map}
-use Rattle.table_text.specs.Faults.{falls, is_below, last_of}
+use Rattle.table_text.specs.Judged.{falls, is_below, last_of}
 
 pub slice_get-map : {X Y : Type 0} (f : X → Y) (xs : List X) (i : ℕ) → slice_get (map f xs) i ≡ option_map f (slice_get xs i)
 slice_get-map f [] i = refl

@@ -2,7 +2,14 @@ mod Accepts
 mod Clean
 mod Complete
 mod DraftText
+mod FaultRows
 mod FirstFaults
+mod FormAgainst
+mod FormLines
+mod FormParts
+mod FormPlaces
+mod FormReasons
+mod FormTests
 mod KeptLemmas
 mod LastLemmas
 mod LineLemmas
@@ -10,6 +17,7 @@ mod OrderLemmas
 mod ParseLemmas
 mod PlaceLemmas
 mod ReadLemmas
+mod SameFaults
 mod SmallTexts
 mod Soundness
 mod SpellLemmas

@@ -5,12 +5,13 @@ use Rattle.std.specs.List.{filter_map, cons_option, fold}
 use Rattle.std.specs.Option.{option_map_or}
 use Rattle.mrpc_table.specs.Lines.{pieces_of, whole_lines, rest_of}
 use Rattle.table_text.specs.Lines.{behind, line_of}
-use Rattle.table_text.specs.Faults.{Types, IsFaultOf, types_of, before_of, after_line, bytes_of, line_fault, end_fault, fault_at, fault_behind}
+use Rattle.table_text.specs.Faults.{bytes_of}
+use Rattle.table_text.specs.Judged.{Types, IsJudgedOf, types_of, before_of, after_line, line_fault, end_fault, fault_at, fault_behind}
 use Rattle.table_text.specs.Drafts.{before, added_line, draft_of, empty_draft, Blames}
 use Rattle.table_text.specs.Places.{Holds}
 use Rattle.std.proofs.lemmas.List.{append-nil, take_all}
 use Rattle.std.proofs.lemmas.Bool.{cases_lt, cases_eq, eq-eqb, ne_eqb}
-use Rattle.table_text.specs.Faults.{Before}
+use Rattle.table_text.specs.Judged.{Before}
 use Rattle.table_text.specs.declared.places.Places.{Places}
 use Rattle.table_text.specs.Readers.{IsKept}
 use Rattle.table_text.specs.declared.reader.Reader.{Reader}
@@ -225,7 +226,7 @@ all_clean text rest number r e s none i =
       ]
     ]
 
-pub blamed : (text rest : List ℕ) (number : ℕ) (r : Reader) (e : TableFault) (stands : Option TableReason) → LinesSoFar text rest number r → fault_at text (number - 1) ≡ stands → Blames e number stands → IsFaultOf text e
+pub blamed : (text rest : List ℕ) (number : ℕ) (r : Reader) (e : TableFault) (stands : Option TableReason) → LinesSoFar text rest number r → fault_at text (number - 1) ≡ stands → Blames e number stands → IsJudgedOf text e
 blamed text rest number r (fault.At line reason) stands s here h =
     let is = h.0 in
     let some = s.some in

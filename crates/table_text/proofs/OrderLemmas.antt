@@ -14,7 +14,7 @@ use Rattle.std.proofs.lemmas.Int.{ints}
 use Rattle.std.proofs.lemmas.Option.{slice_get_within, get_or_from_slice_get}
 use Rattle.std.proofs.lemmas.List.Elements.{Contains-append_right, Contains-push_cases}
 use Rattle.mrpc_table.specs.Valid.{Ascends, AreDistinct, IsBelow, IsValueBelow}
-use Rattle.table_text.specs.Faults.{is_below, is_among, falls, last_of, is_value_below}
+use Rattle.table_text.specs.Judged.{is_below, is_among, falls, last_of, is_value_below}
 use Rattle.table_text.specs.declared.line.Whole.TheVariants.{Within}
 use Rattle.table_text.proofs.PlaceLemmas.{same_bytes, bytes_same}
 
@@ -173,7 +173,7 @@ right_false : (a b : Bool) → (a || b) ≡ false → b ≡ false
 right_false true b e = absurd cc
 right_false false b e = e
 
-less_is : (x z : ℤ) → int_cmp x z ≡ Less → int_lt x z ≡ true
+pub less_is : (x z : ℤ) → int_cmp x z ≡ Less → int_lt x z ≡ true
 less_is x z e =
     elim (int_lt x z) as (λ (b : Bool). cond b Less (cond (int_lt z x) Greater Equal) ≡ Less → b ≡ true) [
       | true ↦ λ f. refl

@@ -55,7 +55,7 @@ either (Some y) p x e = inl e
 own : IsNumeralModel (λ ds. list_all is_ascii_digit ds ≡ true) (digits_value 10)
 own = numerals_by_value (λ ds. list_all is_ascii_digit ds ≡ true) (search rules)
 
-decimal_form : (w : List ℕ) → is_decimal w ≡ true → (list_all is_ascii_digit w ≡ true) × (0 < length w) × (get_or w 0 0 ≡ 48 → length w ≡ 1)
+pub decimal_form : (w : List ℕ) → is_decimal w ≡ true → (list_all is_ascii_digit w ≡ true) × (0 < length w) × (get_or w 0 0 ≡ 48 → length w ≡ 1)
 decimal_form [] e = absurd cc
 decimal_form (c ∷ cs) e =
     let digits = both_left (list_all is_ascii_digit (c ∷ cs)) (not (c == 48) || length cs == 0) e in
@@ -144,7 +144,7 @@ whole_is (c ∷ cs) z e =
           subst (λ (y : ℤ). WholeIs (c ∷ cs) (Within y)) is.0 high
     ]
 
-first_digit : (w : List ℕ) → list_all is_ascii_digit w ≡ true → 0 < length w → whole_of w ≡ option_map not_negative (number_of w)
+pub first_digit : (w : List ℕ) → list_all is_ascii_digit w ≡ true → 0 < length w → whole_of w ≡ option_map not_negative (number_of w)
 first_digit [] digits some = absurd (omega arith)
 first_digit (c ∷ cs) digits some =
     let d : is_ascii_digit c ≡ true = both_left (is_ascii_digit c) (list_all is_ascii_digit cs) digits in

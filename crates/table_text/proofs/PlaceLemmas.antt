@@ -13,7 +13,7 @@ use Rattle.std.specs.Map.{lookup}
 use Rattle.std.specs.BTreeMap.{is_at, insert_entry}
 use Rattle.std.proofs.lemmas.Map.Text.{is_eq-slice_cmp}
 use Rattle.std.proofs.lemmas.Slice.Eq.{bytes_eq-Decides}
-use Rattle.table_text.specs.Faults.{is_among}
+use Rattle.table_text.specs.Judged.{is_among}
 use Rattle.table_text.specs.Places.{place_from, in_range, place_in, Holds}
 use Rattle.table_text.specs.declared.places.Places.{Places}
 

@@ -1,7 +1,7 @@
 -- The definition of the first fault on small texts.
 use Rattle.std.proofs.Common.{◌≡◌, [], codes, Some, None, refl}
 use Rattle.table_text.specs.Lines.{line_of}
-use Rattle.table_text.specs.Faults.{fault_at}
+use Rattle.table_text.specs.Judged.{fault_at}
 use Rattle.table_text.specs.declared.fault.TableReason.TheVariants.{Syntax, Number, Duplicate, UnknownType, MapKey}
 
 message_passes : fault_at (codes "message M\nfield 1 plain uint64 a\nmethod 0 S Get M M\n") 0 ≡ None

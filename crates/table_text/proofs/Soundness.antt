@@ -12,10 +12,10 @@ use Rattle.std.proofs.lemmas.Bool.{leb-true, leb-false, ltb-true, ltb-false, eqb
 use Rattle.mrpc_table.specs.Names.{is_name_form, is_full_form, is_short, is_short_full, IsName, IsFullName}
 use Rattle.mrpc_table.specs.Words.{is_numeric, is_key}
 use Rattle.mrpc_table.specs.Valid.{Ascends, AreDistinct, IsBelow, IsValueBelow, IsFieldNumber, IsKnown, IsMessageKind, GoesWith, Joins, OneofsFollow, IsField, IsMessage, IsEnum, IsMethod}
-use Rattle.table_text.specs.Faults as faults
+use Rattle.table_text.specs.Judged as faults
 use Rattle.table_text.proofs.TableFacts.{follow_le}
 use Rattle.table_text.proofs.TableFacts.{both_left, both_right}
-use Rattle.table_text.specs.Faults.{fields, method_key, field_falls, is_field_below, repeats_number, is_field_before, open_count, Types, Before, is_among, is_empty, is_value_below, falls, last_of, lacks_value, lacks_zero, is_within, is_field_number, is_index, clashes, is_message_word, is_numeric_word, is_key_word, is_unknown_kind, is_unknown_label, is_map_key_label, is_short_kind, is_short_label}
+use Rattle.table_text.specs.Judged.{fields, method_key, field_falls, is_field_below, repeats_number, is_field_before, open_count, Types, Before, is_among, is_empty, is_value_below, falls, last_of, lacks_value, lacks_zero, is_within, is_field_number, is_index, clashes, is_message_word, is_numeric_word, is_key_word, is_unknown_kind, is_unknown_label, is_map_key_label, is_short_kind, is_short_label}
 use Rattle.table_text.specs.Places.{place}
 use Rattle.table_text.specs.Drafts.{open_part, enum_names, message_names, method_names, before, resolved, labeled, new_oneof, joined_with, field_of, method_of, with_enum, with_message, with_field, with_part, added_enum, added_message, added_method}
 use Rattle.mrpc_table.specs.declared.table.Kind.{Kind}
@@ -375,7 +375,7 @@ pub names_numbered : (fs : List TheField) → map (λ (p : ℕ × List ℕ). p.1
 names_numbered [] = refl
 names_numbered (f ∷ fs) = ap (λ (ns : List (List ℕ)). f.name ∷ ns) (names_numbered fs)
 
-number_fits : (n : ℕ) → is_field_number (Some n) ≡ true → IsFieldNumber n
+pub number_fits : (n : ℕ) → is_field_number (Some n) ≡ true → IsFieldNumber n
 number_fits n e =
     let range = both_left (nat_lt 0 n && nat_lt n 536870912) (nat_lt n 19000 || nat_lt 19999 n) e in
     let gap = both_right (nat_lt 0 n && nat_lt n 536870912) (nat_lt n 19000 || nat_lt 19999 n) e in

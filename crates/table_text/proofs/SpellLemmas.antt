@@ -16,7 +16,7 @@ use Rattle.mrpc_table.specs.Names.{is_name_start, is_name_byte, is_name_form, is
 use Rattle.mrpc_table.specs.Lines.{words_of, number_of}
 use Rattle.table_text.specs.Lines.{in_32_bits, whole_of, name_of, full_name_of, scalar_names, scalar_of, behind, kind_of, label_names, label_of, enum_of, value_of, message_of, field_of, method_of, line_of_words, line_of}
 use Rattle.mrpc_table.specs.Text.{kind_text, spaced}
-use Rattle.table_text.specs.Faults.{is_within}
+use Rattle.table_text.specs.Judged.{is_within}
 use Rattle.mrpc_table.specs.declared.table.Kind.{Kind}
 use Rattle.mrpc_table.specs.declared.table.Kind.TheVariants.{Int32, Int64, Uint32, Uint64, Sint32, Sint64, Bool as TheBool, Fixed32, Fixed64, Sfixed32, Sfixed64, Float, Double, Text, Octets, Message as OfMessage, Choice}
 use Rattle.mrpc_table.specs.declared.table.Table.{Table}
@@ -232,7 +232,7 @@ method_is (iw ∷ sw ∷ nw ∷ aw ∷ bw ∷ x ∷ ws) l e range = absurd cc
 first_is : (w : List ℕ) (text : List ℕ) (ws : List (List ℕ)) (l : Line) → bytes_eq w text ≡ true → LineIs (text ∷ ws) l → LineIs (w ∷ ws) l
 first_is w text ws l e h = subst (λ (v : List ℕ). LineIs (v ∷ ws) l) (sym (same_bytes w text e)) h
 
-chosen : {X : Type 0} (b : Bool) (x y z : X) → cond b x y ≡ z → ((b ≡ true) × (x ≡ z)) ⊎ (y ≡ z)
+pub chosen : {X : Type 0} (b : Bool) (x y z : X) → cond b x y ≡ z → ((b ≡ true) × (x ≡ z)) ⊎ (y ≡ z)
 chosen true x y z e = inl (refl, e)
 chosen false x y z e = inr e
 

@@ -13,7 +13,8 @@ use Rattle.mrpc_table.specs.Text.{table_text}
 use Rattle.mrpc_table.specs.Valid.{IsValid}
 use Rattle.mrpc_table.specs.declared.table.Table.{Table}
 use Rattle.table_text.specs.Lines.{line_of}
-use Rattle.table_text.specs.Faults.{IsFirstFault, fault_at, fault_behind, line_fault, end_fault, types_of, before_of, bytes_of, is_empty, lacks_value}
+use Rattle.table_text.specs.Faults.{bytes_of}
+use Rattle.table_text.specs.Judged.{IsFirstJudged, fault_at, fault_behind, line_fault, end_fault, types_of, before_of, is_empty, lacks_value}
 use Rattle.table_text.specs.Drafts.{table_in}
 use Rattle.table_text.specs.TableText.{HasTableBehind, IsEndless}
 use Rattle.table_text.specs.declared.fault.TableReason.{TableReason}
@@ -114,7 +115,7 @@ behind_or_endless head body = behind_by head body (ended_at (pieces_of body)) re
 -- ---- a table or a fault
 
 here_by : (text : List ℕ) (n : ℕ) → ((i : ℕ) → i < n → fault_at text i ≡ None) → (o : Option TableReason) → fault_at text n ≡ o
-    → ((i : ℕ) → i < suc n → fault_at text i ≡ None) ⊎ ((line : ℕ) × (reason : TableReason) × IsFirstFault text line reason)
+    → ((i : ℕ) → i < suc n → fault_at text i ≡ None) ⊎ ((line : ℕ) × (reason : TableReason) × IsFirstJudged text line reason)
 here_by text n none None e = inl (λ i below. elim (cases_lt i n) [
   | inl before ↦ none i before
   | inr from ↦ let same : n ≡ i = omega (arith, below, from) in subst (λ (k : ℕ). fault_at text k ≡ None) same e
@@ -132,7 +133,7 @@ here_by text n none (Some reason) e =
     )
 
 -- up to a place there is no fault, or there is a first one
-search_up : (text : List ℕ) (n : ℕ) → ((i : ℕ) → i < n → fault_at text i ≡ None) ⊎ ((line : ℕ) × (reason : TableReason) × IsFirstFault text line reason)
+search_up : (text : List ℕ) (n : ℕ) → ((i : ℕ) → i < n → fault_at text i ≡ None) ⊎ ((line : ℕ) × (reason : TableReason) × IsFirstJudged text line reason)
 search_up text zero = inl (λ i below. absurd (omega (arith, below)))
 search_up text (suc n) =
     elim (search_up text n) [
@@ -147,7 +148,7 @@ past_end text i past =
     let not_end : (i == length ls) ≡ false = ne_eqb i (length ls) (λ same. omega arith) in
     rw (no_line, not_end) refl
 
-pub table_or_first : (text : List ℕ) → ((t : Table) × IsValid t × (text ≡ table_text t)) ⊎ ((line : ℕ) × (reason : TableReason) × IsFirstFault text line reason)
+pub table_or_first : (text : List ℕ) → ((t : Table) × IsValid t × (text ≡ table_text t)) ⊎ ((line : ℕ) × (reason : TableReason) × IsFirstJudged text line reason)
 table_or_first text =
     let n = length (whole_lines text) + 1 in
     elim (search_up text n) [

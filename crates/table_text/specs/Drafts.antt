@@ -6,8 +6,8 @@ use Rattle.mrpc_table.specs.declared.table.Table.{Table}
 use Rattle.table_text.specs.declared.fault.TableReason.{TableReason}
 use Rattle.table_text.specs.declared.fault.TableFault.{TableFault}
 use Rattle.table_text.specs.declared.fault.TableFault.TheVariants as fault
-use Rattle.table_text.specs.Faults.{types_of, Types, Before, nothing, values, fields, is_among}
-use Rattle.table_text.specs.Faults as faults
+use Rattle.table_text.specs.Judged.{types_of, Types, Before, nothing, values, fields, is_among}
+use Rattle.table_text.specs.Judged as faults
 use Rattle.table_text.specs.Places.{place}
 use Rattle.mrpc_table.specs.declared.table.Kind.{Kind}
 use Rattle.mrpc_table.specs.declared.table.Kind.TheVariants.{Message as OfMessage, Choice}
@@ -65,7 +65,12 @@ oneofs_of (open_parts.Message m) = m.oneofs
 oneofs_of _ = []
 
 abbrev pub before : Draft → Before
-before d = record { enums = enum_names d; messages = message_names d; methods = method_names d; open_part = open_part d.open_part }
+before d = record {
+  enums = enum_names d;
+  messages = message_names d;
+  methods = method_names d;
+  open_part = open_part d.open_part;
+}
 
 -- ---- what a line adds
 
@@ -101,10 +106,16 @@ with_message (open_parts.Message m) ms = ms ++ m ∷ []
 with_message _ ms = ms
 
 abbrev pub closed : Draft → Draft
-closed d = record { enums = with_enum d.open_part d.enums; messages = with_message d.open_part d.messages; methods = d.methods; open_part = open_parts.Nothing }
+closed d = record {
+  enums = with_enum d.open_part d.enums;
+  messages = with_message d.open_part d.messages;
+  methods = d.methods;
+  open_part = open_parts.Nothing;
+}
 
 abbrev pub with_value : Open → Whole → List ℕ → Open
-with_value (open_parts.Enum c) (Within z) name = open_parts.Enum (record { name = c.name; values = c.values ++ (z, name) ∷ [] })
+with_value (open_parts.Enum c) (Within z) name =
+    open_parts.Enum (record { name = c.name; values = c.values ++ (z, name) ∷ [] })
 with_value o z name = o
 
 abbrev pub field_of : Types → List (List ℕ) → ℕ → FieldLine → TheField
@@ -112,14 +123,28 @@ field_of t oneofs n f = record { number = n; name = f.name; kind = resolved t f.
 
 abbrev pub with_field : Types → Open → Option ℕ → FieldLine → Open
 with_field t (open_parts.Message m) (Some n) f =
-    open_parts.Message (record { name = m.name; fields = m.fields ++ field_of t m.oneofs n f ∷ []; oneofs = joined_with m.oneofs (new_oneof m.oneofs f.label) })
+    open_parts.Message (record {
+      name = m.name;
+      fields = m.fields ++ field_of t m.oneofs n f ∷ [];
+      oneofs = joined_with m.oneofs (new_oneof m.oneofs f.label);
+    })
 with_field t o n f = o
 
 abbrev pub method_of : Types → MethodLine → TheMethod
-method_of t m = record { service = m.service; name = m.name; input = place m.input t.messages; output = place m.output t.messages }
+method_of t m = record {
+  service = m.service;
+  name = m.name;
+  input = place m.input t.messages;
+  output = place m.output t.messages;
+}
 
 abbrev pub opened : Draft → Open → Draft
-opened d part = record { enums = with_enum d.open_part d.enums; messages = with_message d.open_part d.messages; methods = d.methods; open_part = part }
+opened d part = record {
+  enums = with_enum d.open_part d.enums;
+  messages = with_message d.open_part d.messages;
+  methods = d.methods;
+  open_part = part;
+}
 
 abbrev pub with_part : Draft → Open → Draft
 with_part d part = record { enums = d.enums; messages = d.messages; methods = d.methods; open_part = part }
@@ -137,7 +162,12 @@ abbrev pub added_field : Types → Draft → FieldLine → Draft
 added_field t d f = with_part d (with_field t d.open_part f.number f)
 
 abbrev pub added_method : Types → Draft → MethodLine → Draft
-added_method t d m = record { enums = with_enum d.open_part d.enums; messages = with_message d.open_part d.messages; methods = d.methods ++ method_of t m ∷ []; open_part = open_parts.Nothing }
+added_method t d m = record {
+  enums = with_enum d.open_part d.enums;
+  messages = with_message d.open_part d.messages;
+  methods = d.methods ++ method_of t m ∷ [];
+  open_part = open_parts.Nothing;
+}
 
 abbrev pub added : Types → Draft → Line → Draft
 added t d (Enum name) = added_enum d name
@@ -158,7 +188,11 @@ abbrev pub draft_of : Types → List (List ℕ) → Draft
 draft_of t lines = fold (λ d line. added_line t d (line_of line)) empty_draft lines
 
 abbrev pub table_of : Draft → Table
-table_of d = record { messages = with_message d.open_part d.messages; enums = with_enum d.open_part d.enums; methods = d.methods }
+table_of d = record {
+  messages = with_message d.open_part d.messages;
+  enums = with_enum d.open_part d.enums;
+  methods = d.methods;
+}
 
 abbrev pub table_in : List (List ℕ) → Table
 table_in lines = table_of (draft_of (types_of lines) lines)

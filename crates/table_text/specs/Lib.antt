@@ -1,5 +1,7 @@
 pub mod Drafts
 pub mod Faults
+pub mod Forms
+pub mod Judged
 pub mod Lines
 pub mod Places
 pub mod Readers

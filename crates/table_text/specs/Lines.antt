@@ -30,7 +30,8 @@ negative n = if n == 0 then None else Some (if nat_le n (2 ^ 31) then Within (ne
 -- digits, or digits behind a `-`
 abbrev pub whole_of : List ℕ → Option Whole
 whole_of [] = None
-whole_of (c ∷ cs) = if c == 45 then option_and_then negative (number_of cs) else option_map not_negative (number_of (c ∷ cs))
+whole_of (c ∷ cs) =
+    if c == 45 then option_and_then negative (number_of cs) else option_map not_negative (number_of (c ∷ cs))
 
 -- the word, where it is a name, or a full name
 abbrev pub name_of : List ℕ → Option (List ℕ)
@@ -44,7 +45,8 @@ abbrev pub scalar_names : List (List ℕ × Kind)
 scalar_names =
     (codes "int32", Int32) ∷ (codes "int64", Int64) ∷ (codes "uint32", Uint32) ∷ (codes "uint64", Uint64)
     ∷ (codes "sint32", Sint32) ∷ (codes "sint64", Sint64) ∷ (codes "bool", TheBool)
-    ∷ (codes "fixed32", Fixed32) ∷ (codes "fixed64", Fixed64) ∷ (codes "sfixed32", Sfixed32) ∷ (codes "sfixed64", Sfixed64)
+    ∷ (codes "fixed32", Fixed32) ∷ (codes "fixed64", Fixed64)
+    ∷ (codes "sfixed32", Sfixed32) ∷ (codes "sfixed64", Sfixed64)
     ∷ (codes "float", Float) ∷ (codes "double", Double) ∷ (codes "string", Text) ∷ (codes "bytes", Octets) ∷ []
 
 abbrev pub scalar_of : List ℕ → Option Kind
@@ -61,7 +63,9 @@ kind_of word =
     (option_map kinds.Choice (option_and_then full_name_of (behind (codes "enum:") word))))
 
 abbrev pub label_names : List (List ℕ × LabelWord)
-label_names = (codes "plain", labels.Plain) ∷ (codes "optional", labels.Optional) ∷ (codes "repeated", labels.Repeated) ∷ (codes "packed", labels.Packed) ∷ []
+label_names =
+    (codes "plain", labels.Plain) ∷ (codes "optional", labels.Optional) ∷ (codes "repeated", labels.Repeated)
+    ∷ (codes "packed", labels.Packed) ∷ []
 
 abbrev pub label_of : List ℕ → Option LabelWord
 label_of word =
@@ -84,12 +88,16 @@ message_of _ = None
 
 abbrev pub field_of : List (List ℕ) → Option Line
 field_of (number ∷ label ∷ kind ∷ name ∷ []) =
-    option_and_then (λ n. option_and_then (λ l. option_and_then (λ k. option_map (λ m. Field (record { number = in_32_bits n; label = l; kind = k; name = m })) (name_of name)) (kind_of kind)) (label_of label)) (number_of number)
+    option_and_then (λ n. option_and_then (λ l. option_and_then (λ k. option_map (λ m.
+    Field (record { number = in_32_bits n; label = l; kind = k; name = m }))
+    (name_of name)) (kind_of kind)) (label_of label)) (number_of number)
 field_of _ = None
 
 abbrev pub method_of : List (List ℕ) → Option Line
 method_of (index ∷ service ∷ name ∷ input ∷ output ∷ []) =
-    option_and_then (λ i. option_and_then (λ s. option_and_then (λ n. option_and_then (λ a. option_map (λ b. Method (record { index = in_32_bits i; service = s; name = n; input = a; output = b })) (full_name_of output)) (full_name_of input)) (name_of name)) (full_name_of service)) (number_of index)
+    option_and_then (λ i. option_and_then (λ s. option_and_then (λ n. option_and_then (λ a. option_map (λ b.
+    Method (record { index = in_32_bits i; service = s; name = n; input = a; output = b }))
+    (full_name_of output)) (full_name_of input)) (name_of name)) (full_name_of service)) (number_of index)
 method_of _ = None
 
 -- what a line says, if it is in form

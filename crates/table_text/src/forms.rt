@@ -11,7 +11,8 @@ use std::alloc::Global;
 
 // The first of at least two words, and the line of the others.
 fn next_word(line: &[u8]) -> Option<(&[u8], &[u8])>
-    ensures { MatchOption result (words_of line.now ≡ line.now ∷ []) (λ p. words_of line.now ≡ p.0.now ∷ words_of p.1.now) }
+    ensures { MatchOption result (words_of line.now ≡ line.now ∷ [])
+        (λ p. words_of line.now ≡ p.0.now ∷ words_of p.1.now) }
 {
     cut(line, b' ')
 }
@@ -19,7 +20,9 @@ fn next_word(line: &[u8]) -> Option<(&[u8], &[u8])>
 // The only word of a line.
 fn only_word(line: &[u8]) -> Option<&[u8]>
     ensures one { IfSome result (λ word. words_of line.now ≡ word.now ∷ []) }
-    ensures more { MatchOption result ((a b : List ℕ) × (others : List (List ℕ)) × (words_of line.now ≡ a ∷ b ∷ others)) (λ word. word.now ≡ line.now) }
+    ensures more { MatchOption result
+        ((a b : List ℕ) × (others : List (List ℕ)) × (words_of line.now ≡ a ∷ b ∷ others))
+        (λ word. word.now ≡ line.now) }
 {
     match next_word(line) {
         None => Some(line),

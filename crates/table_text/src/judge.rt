@@ -3,7 +3,7 @@
 ghost use Rattle.std.specs.Prelude.{◌≡◌, ◌<◌, ◌++◌, ◌∷◌, ℕ, [], length, not, IfOk, OnOk, Some};
 ghost use Rattle.mrpc_table.specs.Names.{is_short, is_short_full};
 ghost use Rattle.mrpc_table.specs.Words.{is_numeric, is_key};
-ghost use Rattle.table_text.specs.Faults.{Types, clashes, is_message_word, is_numeric_word, is_key_word, is_short_kind, is_short_label, is_within, is_field_number, is_index, has_short_names, is_full, is_limit, is_map_key, is_unknown_kind, is_unknown_label, is_unknown, is_syntax, is_number, is_duplicate, line_fault};
+ghost use Rattle.table_text.specs.Judged.{Types, clashes, is_message_word, is_numeric_word, is_key_word, is_short_kind, is_short_label, is_within, is_field_number, is_index, has_short_names, is_full, is_limit, is_map_key, is_unknown_kind, is_unknown_label, is_unknown, is_syntax, is_number, is_duplicate, line_fault};
 ghost use Rattle.table_text.specs.Drafts.{before, method_names, enum_names, message_names};
 ghost use Rattle.table_text.specs.Places.{Holds};
 

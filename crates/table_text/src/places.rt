@@ -3,7 +3,7 @@
 ghost use Rattle.std.specs.Prelude.{◌≡◌, ◌++◌, ◌∷◌, ℕ, List, [], length, option_map, if◌then◌else◌, OnOk};
 ghost use Rattle.std.specs.Option.{option_or};
 ghost use Rattle.std.specs.Str.{bytes_eq};
-ghost use Rattle.table_text.specs.Faults.{is_among};
+ghost use Rattle.table_text.specs.Judged.{is_among};
 ghost use Rattle.table_text.specs.Places.{place_from, in_range, place, place_in, Holds};
 
 use mrpc_table::Memory;
@@ -71,7 +71,8 @@ impl Places {
 
     // Gives a new name the next place.
     fn keep(&mut self, alloc: Global, name: &[u8]) -> Result<(), Memory>
-        ensures places { OnOk result ((q : List ℕ) → place_in self.new q ≡ option_or (place_in self.old q) (if bytes_eq q name.now then Some self.old.count else None)) }
+        ensures places { OnOk result ((q : List ℕ) → place_in self.new q
+            ≡ option_or (place_in self.old q) (if bytes_eq q name.now then Some self.old.count else None)) }
         ensures count { self.new.count ≡ self.old.count }
     {
         if self.found(name).is_some() {

@@ -5,7 +5,8 @@ ghost use Rattle.std.specs.List.{filter_map};
 ghost use Rattle.std.specs.Option.{option_to_list};
 ghost use Rattle.mrpc_table.specs.Lines.{whole_lines};
 ghost use Rattle.table_text.specs.Lines.{behind};
-ghost use Rattle.table_text.specs.Faults.{fault_at, IsFirstFault, IsFaultOf};
+ghost use Rattle.table_text.specs.Faults.{IsFirstFault, IsFaultOf};
+ghost use Rattle.table_text.specs.Judged.{fault_at, IsJudgedOf};
 ghost use Rattle.mrpc_table.specs.Text.{table_text};
 ghost use Rattle.mrpc_table.specs.Valid.{IsValid, HaveOneTextEach};
 ghost use Rattle.mrpc_table.specs.declared.table.Table.{Table};
@@ -48,7 +49,7 @@ fn add_behind(alloc: Global, names: &mut Places, prefix: &[u8], line: &[u8]) -> 
 fn read_lines(alloc: Global, text: &[u8]) -> Result<Table, TableFault>
     ensures table { IfOk result (λ t. t ≡ table_in (whole_lines text.now)) }
     ensures clean { OnOk result ((i : ℕ) → fault_at text.now i ≡ None) }
-    ensures fault { IfErr result (λ e. IsFaultOf text.now e) }
+    ensures fault { IfErr result (λ e. IsJudgedOf text.now e) }
 {
     let known_enums = names_behind(alloc, b"enum ", text)?;
     let known_messages = names_behind(alloc, b"message ", text)?;

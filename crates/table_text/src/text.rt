@@ -127,7 +127,8 @@ fn put_field_head(
     field: &Field,
 ) -> Result<(), Memory>
     requires { GoesWith (length oneofs.now) field.now.label field.now.kind }
-    ensures { OnOk result (out.new ≡ out.old ++ spaced (codes "field" ∷ decimal field.now.number ∷ label_text table.now oneofs.now field.now.label ∷ [])) }
+    ensures { OnOk result (out.new ≡ out.old ++ spaced (codes "field" ∷ decimal field.now.number
+        ∷ label_text table.now oneofs.now field.now.label ∷ [])) }
 {
     out.append(b"field ")?;
     out.append_decimal(u64::from(field.number))?;
@@ -175,7 +176,8 @@ fn put_word(out: &mut Bytes, word: &[u8]) -> Result<(), Memory>
 }
 
 fn put_method_head(out: &mut Bytes, index: usize, method: &Method) -> Result<(), Memory>
-    ensures { OnOk result (out.new ≡ out.old ++ spaced (codes "method" ∷ decimal index ∷ method.now.service ∷ method.now.name ∷ [])) }
+    ensures { OnOk result (out.new ≡ out.old ++ spaced (codes "method" ∷ decimal index ∷ method.now.service
+        ∷ method.now.name ∷ [])) }
 {
     out.append(b"method ")?;
     out.append_decimal(index as u64)?;

@@ -131,7 +131,8 @@ pub fn full_name_of(alloc: Global, word: &[u8]) -> Result<Option<Name>, Memory>
 }
 
 fn message_kind(alloc: Global, word: &[u8]) -> Result<Option<KindWord>, Memory>
-    ensures { IfOk result (λ r. r ≡ option_map kinds.Message (option_and_then full_name_of (behind (codes "message:") word.now))) }
+    ensures { IfOk result (λ r. r
+        ≡ option_map kinds.Message (option_and_then full_name_of (behind (codes "message:") word.now))) }
 {
     let Some(name) = behind(b"message:", word) else {
         return Ok(None);
@@ -143,7 +144,8 @@ fn message_kind(alloc: Global, word: &[u8]) -> Result<Option<KindWord>, Memory>
 }
 
 fn enum_kind(alloc: Global, word: &[u8]) -> Result<Option<KindWord>, Memory>
-    ensures { IfOk result (λ r. r ≡ option_map kinds.Choice (option_and_then full_name_of (behind (codes "enum:") word.now))) }
+    ensures { IfOk result (λ r. r
+        ≡ option_map kinds.Choice (option_and_then full_name_of (behind (codes "enum:") word.now))) }
 {
     let Some(name) = behind(b"enum:", word) else {
         return Ok(None);
@@ -196,7 +198,8 @@ fn map_label(alloc: Global, word: &[u8]) -> Result<Option<LabelWord>, Memory>
 }
 
 fn member_label(alloc: Global, word: &[u8]) -> Result<Option<LabelWord>, Memory>
-    ensures { IfOk result (λ r. r ≡ option_map labels.Member (option_and_then name_of (behind (codes "oneof:") word.now))) }
+    ensures { IfOk result (λ r. r
+        ≡ option_map labels.Member (option_and_then name_of (behind (codes "oneof:") word.now))) }
 {
     let Some(name) = behind(b"oneof:", word) else {
         return Ok(None);

@@ -1,6 +1,6 @@
 use Rattle.std.proofs.lemmas.Result.{on_ok_weaker, MatchResult-weaker, err_from_is_err_and}
 use Rattle.mrpc_table.specs.Lines.{whole_lines}
-use Rattle.table_text.specs.Faults.{types_of}
+use Rattle.table_text.specs.Judged.{types_of}
 use Rattle.table_text.proofs.LineLemmas.{lines_none, line_here, lines_step, end_here, all_clean, blamed}
 use Rattle.table_text.proofs.read.read_lines.Goals as goal
 

@@ -1,0 +1,297 @@
+-- The tests by which a line of a table's text is judged while it is read, over what the lines before it left: the first
+-- fault that they find is the first one of the text.
+use Rattle.std.specs.Prelude.{◌≡◌, ℕ, ℤ, pos, ◌+◌, ◌-◌, ◌<◌, ◌==◌, nat_lt, nat_le, Bool, true, false, not, ◌&&◌, ◌||◌, if◌then◌else◌, List, [], ◌∷◌, ◌++◌, codes, length, take, map, sum, Option, Some, None, slice_get}
+use Rattle.std.specs.List.{list_any, filter_map, fold}
+use Rattle.std.specs.Option.{option_map_or}
+use Rattle.std.specs.Ordering.{nat_cmp, is_lt, int_eq}
+use Rattle.std.specs.Int.RustNames.{int_lt}
+use Rattle.std.specs.Str.{bytes_eq}
+use Rattle.std.specs.Cmp.Lexicographic.{slice_cmp}
+use Rattle.mrpc_table.specs.Names.{is_short, is_short_full}
+use Rattle.mrpc_table.specs.Words.{is_numeric, is_key}
+use Rattle.mrpc_table.specs.declared.limits.TheConstants.{MAX_ENUMS, MAX_MESSAGES, MAX_METHODS, MAX_FIELDS, MAX_VALUES, MAX_TEXT}
+use Rattle.mrpc_table.specs.Lines.{whole_lines, rest_of}
+use Rattle.table_text.specs.Faults.{bytes_of}
+use Rattle.table_text.specs.Lines.{behind, line_of}
+use Rattle.table_text.specs.declared.fault.TableReason.{TableReason}
+use Rattle.table_text.specs.declared.fault.TableReason.TheVariants.{Syntax, Number, Duplicate, UnknownType, MapKey, Limit}
+use Rattle.table_text.specs.declared.fault.TableFault.{TableFault}
+use Rattle.table_text.specs.declared.fault.TableFault.TheVariants as fault
+use Rattle.table_text.specs.declared.line.KindWord.{KindWord}
+use Rattle.table_text.specs.declared.line.KindWord.TheVariants as kinds
+use Rattle.table_text.specs.declared.line.LabelWord.{LabelWord}
+use Rattle.table_text.specs.declared.line.LabelWord.TheVariants as labels
+use Rattle.table_text.specs.declared.line.Whole.{Whole}
+use Rattle.table_text.specs.declared.line.Whole.TheVariants.{Low, Within, High}
+use Rattle.table_text.specs.declared.line.MethodLine.{MethodLine}
+use Rattle.table_text.specs.declared.line.Line.{Line}
+use Rattle.table_text.specs.declared.line.Line.TheVariants.{Enum, Value, Message, Field, Method}
+
+-- the types that the text names: those of all its `enum` and `message` lines, also of lines at fault
+pub record Types : Type 0 where
+  pub enums : List (List ℕ)
+  pub messages : List (List ℕ)
+
+abbrev pub types_of : List (List ℕ) → Types
+types_of lines = record {
+  enums = filter_map (behind (codes "enum ")) lines;
+  messages = filter_map (behind (codes "message ")) lines;
+}
+
+-- what a line may go on with: the values of the enum, or the numbers and names of the fields of the
+-- message, whose lines stand right before it
+pub data Open : Type 0 where
+  nothing : Open
+  values : List (ℤ × List ℕ) → Open
+  fields : List (ℕ × List ℕ) → Open
+
+-- what the lines before a line name, in order; a method is named by its service and name, with a space between
+pub record Before : Type 0 where
+  pub enums : List (List ℕ)
+  pub messages : List (List ℕ)
+  pub methods : List (List ℕ)
+  pub open_part : Open
+
+abbrev pub with_value : Open → Whole → List ℕ → Open
+with_value (values vs) (Within z) name = values (vs ++ (z, name) ∷ [])
+with_value part z name = part
+
+abbrev pub with_field : Open → Option ℕ → List ℕ → Open
+with_field (fields fs) (Some n) name = fields (fs ++ (n, name) ∷ [])
+with_field part n name = part
+
+abbrev pub method_key : MethodLine → List ℕ
+method_key m = m.service ++ 32 ∷ m.name
+
+abbrev pub after : Before → Line → Before
+after b (Enum name) = record b { enums = b.enums ++ name ∷ []; open_part = values [] }
+after b (Value z name) = record b { open_part = with_value b.open_part z name }
+after b (Message name) = record b { messages = b.messages ++ name ∷ []; open_part = fields [] }
+after b (Field f) = record b { open_part = with_field b.open_part f.number f.name }
+after b (Method m) = record b { methods = b.methods ++ method_key m ∷ []; open_part = nothing }
+
+abbrev pub after_line : Before → Option Line → Before
+after_line b None = b
+after_line b (Some l) = after b l
+
+abbrev pub none_before : Before
+none_before = record { enums = []; messages = []; methods = []; open_part = nothing }
+
+abbrev pub before_of : List (List ℕ) → Before
+before_of lines = fold (λ b line. after_line b (line_of line)) none_before lines
+
+-- names in order, and among others
+abbrev pub is_below : List ℕ → List ℕ → Bool
+is_below a b = is_lt (slice_cmp nat_cmp a b)
+
+abbrev pub is_among : List ℕ → List (List ℕ) → Bool
+is_among name names = list_any (λ other. bytes_eq name other) names
+
+abbrev pub last_of : {X : Type 0} → List X → Option X
+last_of xs = slice_get xs (length xs - 1)
+
+abbrev pub is_empty : {X : Type 0} → List X → Bool
+is_empty xs = length xs == 0
+
+-- the name is below the last of these
+abbrev pub falls : List ℕ → List (List ℕ) → Bool
+falls name names = option_map_or (λ last. is_below name last) (last_of names) false
+
+-- a value is below the last one: by number, then by name
+abbrev pub is_value_below : Whole → List ℕ → ℤ × List ℕ → Bool
+is_value_below Low name last = true
+is_value_below (Within z) name last = int_lt z last.0 || (int_eq z last.0 && is_below name last.1)
+is_value_below High name last = false
+
+-- the enum whose lines stand right before lacks a value, or a value of number 0
+abbrev pub lacks_value : Open → Bool
+lacks_value (values vs) = is_empty vs
+lacks_value _ = false
+
+abbrev pub lacks_zero : Open → Bool
+lacks_zero (values vs) = not (list_any (λ v. int_eq v.0 (pos 0)) vs)
+lacks_zero _ = false
+
+-- a label that goes with no field of the kind
+abbrev pub is_message_word : KindWord → Bool
+is_message_word (kinds.Message name) = true
+is_message_word _ = false
+
+abbrev pub is_numeric_word : KindWord → Bool
+is_numeric_word (kinds.Scalar k) = is_numeric k
+is_numeric_word (kinds.Message name) = false
+is_numeric_word (kinds.Choice name) = true
+
+abbrev pub clashes : LabelWord → KindWord → Bool
+clashes labels.Optional k = is_message_word k
+clashes labels.Packed k = not (is_numeric_word k)
+clashes _ k = false
+
+abbrev pub value_falls : Open → Whole → List ℕ → Bool
+value_falls (values vs) z name = option_map_or (is_value_below z name) (last_of vs) false
+value_falls _ z name = true
+
+abbrev pub is_field_below : Option ℕ → ℕ × List ℕ → Bool
+is_field_below (Some n) last = nat_lt n last.0
+is_field_below None last = false
+
+abbrev pub field_falls : Open → Option ℕ → Bool
+field_falls (fields fs) n = option_map_or (is_field_below n) (last_of fs) false
+field_falls _ n = true
+
+-- Syntax: the order of lines, a label that clashes with its kind, an enum without a value
+abbrev pub is_syntax : Before → Line → Bool
+is_syntax b (Enum name) =
+    ((lacks_value b.open_part || not (is_empty b.messages)) || not (is_empty b.methods)) || falls name b.enums
+is_syntax b (Value z name) = value_falls b.open_part z name
+is_syntax b (Message name) = (lacks_value b.open_part || not (is_empty b.methods)) || falls name b.messages
+is_syntax b (Field f) = clashes f.label f.kind || field_falls b.open_part f.number
+is_syntax b (Method m) = lacks_value b.open_part
+
+-- Number: one out of its range, an enum without a value 0, an index out of turn
+abbrev pub is_within : Whole → Bool
+is_within (Within z) = true
+is_within _ = false
+
+abbrev pub is_field_number : Option ℕ → Bool
+is_field_number (Some n) = (nat_lt 0 n && nat_lt n 536870912) && (nat_lt n 19000 || nat_lt 19999 n)
+is_field_number None = false
+
+abbrev pub is_index : Option ℕ → ℕ → Bool
+is_index (Some i) n = i == n
+is_index None n = false
+
+abbrev pub is_number : Before → Line → Bool
+is_number b (Enum name) = lacks_zero b.open_part
+is_number b (Value z name) = not (is_within z)
+is_number b (Message name) = lacks_zero b.open_part
+is_number b (Field f) = not (is_field_number f.number)
+is_number b (Method m) = lacks_zero b.open_part || not (is_index m.index (length b.methods))
+
+-- Duplicate: a name of a type, of a value in its enum, of a field in its message or of a method in its
+-- service that stands before; the number of the field before
+abbrev pub is_type_before : Before → List ℕ → Bool
+is_type_before b name = is_among name b.enums || is_among name b.messages
+
+abbrev pub is_value_before : Open → List ℕ → Bool
+is_value_before (values vs) name = is_among name (map (λ v. v.1) vs)
+is_value_before _ name = false
+
+abbrev pub is_field_before : Open → List ℕ → Bool
+is_field_before (fields fs) name = is_among name (map (λ f. f.1) fs)
+is_field_before _ name = false
+
+abbrev pub repeats_number : Open → Option ℕ → Bool
+repeats_number (fields fs) n = option_map_or (λ last. is_index n last.0) (last_of fs) false
+repeats_number _ n = false
+
+abbrev pub is_duplicate : Before → Line → Bool
+is_duplicate b (Enum name) = is_type_before b name
+is_duplicate b (Value z name) = is_value_before b.open_part name
+is_duplicate b (Message name) = is_type_before b name
+is_duplicate b (Field f) = is_field_before b.open_part f.name || repeats_number b.open_part f.number
+is_duplicate b (Method m) = is_among (method_key m) b.methods
+
+-- UnknownType: a type that no line names
+abbrev pub is_unknown_kind : Types → KindWord → Bool
+is_unknown_kind t (kinds.Scalar k) = false
+is_unknown_kind t (kinds.Message name) = not (is_among name t.messages)
+is_unknown_kind t (kinds.Choice name) = not (is_among name t.enums)
+
+abbrev pub is_unknown_label : Types → LabelWord → Bool
+is_unknown_label t (labels.Map key) = is_unknown_kind t key
+is_unknown_label t _ = false
+
+abbrev pub is_unknown : Types → Line → Bool
+is_unknown t (Field f) = is_unknown_label t f.label || is_unknown_kind t f.kind
+is_unknown t (Method m) = not (is_among m.input t.messages) || not (is_among m.output t.messages)
+is_unknown t _ = false
+
+-- MapKey: a key that is neither integral, nor a bool, nor a string
+abbrev pub is_key_word : KindWord → Bool
+is_key_word (kinds.Scalar k) = is_key k
+is_key_word _ = false
+
+abbrev pub is_map_key_label : LabelWord → Bool
+is_map_key_label (labels.Map key) = not (is_key_word key)
+is_map_key_label _ = false
+
+abbrev pub is_map_key : Line → Bool
+is_map_key (Field f) = is_map_key_label f.label
+is_map_key _ = false
+
+-- Limit: a name or a full name that is too long, one part too many, or too many bytes up to the line's end
+abbrev pub is_short_kind : KindWord → Bool
+is_short_kind (kinds.Scalar k) = true
+is_short_kind (kinds.Message name) = is_short_full name
+is_short_kind (kinds.Choice name) = is_short_full name
+
+abbrev pub is_short_label : LabelWord → Bool
+is_short_label (labels.Map key) = is_short_kind key
+is_short_label (labels.Member name) = is_short name
+is_short_label _ = true
+
+abbrev pub has_short_names : Line → Bool
+has_short_names (Enum name) = is_short_full name
+has_short_names (Value z name) = is_short name
+has_short_names (Message name) = is_short_full name
+has_short_names (Field f) = (is_short_label f.label && is_short_kind f.kind) && is_short f.name
+has_short_names (Method m) =
+    ((is_short_full m.service && is_short m.name) && is_short_full m.input) && is_short_full m.output
+
+abbrev pub open_count : Open → ℕ
+open_count nothing = 0
+open_count (values vs) = length vs
+open_count (fields fs) = length fs
+
+abbrev pub is_full : Before → Line → Bool
+is_full b (Enum name) = nat_le MAX_ENUMS (length b.enums)
+is_full b (Value z name) = nat_le MAX_VALUES (open_count b.open_part)
+is_full b (Message name) = nat_le MAX_MESSAGES (length b.messages)
+is_full b (Field f) = nat_le MAX_FIELDS (open_count b.open_part)
+is_full b (Method m) = nat_le MAX_METHODS (length b.methods)
+
+abbrev pub is_limit : Before → ℕ → Line → Bool
+is_limit b bytes l = (not (has_short_names l) || is_full b l) || nat_lt MAX_TEXT bytes
+
+-- the first reason of the list that stands against a line, given the types of the text, what stands
+-- before it, and the number of bytes up to its end
+abbrev pub line_fault : Types → Before → ℕ → Option Line → Option TableReason
+line_fault t b bytes None = Some Syntax
+line_fault t b bytes (Some l) =
+    if is_syntax b l then Some Syntax
+    else if is_number b l then Some Number
+    else if is_duplicate b l then Some Duplicate
+    else if is_unknown t l then Some UnknownType
+    else if is_map_key l then Some MapKey
+    else if is_limit b bytes l then Some Limit
+    else None
+
+-- the same of the end of the text: a rest without a line feed, an enum that lacks a value or a value 0
+abbrev pub end_fault : Before → List ℕ → Option TableReason
+end_fault b rest =
+    if not (is_empty rest) || lacks_value b.open_part then Some Syntax
+    else if lacks_zero b.open_part then Some Number
+    else None
+
+-- what stands against the line behind the first i whole lines
+abbrev pub fault_behind : List (List ℕ) → List ℕ → ℕ → Option TableReason
+fault_behind lines rest i =
+    option_map_or
+    (λ line. line_fault (types_of lines) (before_of (take i lines)) (bytes_of (take (i + 1) lines)) (line_of line))
+    (slice_get lines i)
+    (if i == length lines then end_fault (before_of lines) rest else None)
+
+abbrev pub fault_at : List ℕ → ℕ → Option TableReason
+fault_at text i = fault_behind (whole_lines text) (rest_of text) i
+
+-- the line is the first that the tests find at fault, counted from 1, and this is the first reason found
+pub record IsFirstJudged (text : List ℕ) (line : ℕ) (reason : TableReason) : Type 0 where
+  pub counted : 0 < line
+  pub here : fault_at text (line - 1) ≡ Some reason
+  pub none_before : (i : ℕ) → i + 1 < line → fault_at text i ≡ None
+
+-- what a fault says of a text; want of memory says nothing
+abbrev pub IsJudgedOf : List ℕ → TableFault → Type 0
+IsJudgedOf text (fault.At line reason) = IsFirstJudged text line reason
+IsJudgedOf text fault.Memory = Unit {0}
