@@ -23,8 +23,6 @@ use Rattle.wire_base.specs.declared.records.Record.{Record}
 use Rattle.wire_decode.specs.Words.{word_of, number_in, payload_type, is_map, suits, AreElements}
 use Rattle.wire_decode.specs.Reads.{Reads, read_end, read_other, read_known, Holds, holds_piece, holds_text, holds_octets, holds_message, holds_entry, HasRoom, is_message, is_known, entry_fields, numbers}
 use Rattle.wire_decode.specs.FaultWalk.{reason_of, Faults, no_record, behind_other, behind_known, in_payload, Fails, no_elements, no_text, too_deep, in_message, in_entry, no_room}
-use Rattle.wire_decode.specs.Means.{Means}
-use Rattle.wire_decode.specs.Merged.{merged}
 use Rattle.wire_decode.specs.Parts.{IsFixedOrVarint}
 use Rattle.wire_decode.specs.declared.fault.DecodeReason.{DecodeReason}
 use Rattle.wire_decode.specs.declared.fault.DecodeReason.TheVariants.{Utf8, PackedLength, Depth}
@@ -210,10 +208,6 @@ reads-or law T (suc left) room fs bytes at within few =
     (λ past. inl (no_fields, read_end (omega (arith, within, past)) refl))
     (cases_lt at (length bytes))
 
-pub meaning-or : Law → (T : Table) (msg : ℕ) (bytes : List ℕ)
-    → ((t : Node) × Means T msg bytes t) ⊎ ((reason : DecodeReason) × (place : ℕ) × Faults T 31 (fields_of T msg) bytes 0 reason place)
-meaning-or law T msg bytes =
-    ⊎_elim
-    (λ t. inl (merged T 32 msg t.0, record { raw = t.0; reads = t.1; value = refl }))
-    (λ f. inr f)
-    (reads-or law T (length bytes) 31 (fields_of T msg) bytes 0 (omega arith) (omega arith))
+pub reading-or : Law → (T : Table) (msg : ℕ) (bytes : List ℕ)
+    → ((raw : Node) × Reads T 31 (fields_of T msg) bytes 0 raw) ⊎ ((reason : DecodeReason) × (place : ℕ) × Faults T 31 (fields_of T msg) bytes 0 reason place)
+reading-or law T msg bytes = reads-or law T (length bytes) 31 (fields_of T msg) bytes 0 (omega arith) (omega arith)

@@ -16,7 +16,7 @@ use Rattle.mrpc_table.specs.declared.table.Field.{Field}
 use Rattle.mrpc_table.specs.declared.table.Table.{Table}
 use Rattle.wire_base.specs.Encoding.{kind_at, label_at, is_packed, key_kind, message_of, encoding}
 use Rattle.wire_decode.specs.Reads.{Reads, read_end, is_message}
-use Rattle.wire_decode.specs.Means.{Means}
+use Rattle.wire_decode.specs.Merges.{Merges}
 use Rattle.map_entries.specs.Last.{key_cmp, with_pair, last_of_each}
 use Rattle.wire_decode.specs.Merged.{contents_of, items_in, items_from, values_in, join_fields, is_default, default_of, singular, element, part, entry, present, present_if_set, some_items, some_pairs, field_content, with_content, with_fields, merged}
 use Rattle.wire_decode.proofs.WireLaws.{ReadsBack}
@@ -244,7 +244,7 @@ inner-back T zero usable = record { each = λ inside i t e h. absurd (omega (ari
 inner-back T (suc room) usable = record { each = λ inside i t e h. merged-step T room usable (inner-back T room usable) i t h }
 
 -- what is encoded means the tree
-pub encoded-meaning : ReadsBack → (T : Table) (msg : ℕ) (t : Node) → IsUsableTable T → IsNormal T msg t → length (encoding T msg t) < 2 ^ 64 → Means T msg (encoding T msg t) t
+pub encoded-meaning : ReadsBack → (T : Table) (msg : ℕ) (t : Node) → IsUsableTable T → IsNormal T msg t → length (encoding T msg t) < 2 ^ 64 → Merges T msg (encoding T msg t) t
 encoded-meaning back_read T msg t usable h few =
     let fs = fields_of T msg in
     let bytes = encoding T msg t in

@@ -1,4 +1,7 @@
 mod Adding
+mod Agreeing
+mod Agreement
+mod Alike
 mod Choices
 mod Contents
 mod Elements
@@ -26,6 +29,7 @@ mod Sound
 mod Shifting
 mod SpelledNumbers
 mod Stands
+mod Taken
 mod Unique
 mod UsableTables
 mod Views

@@ -70,11 +70,11 @@ rise-above : (m n : ℕ) (t : Node) → RiseFrom n t → m ≤ n → contents_of
 rise-above m n no_fields h le = refl
 rise-above m n (field k c t) h le = contents-other m k c t (let a = h.0 in omega (arith, a, le)) ∙ rise-above m k t h.1 (let a = h.0 in omega (arith, a, le))
 
-first-least : (x : Field) (xs : List Field) → FieldsAscend (x ∷ xs) → FieldsAscend xs
+pub first-least : (x : Field) (xs : List Field) → FieldsAscend (x ∷ xs) → FieldsAscend xs
 first-least x [] h = tt
 first-least x (y ∷ ys) h = h.1
 
-abbrev AreAbove : ℕ → List Field → Type 0
+abbrev pub AreAbove : ℕ → List Field → Type 0
 AreAbove n [] = Unit {0}
 AreAbove n (f ∷ fs) = (n < f.number) × AreAbove n fs
 
@@ -82,7 +82,7 @@ above-more : (m n : ℕ) (fs : List Field) → m ≤ n → AreAbove n fs → Are
 above-more m n [] le h = tt
 above-more m n (f ∷ fs) le h = (let a = h.0 in omega (arith, a, le), above-more m n fs le h.1)
 
-ascend-above : (x : Field) (xs : List Field) → FieldsAscend (x ∷ xs) → AreAbove x.number xs
+pub ascend-above : (x : Field) (xs : List Field) → FieldsAscend (x ∷ xs) → AreAbove x.number xs
 ascend-above x [] h = tt
 ascend-above x (y ∷ ys) h = (h.0, above-more x.number y.number ys (let a = h.0 in omega (arith, a)) (ascend-above y ys h.1))
 

@@ -14,7 +14,7 @@ use Rattle.mrpc_table.specs.declared.table.Field.{Field}
 use Rattle.mrpc_table.specs.declared.table.Table.{Table}
 use Rattle.wire_decode.specs.Words.{is_map}
 use Rattle.wire_decode.specs.Reads.{is_message, HasRoom, entry_fields}
-use Rattle.wire_decode.specs.Means.{Means}
+use Rattle.wire_decode.specs.Merges.{Merges}
 use Rattle.wire_decode.specs.Merged.{contents_of, items_from, values_in, singles_in, join_fields, joined, last_value, is_default, default_of, singular, element, part, entry, present, present_if_set, some_items, some_pairs, field_content, is_overtaken, counted, with_content, with_fields, merged}
 use Rattle.wire_decode.proofs.Merging.{element-same, merged-suc}
 use Rattle.wire_decode.proofs.WordForms.{AreBytes}
@@ -275,7 +275,7 @@ inner-fits law T (suc room) usable = record {
 }
 
 -- bytes mean a normal tree
-pub normal-meaning : (law : KeptAreNormal) → (T : Table) (msg : ℕ) (bytes : List ℕ) (t : Node) → IsUsableTable T → AreBytes bytes → Means T msg bytes t → IsNormal T msg t
+pub normal-meaning : (law : KeptAreNormal) → (T : Table) (msg : ℕ) (bytes : List ℕ) (t : Node) → IsUsableTable T → AreBytes bytes → Merges T msg bytes t → IsNormal T msg t
 normal-meaning law T msg bytes t usable small h =
     let fits = merged-step law T 31 usable (inner-fits law T 31 usable) msg h.raw (reads-sound h.reads small) in
     let normal : IsNormal T msg (merged T 32 msg h.raw) = record { fields = fits.fields; oneofs = fits.oneofs; depth = fits.depth } in

@@ -5,13 +5,15 @@ use Rattle.mrpc_table.specs.declared.table.Table.{Table}
 use Rattle.wire_decode.specs.declared.fault.DecodeFault.{DecodeFault}
 use Rattle.wire_decode.specs.declared.fault.DecodeFault.TheVariants.{At, Memory}
 use Rattle.wire_decode.specs.declared.fault.DecodeReason.{DecodeReason}
-use Rattle.wire_decode.specs.Means.{Means}
-use Rattle.wire_decode.specs.Faults.{FaultsAs, IsFirstFault}
+use Rattle.wire_decode.specs.Merges.{Merges}
+use Rattle.wire_decode.specs.FaultWalk.{Faults}
+use Rattle.wire_decode.specs.Faults.{FaultsAs}
+use Rattle.mrpc_table.specs.Normal.{fields_of}
 
 -- bytes don't have both
 abbrev pub NotBoth : Type 0
-NotBoth = (T : Table) (msg : ℕ) (bytes : List ℕ) (t : Node) (reason : DecodeReason) (place : ℕ) → Means T msg bytes t → IsFirstFault T msg bytes reason place → ⊥
+NotBoth = (T : Table) (msg : ℕ) (bytes : List ℕ) (t : Node) (reason : DecodeReason) (place : ℕ) → Merges T msg bytes t → Faults T 31 (fields_of T msg) bytes 0 reason place → ⊥
 
-pub only-memory : NotBoth → (T : Table) (msg : ℕ) (bytes : List ℕ) (t : Node) (f : DecodeFault) → Means T msg bytes t → FaultsAs (IsFirstFault T msg bytes) f → f ≡ Memory
+pub only-memory : NotBoth → (T : Table) (msg : ℕ) (bytes : List ℕ) (t : Node) (f : DecodeFault) → Merges T msg bytes t → FaultsAs (Faults T 31 (fields_of T msg) bytes 0) f → f ≡ Memory
 only-memory not_both T msg bytes t Memory m h = refl
 only-memory not_both T msg bytes t (At reason place) m h = absurd (not_both T msg bytes t reason place m h)

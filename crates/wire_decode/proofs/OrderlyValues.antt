@@ -14,7 +14,7 @@ use Rattle.mrpc_table.specs.declared.table.Label.{Label}
 use Rattle.mrpc_table.specs.declared.table.Label.TheVariants.{Plain, Optional, Repeated, Packed, Map, Member}
 use Rattle.mrpc_table.specs.declared.table.Field.{Field}
 use Rattle.mrpc_table.specs.declared.table.Table.{Table}
-use Rattle.wire_decode.specs.Means.{Means}
+use Rattle.wire_decode.specs.Merges.{Merges}
 use Rattle.wire_base.specs.Encoding.{wire_type_of}
 use Rattle.wire_base.specs.Records.{RecordAt, TagAt, PayloadAt}
 use Rattle.wire_base.specs.declared.records.Record.{Record}
@@ -231,7 +231,7 @@ pair-read T room key k bytes at tag first middle other second next i j tagged is
     part-of inner n k held o e = sym (ap (λ x. unwrap_or x (default_of k)) (e ∙ singular-one inner k held))
 
 -- the whole message
-pub whole-means : (T : Table) (msg : ℕ) (bytes : List ℕ) (fs : List Field) (t : Node) → fs ≡ fields_of T msg → IsWhole T 31 fs bytes 0 t → Means T msg bytes t
+pub whole-means : (T : Table) (msg : ℕ) (bytes : List ℕ) (fs : List Field) (t : Node) → fs ≡ fields_of T msg → IsWhole T 31 fs bytes 0 t → Merges T msg bytes t
 whole-means T msg bytes fs t is whole =
     let P : List Field → Type 0 = λ x. IsWhole T 31 x bytes 0 t in
     let w = subst P is whole in

@@ -12,6 +12,7 @@ use Rattle.mrpc_table.specs.declared.table.Label.TheVariants.{Packed, Map}
 use Rattle.mrpc_table.specs.declared.table.Field.{Field}
 use Rattle.mrpc_table.specs.declared.table.Message.{Message}
 use Rattle.mrpc_table.specs.declared.table.Table.{Table}
+use Rattle.mrpc_table.specs.Ascending.{AllAscend, FieldsAscend}
 use Rattle.wire_decode.specs.Reads.{is_message}
 use Rattle.wire_decode.proofs.Merging.{field-here, field-later}
 
@@ -70,6 +71,14 @@ usable-at T (m ∷ ms) (suc i) all = usable-at T ms i (All-tail (IsMessage T) m 
 
 pub usable-valid : (T : Table) → IsValid T → IsUsableTable T
 usable-valid T h = record { each = λ i. usable-at T T.messages i h.messages }
+
+ascend-at : (T : Table) (ms : List Message) (i : ℕ) → All (IsMessage T) ms → FieldsAscend (unwrap_or (option_map (λ m. m.fields) (slice_get ms i)) [])
+ascend-at T [] i all = tt
+ascend-at T (m ∷ ms) zero all = (All-head (IsMessage T) m ms all).ascend
+ascend-at T (m ∷ ms) (suc i) all = ascend-at T ms i (All-tail (IsMessage T) m ms all)
+
+pub valid-ascends : (T : Table) → IsValid T → AllAscend T
+valid-ascends T h = record { each = λ i. ascend-at T T.messages i h.messages }
 
 -- a number below all of the fields
 pub at-none : (n last : ℕ) (fs : List Field) → AreFieldsFrom last fs → n ≤ last → field_at fs n ≡ None

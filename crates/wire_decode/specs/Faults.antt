@@ -2,7 +2,7 @@
 -- a place, and there no record stands, or the payload of a known field fails.
 use Rattle.std.specs.Prelude.{◌≡◌, ℕ, suc, ◌<◌, true, false, List, [], ◌∷◌, length, take, Some, slice_range}
 use Rattle.std.specs.Str.{IsUtf8}
-use Rattle.mrpc_table.specs.Node.{Node, Content}
+use Rattle.mrpc_table.specs.Node.{Node}
 use Rattle.mrpc_table.specs.Normal.{fields_of, field_at}
 use Rattle.mrpc_table.specs.declared.table.Kind.{Kind}
 use Rattle.mrpc_table.specs.declared.table.Kind.TheVariants.{Text, Message as OfMessage}
@@ -14,7 +14,8 @@ use Rattle.wire_base.specs.declared.records.Record.{Record}
 use Rattle.wire_base.specs.declared.records.Payload.TheVariants.{Len}
 use Rattle.wire_base.specs.declared.fault.WireFault.{WireFault}
 use Rattle.wire_decode.specs.Words.{is_map, may_be_packed, AreElements}
-use Rattle.wire_decode.specs.Reads.{Reads, Holds, HasRoom, is_known, entry_fields}
+use Rattle.wire_decode.specs.Reads.{HasRoom, is_known, entry_fields}
+use Rattle.wire_decode.specs.Meaning.{Value, MeansIn, HasValue}
 use Rattle.wire_decode.specs.FaultWalk.{reason_of}
 use Rattle.wire_decode.specs.declared.fault.DecodeFault.{DecodeFault}
 use Rattle.wire_decode.specs.declared.fault.DecodeFault.TheVariants.{At, Memory}
@@ -24,8 +25,8 @@ use Rattle.wire_decode.specs.declared.fault.DecodeReason.TheVariants.{Utf8, Pack
 -- a record that is skipped, or one of a known field whose payload is sound by itself
 pub data IsSound (T : Table) (room : ℕ) (fs : List Field) (bytes : List ℕ) (r : Record) : Type 0 where
   is_skipped : is_known fs r ≡ false → IsSound T room fs bytes r
-  is_known_and_sound : (f : Field) (c : Content) → field_at fs r.number ≡ Some f
-      → Holds T room f.label f.kind bytes r.payload c → IsSound T room fs bytes r
+  is_known_and_sound : (f : Field) (v : Value) → field_at fs r.number ≡ Some f
+      → HasValue T room f.label f.kind bytes r.payload v → IsSound T room fs bytes r
 
 -- sound records stand one behind another from one place up to another
 abbrev pub AreSound : Table → ℕ → List Field → List ℕ → ℕ → List Record → ℕ → Type 0
@@ -55,7 +56,7 @@ mutual
         → IsFault T room fs bytes at reason place
     not_whole_elements : {room : ℕ} {fs : List Field} {bytes : List ℕ} {at : ℕ} {reason : DecodeReason} {place : ℕ}
         (f : Field) (end : ℕ) → HasPayload fs bytes at f place end → may_be_packed f.label f.kind ≡ true
-        → ((ns : List ℕ) → AreElements f.kind (take end bytes) place ns → ⊥) → reason ≡ PackedLength
+        → ((ns : List ℕ) → AreElements f.kind (slice_range bytes place end) 0 ns → ⊥) → reason ≡ PackedLength
         → IsFault T room fs bytes at reason place
     not_utf8 : {room : ℕ} {fs : List Field} {bytes : List ℕ} {at : ℕ} {reason : DecodeReason} {place : ℕ}
         (f : Field) (end : ℕ) → HasPayload fs bytes at f place end → is_map f.label ≡ false → f.kind ≡ Text
@@ -75,7 +76,7 @@ mutual
     -- the entry is sound, but the default of its value would be one message too deep
     default_too_deep : {room : ℕ} {fs : List Field} {bytes : List ℕ} {at : ℕ} {reason : DecodeReason} {place : ℕ}
         (f : Field) (key : Kind) (end : ℕ) (t : Node) → HasPayload fs bytes at f place end → f.label ≡ Map key
-        → Reads T room (entry_fields key f.kind) (take end bytes) place t → (HasRoom room f.kind → ⊥)
+        → MeansIn T room (entry_fields key f.kind) (slice_range bytes place end) t → (HasRoom room f.kind → ⊥)
         → reason ≡ Depth → IsFault T room fs bytes at reason place
 
 -- the first fault of the bytes as a message at a place of the table

@@ -3,8 +3,10 @@ pub mod FaultWalk
 pub mod Faults
 pub mod Gathered
 pub mod Joined
+pub mod Meaning
 pub mod Means
 pub mod Merged
+pub mod Merges
 pub mod Ordered
 pub mod Parts
 pub mod Reads

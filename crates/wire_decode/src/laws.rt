@@ -7,7 +7,10 @@ ghost use Rattle.mrpc_table.specs.Valid.{IsValid};
 ghost use Rattle.mrpc_table.specs.declared.table.Table.{Table};
 ghost use Rattle.mrpc_table.specs.declared.table.Field.{Field};
 ghost use Rattle.wire_base.specs.Encoding.{encoding};
+ghost use Rattle.mrpc_table.specs.Ascending.{AllAscend};
 ghost use Rattle.wire_decode.specs.Means.{Means};
+ghost use Rattle.wire_decode.specs.Merges.{Merges};
+ghost use Rattle.wire_decode.specs.FaultWalk.{Faults};
 ghost use Rattle.wire_decode.specs.Joined.{AreReadEach, joined_bytes};
 ghost use Rattle.wire_decode.specs.Merged.{join_fields, joined, merged};
 ghost use Rattle.wire_decode.specs.Reads.{Reads};
@@ -54,6 +57,7 @@ pub fn meaning_is_normal()
         → Means T msg bytes t → IsNormal T msg t }
 {
     kept_entries_are_normal();
+    rules_and_reader_agree();
 }
 
 /// The encoding of a tree in normal form means that tree. A length is a varint of 64 bits, hence the bound.
@@ -62,6 +66,7 @@ pub fn meaning_of_encoding()
         → length (encoding T msg t) < 2 ^ 64 → Means T msg (encoding T msg t) t }
 {
     varint_is_read_back();
+    rules_and_reader_agree();
 }
 
 /// Strings of whole records, joined, are whole records again, with the contents of all, one behind another. So
@@ -69,10 +74,42 @@ pub fn meaning_of_encoding()
 pub fn meaning_of_joined_strings()
     ensures reads { (T : Table) (room : ℕ) (fs : List Field) (a b : List ℕ) (t u : Node) → Reads T room fs a 0 t
         → Reads T room fs b 0 u → Reads T room fs (a ++ b) 0 (join_fields t u) }
-    ensures means { (T : Table) (msg : ℕ) (a b : List ℕ) (t u : Node) → Reads T 31 (fields_of T msg) a 0 t
-        → Reads T 31 (fields_of T msg) b 0 u → Means T msg (a ++ b) (merged T 32 msg (join_fields t u)) }
+    ensures merges { (T : Table) (msg : ℕ) (a b : List ℕ) (t u : Node) → Reads T 31 (fields_of T msg) a 0 t
+        → Reads T 31 (fields_of T msg) b 0 u → Merges T msg (a ++ b) (merged T 32 msg (join_fields t u)) }
+    ensures means { (T : Table) (msg : ℕ) (a b : List ℕ) (t u : Node) → AllAscend T
+        → Reads T 31 (fields_of T msg) a 0 t → Reads T 31 (fields_of T msg) b 0 u
+        → Means T msg (a ++ b) (merged T 32 msg (join_fields t u)) }
 
     // The payloads of a singular message mean together what their joined bytes mean.
     ensures payloads { (T : Table) (room : ℕ) (fs : List Field) (strings : List (List ℕ)) (messages : List Item)
         → AreReadEach T room fs strings messages → Reads T room fs (joined_bytes strings) 0 (joined messages) }
-{}
+{
+    rules_and_reader_agree();
+}
+
+/// What is said of bytes rule by rule is what the reader finds: the message that their records are merged to, where
+/// the table's fields ascend, and the fault that a walk over the records meets.
+pub fn rules_and_reader_agree()
+    ensures merged { (T : Table) (msg : ℕ) (bytes : List ℕ) (t : Node) → AllAscend T → Means T msg bytes t
+        → Merges T msg bytes t }
+    ensures meant { (T : Table) (msg : ℕ) (bytes : List ℕ) (t : Node) → AllAscend T → Merges T msg bytes t
+        → Means T msg bytes t }
+    ensures met { (T : Table) (msg : ℕ) (bytes : List ℕ) (reason : DecodeReason) (place : ℕ)
+        → IsFirstFault T msg bytes reason place → Faults T 31 (fields_of T msg) bytes 0 reason place }
+    ensures first { (T : Table) (msg : ℕ) (bytes : List ℕ) (reason : DecodeReason) (place : ℕ)
+        → Faults T 31 (fields_of T msg) bytes 0 reason place → IsFirstFault T msg bytes reason place }
+{
+    payload_or_reason();
+    record_or_fault();
+}
+
+/// The records of bytes are merged to one message, and have no fault then.
+pub fn one_merging()
+    ensures one { (T : Table) (msg : ℕ) (bytes : List ℕ) (t u : Node) → Merges T msg bytes t → Merges T msg bytes u
+        → t ≡ u }
+    ensures not_both { (T : Table) (msg : ℕ) (bytes : List ℕ) (t : Node) (reason : DecodeReason) (place : ℕ)
+        → Merges T msg bytes t → Faults T 31 (fields_of T msg) bytes 0 reason place → ⊥ }
+{
+    payload_or_reason();
+    record_or_fault();
+}

@@ -15,6 +15,7 @@ ghost use Rattle.mrpc_table.specs.Normal.{IsNormal};
 ghost use Rattle.mrpc_table.specs.Node.{Node};
 ghost use Rattle.mrpc_table.specs.Ascending.{AllAscend};
 ghost use Rattle.wire_decode.specs.Means.{Means};
+ghost use Rattle.wire_decode.specs.Merges.{Merges};
 ghost use Rattle.wire_decode.specs.Faults.{IsFirstFault, FaultsAs};
 ghost use Rattle.wire_decode.specs.FaultWalk.{Faults};
 ghost use Rattle.mrpc_table.specs.Normal.{fields_of as fields_in};
@@ -28,13 +29,14 @@ mod oneof;
 mod ordered;
 mod read;
 
+use crate::laws::one_merging;
 use crate::merge::merged;
 use crate::ordered::ordered_message;
 use crate::read::read_message;
 pub use fault::{DecodeFault, DecodeReason};
 pub use laws::{
     meaning_is_normal, meaning_of_encoding, meaning_of_joined_strings, meaning_or_fault, one_fault,
-    one_meaning,
+    one_meaning, rules_and_reader_agree,
 };
 use mrpc_table::{Table, Tree};
 use std::alloc::Global;
@@ -60,19 +62,20 @@ pub fn decode(alloc: Global, bytes: &[u8], table: &Table, msg: u32) -> Result<Tr
         → MatchResult result (λ u. u ≡ t) (λ f. f ≡ DecodeFault.Memory) }
 {
     meaning_is_normal();
+    rules_and_reader_agree();
     decoded(alloc, bytes, table, msg)
 }
 
 /// The same for any table whose fields stand in order.
 fn decoded(alloc: Global, bytes: &[u8], table: &Table, msg: u32) -> Result<Tree, DecodeFault>
     requires { AllAscend table.now }
-    ensures means { IfOk result (λ t. Means table.now msg bytes.now t) }
+    ensures means { IfOk result (λ t. Merges table.now msg bytes.now t) }
     ensures fault { IfErr result
         (FaultsAs (Faults table.now 31 (fields_in table.now msg) bytes.now 0)) }
-    ensures only { (t : Node) → Means table.now msg bytes.now t
+    ensures only { (t : Node) → Merges table.now msg bytes.now t
         → MatchResult result (λ u. u ≡ t) (λ f. f ≡ DecodeFault.Memory) }
 {
-    one_meaning();
+    one_merging();
     let fields = table.fields(msg);
     match ordered_message(alloc, bytes, 0, table, fields, MAX_DEPTH - 1) {
         Some(fields) => Ok(Tree { fields }),
@@ -83,14 +86,13 @@ fn decoded(alloc: Global, bytes: &[u8], table: &Table, msg: u32) -> Result<Tree,
 /// The same for records in any order.
 fn merged_records(alloc: Global, bytes: &[u8], table: &Table, msg: u32) -> Result<Tree, DecodeFault>
     requires { AllAscend table.now }
-    ensures means { IfOk result (λ t. Means table.now msg bytes.now t) }
+    ensures means { IfOk result (λ t. Merges table.now msg bytes.now t) }
     ensures fault { IfErr result
         (FaultsAs (Faults table.now 31 (fields_in table.now msg) bytes.now 0)) }
-    ensures only { (t : Node) → Means table.now msg bytes.now t
+    ensures only { (t : Node) → Merges table.now msg bytes.now t
         → MatchResult result (λ u. u ≡ t) (λ f. f ≡ DecodeFault.Memory) }
 {
-    one_meaning();
-    meaning_or_fault();
+    one_merging();
     let fields = table.fields(msg);
     let raw = read_message(alloc, bytes, 0, table, fields, MAX_DEPTH - 1)?;
     Ok(merged(alloc, raw, table, msg, MAX_DEPTH)?)

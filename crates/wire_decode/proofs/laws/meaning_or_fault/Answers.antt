@@ -1,6 +1,7 @@
 use Rattle.std.proofs.Common.{inl, inr, ⊎_elim}
 use Rattle.wire_decode.proofs.WireLaws.{Law}
-use Rattle.wire_decode.proofs.Choices.{meaning-or}
+use Rattle.wire_decode.proofs.Choices.{reading-or}
+use Rattle.wire_decode.proofs.Agreement.{some-meaning, meaning-reads}
 use Rattle.wire_decode.proofs.Unique.{reads-faultless}
 use Rattle.wire_decode.proofs.FirstFaults.{first-of, walk-of}
 use Rattle.wire_decode.proofs.laws.meaning_or_fault.Goals as goal
@@ -16,7 +17,7 @@ returns-clause-either c =
       not_both = c.record_or_fault.ensures.not_both;
       one_fault = c.record_or_fault.ensures.one_fault;
     } in
-    λ T msg bytes. ⊎_elim (λ m. inl m) (λ f. inr (f.0, f.1, first-of f.2)) (meaning-or law T msg bytes)
+    λ T msg bytes. ⊎_elim (λ m. inl (some-meaning law T msg bytes m.0 m.1)) (λ f. inr (f.0, f.1, first-of law f.2)) (reading-or law T msg bytes)
 
 pub returns-clause-not_both : goal.returns-clause-not_both
 returns-clause-not_both c =
@@ -29,4 +30,4 @@ returns-clause-not_both c =
       not_both = c.record_or_fault.ensures.not_both;
       one_fault = c.record_or_fault.ensures.one_fault;
     } in
-    λ T msg bytes t reason place a b. reads-faultless law a.reads (walk-of b)
+    λ T msg bytes t reason place a b. reads-faultless law (meaning-reads law T msg bytes t a).1 (walk-of law b)

@@ -14,4 +14,4 @@ returns c =
       not_both = c.record_or_fault.ensures.not_both;
       one_fault = c.record_or_fault.ensures.one_fault;
     } in
-    λ T msg bytes reason other place at a b. faults-same law (walk-of a) (walk-of b)
+    λ T msg bytes reason other place at a b. faults-same law (walk-of law a) (walk-of law b)

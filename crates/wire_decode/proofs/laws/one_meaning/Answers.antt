@@ -1,7 +1,5 @@
-use Rattle.std.proofs.Common.{ap, sym, ◌∙◌}
-use Rattle.wire_decode.specs.Merged.{merged}
 use Rattle.wire_decode.proofs.WireLaws.{Law}
-use Rattle.wire_decode.proofs.Unique.{reads-same}
+use Rattle.wire_decode.proofs.Agreement.{meaning-same}
 use Rattle.wire_decode.proofs.laws.one_meaning.Goals as goal
 
 pub returns : goal.returns
@@ -15,4 +13,4 @@ returns c =
       not_both = c.record_or_fault.ensures.not_both;
       one_fault = c.record_or_fault.ensures.one_fault;
     } in
-    λ T msg bytes t u a b. a.value ∙ ap (merged T 32 msg) (reads-same law a.reads b.reads) ∙ sym b.value
+    meaning-same law
