@@ -23,6 +23,7 @@ mod Payloads
 mod Plainness
 mod RawTree
 mod Reading
+mod RuleRows
 mod Rows
 mod Sorting
 mod Sound
