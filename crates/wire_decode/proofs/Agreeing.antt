@@ -1,7 +1,7 @@
 -- What bytes mean, rule by rule, is what their contents are merged to.
 use Rattle.std.proofs.Common.{◌≡◌, ◌≢◌, ℕ, zero, suc, List, [], ◌∷◌, ◌++◌, map, Option, Some, None, true, false, refl, ap, sym, subst, ◌∙◌, arith, append-nil}
-use Rattle.mrpc_table.specs.Node.{Node, no_fields, field, Content, one, many, pairs, Item, number, run, node, Items}
-use Rattle.mrpc_table.specs.Normal.{fields_of, field_at}
+use Rattle.mrpc_table.specs.Node.{Node, Content, one, many, pairs, Item, number, run, node}
+use Rattle.mrpc_table.specs.Normal.{fields_of}
 use Rattle.mrpc_table.specs.declared.table.Kind.{Kind}
 use Rattle.mrpc_table.specs.declared.table.Kind.TheVariants.{Message as OfMessage}
 use Rattle.mrpc_table.specs.declared.table.Label.{Label}
@@ -9,7 +9,6 @@ use Rattle.mrpc_table.specs.declared.table.Label.TheVariants.{Plain, Optional, R
 use Rattle.mrpc_table.specs.declared.table.Field.{Field}
 use Rattle.mrpc_table.specs.declared.table.Table.{Table}
 use Rattle.map_entries.specs.Last.{last_of_each}
-use Rattle.wire_base.specs.declared.records.Record.{Record}
 use Rattle.wire_decode.specs.Words.{is_list, is_map}
 use Rattle.wire_decode.specs.Reads.{Reads, read_end, is_message, entry_fields, numbers}
 use Rattle.wire_decode.specs.Merged.{contents_of, items_in, values_in, singles_in, joined, last_value, singular, element, entry, present, present_if_set, some_items, some_pairs, field_content, counted, with_content}

@@ -2,25 +2,23 @@
 use Rattle.std.proofs.Common.{◌≡◌, ◌≢◌, ℕ, suc, ◌-◌, ◌+◌, ◌%◌, ◌≤◌, List, [], ◌∷◌, length, take, drop, Some, false, true, refl, ap, sym, subst, ◌∙◌, arith, ⊎_elim}
 use Rattle.std.specs.Prelude.{if◌then◌else◌, ◌==◌, ◌||◌, Bool, Option}
 use Rattle.std.specs.List.{slice_range}
-use Rattle.std.specs.Str.{IsUtf8}
 use Rattle.std.proofs.lemmas.Bool.Decides.{eqb_tells}
 use Rattle.std.proofs.lemmas.List.{length-take-le, drop-take}
-use Rattle.mrpc_table.specs.Node.{Node, no_fields, field, Content, one, many, Item, number, run, node}
+use Rattle.mrpc_table.specs.Node.{Node, no_fields, field, Content, one, many, number, run, node}
 use Rattle.mrpc_table.specs.Normal.{fields_of, field_at}
 use Rattle.mrpc_table.specs.Words.{is_numeric}
 use Rattle.mrpc_table.specs.declared.table.Kind.{Kind}
-use Rattle.mrpc_table.specs.declared.table.Kind.TheVariants.{Text, Octets, Message as OfMessage}
+use Rattle.mrpc_table.specs.declared.table.Kind.TheVariants.{Message as OfMessage}
 use Rattle.mrpc_table.specs.declared.table.Label.{Label}
 use Rattle.mrpc_table.specs.declared.table.Label.TheVariants.{Plain, Optional, Repeated, Packed, Map, Member}
 use Rattle.mrpc_table.specs.declared.table.Field.{Field}
 use Rattle.mrpc_table.specs.declared.table.Table.{Table}
-use Rattle.wire_base.specs.Encoding.{wire_type_of}
 use Rattle.wire_base.specs.Records.{RecordAt, RecordsFrom, IsWithin}
 use Rattle.wire_base.specs.declared.records.Record.{Record}
 use Rattle.wire_base.specs.declared.records.Payload.{Payload}
 use Rattle.wire_base.specs.declared.records.Payload.TheVariants.{Len}
-use Rattle.wire_decode.specs.Words.{word_of, number_in, payload_type, is_list, is_map, may_be_packed, AreElements}
-use Rattle.wire_decode.specs.Reads.{Reads, read_end, read_other, read_known, Holds, holds_number, holds_piece, holds_text, holds_octets, holds_message, holds_entry, HasRoom, is_known, is_message, entry_fields, numbers}
+use Rattle.wire_decode.specs.Words.{word_of, number_in, is_list, is_map, may_be_packed, AreElements}
+use Rattle.wire_decode.specs.Reads.{Reads, read_end, read_other, read_known, Holds, holds_number, holds_piece, holds_text, holds_octets, holds_message, holds_entry, is_message, entry_fields, numbers}
 use Rattle.wire_decode.specs.Merged.{contents_of, are_rivals, is_overtaken, counted}
 use Rattle.wire_decode.specs.Meaning.{Value, single, packed, delimited, has_rival, counted_values, values_of, values_but, MeansIn, HaveValues, no_more, skipped, known, HasValue, a_number, a_piece, a_text, some_octets, a_message, an_entry}
 use Rattle.wire_decode.proofs.Payloads.{PayloadAt-span}

@@ -1,11 +1,11 @@
 -- The rules of meaning and of first faults on strings of bytes that were worked out by hand: a term for each.
-use Rattle.std.proofs.Common.{◌≡◌, ◌≢◌, ℕ, suc, ◌+◌, ◌-◌, ◌*◌, ◌^◌, ◌<◌, ◌≤◌, List, [], ◌∷◌, length, Some, None, true, false, refl, sym, subst, ◌∙◌, arith, ⊎_elim}
+use Rattle.std.proofs.Common.{◌≡◌, ℕ, suc, ◌+◌, ◌-◌, ◌*◌, ◌^◌, ◌<◌, ◌≤◌, List, [], ◌∷◌, length, Some, None, true, false, refl, sym, subst, ◌∙◌, arith, ⊎_elim}
 use Rattle.std.specs.List.{slice_range, All}
 use Rattle.std.specs.Str.{IsUtf8, is_utf8, chars}
 use Rattle.std.proofs.lemmas.List.Elements.{All-nil, All-cons}
 use Rattle.std.proofs.lemmas.Str.{is_utf8-from_IsUtf8}
-use Rattle.mrpc_table.specs.Node.{Node, no_fields, field, Content, one, many, pairs, number, node, no_items, item, no_pairs, pair}
-use Rattle.mrpc_table.specs.Normal.{fields_of, field_at}
+use Rattle.mrpc_table.specs.Node.{Node, no_fields, field, one, many, pairs, number, node, no_items, item, no_pairs, pair}
+use Rattle.mrpc_table.specs.Normal.{fields_of}
 use Rattle.mrpc_table.specs.declared.table.Kind.{Kind}
 use Rattle.mrpc_table.specs.declared.table.Kind.TheVariants.{Int32, Uint64, Fixed32, Text, Message as OfMessage}
 use Rattle.mrpc_table.specs.declared.table.Label.{Label}
@@ -13,7 +13,7 @@ use Rattle.mrpc_table.specs.declared.table.Label.TheVariants.{Plain, Optional, R
 use Rattle.mrpc_table.specs.declared.table.Field.{Field}
 use Rattle.mrpc_table.specs.declared.table.Message.{Message}
 use Rattle.mrpc_table.specs.declared.table.Table.{Table}
-use Rattle.wire_base.specs.Records.{IsVarint, VarintAt, EndsAt, TooLongAt, PayloadAt, TagAt, RecordAt, FaultAt, no_tag, tag_range, number_zero, wire_type, no_payload, no_varint, IsWireType}
+use Rattle.wire_base.specs.Records.{IsVarint, VarintAt, PayloadAt, RecordAt, FaultAt, no_tag, tag_range, number_zero, wire_type, no_payload, no_varint, IsWireType}
 use Rattle.wire_base.specs.declared.records.Record.{Record}
 use Rattle.wire_base.specs.declared.records.Payload.{Payload}
 use Rattle.wire_base.specs.declared.records.Payload.TheVariants.{Varint, I64, I32, Len}
@@ -23,7 +23,7 @@ use Rattle.wire_decode.specs.Words.{AreElements}
 use Rattle.wire_decode.specs.Reads.{entry_fields}
 use Rattle.wire_decode.specs.Meaning as rule
 use Rattle.wire_decode.specs.Meaning.{Value, single, packed, delimited, MeansIn, means_in, HaveValues, no_more, known, HasValue, a_number, a_piece, a_message, an_entry, AreFields, no_field, one_field, FieldMeans, no_value, one_message, elements, entries, ValueMeans, of_number, of_piece, AreItems, no_items as none_left, more_items, AreEntries, no_entries, more_entries}
-use Rattle.wire_decode.specs.Faults.{HasPayload, FirstFault, first_fault, IsFault, no_record_there, not_whole_elements, not_utf8, message_too_deep, inside_message, IsFirstFault, is_skipped}
+use Rattle.wire_decode.specs.Faults.{HasPayload, FirstFault, first_fault, no_record_there, not_whole_elements, not_utf8, message_too_deep, inside_message, IsFirstFault, is_skipped}
 use Rattle.wire_decode.specs.FaultWalk.{reason_of}
 use Rattle.wire_decode.specs.declared.fault.DecodeReason.{DecodeReason}
 use Rattle.wire_decode.specs.declared.fault.DecodeReason.TheVariants as why

@@ -5,15 +5,15 @@ use Rattle.std.proofs.Math.Path.{fun_ext}
 use Rattle.std.specs.Option.{option_and_then, unwrap_or}
 use Rattle.std.specs.Prelude.{if◌then◌else◌, not, ◌==◌, ◌&&◌, ◌||◌, Option, Bool, true, false}
 use Rattle.std.proofs.lemmas.Bool.Decides.{nat_tests, eqb_tells}
-use Rattle.mrpc_table.specs.Node.{Node, no_fields, field, Content, one, Item, node}
-use Rattle.mrpc_table.specs.Normal.{fields_of, field_at}
+use Rattle.mrpc_table.specs.Node.{Node, no_fields, field, Content, Item, node}
+use Rattle.mrpc_table.specs.Normal.{fields_of}
 use Rattle.mrpc_table.specs.declared.table.Kind.{Kind}
 use Rattle.mrpc_table.specs.declared.table.Label.TheVariants.{Optional}
 use Rattle.mrpc_table.specs.declared.table.Field.{Field}
 use Rattle.mrpc_table.specs.declared.table.Table.{Table}
 use Rattle.mrpc_table.specs.Ascending.{FieldsAscend, AllAscend}
 use Rattle.wire_decode.specs.Reads.{entry_fields}
-use Rattle.wire_decode.specs.Merged.{contents_of, singles_in, join_fields, singular, default_of, part, entry, present, field_content, with_content, with_fields, is_overtaken, is_same, counted, oneof_of, oneof_at, merged}
+use Rattle.wire_decode.specs.Merged.{contents_of, singles_in, singular, default_of, part, entry, present, field_content, with_content, with_fields, is_overtaken, is_same, counted, oneof_of, oneof_at, merged}
 use Rattle.wire_decode.specs.Meaning.{item_or_default}
 use Rattle.wire_decode.proofs.Adding.{contents-here, contents-other}
 use Rattle.wire_decode.proofs.Merging.{AreAbove, ascend-above, first-least, field-here, field-later}
