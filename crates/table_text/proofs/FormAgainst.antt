@@ -1,18 +1,18 @@
 -- Where a reason stands against a line, one is found, and none later than it.
-use Rattle.std.proofs.Common.{◌≡◌, ◌≢◌, ℕ, ℤ, pos, ◌+◌, ◌^◌, ◌<◌, ◌≤◌, ◌==◌, ◌||◌, ◌&&◌, not, Bool, true, false, cond, List, [], ◌∷◌, ◌++◌, codes, length, Option, Some, None, refl, ap, sym, subst, ◌∙◌, arith, inl, inr, ◌⊎◌}
-use Rattle.std.specs.Prelude.{nat_le, nat_lt, IsTrue, FitsSigned}
+use Rattle.std.proofs.Common.{◌≡◌, ◌≢◌, ℕ, ℤ, ◌<◌, ◌≤◌, ◌==◌, ◌||◌, ◌&&◌, not, Bool, true, false, cond, List, [], ◌∷◌, ◌++◌, codes, length, Option, Some, None, refl, ap, sym, subst, ◌∙◌, arith, inl, inr}
+use Rattle.std.specs.Prelude.{nat_lt, IsTrue, FitsSigned}
 use Rattle.std.specs.Int.{w32}
-use Rattle.std.specs.List.{Contains, filter_map, count_by}
-use Rattle.std.proofs.lemmas.Bool.{le-leb, lt-ltb, ne_eqb, cases_lt}
+use Rattle.std.specs.List.{Contains}
+use Rattle.std.proofs.lemmas.Bool.{le-leb, ne_eqb}
 use Rattle.std.proofs.lemmas.Bool.Decides.{leb_tells}
 use Rattle.std.proofs.lemmas.List.Elements.{Contains-append_cases}
-use Rattle.mrpc_table.specs.Names.{is_name_form, is_full_form, is_short, is_short_full}
+use Rattle.mrpc_table.specs.Names.{is_full_form, is_short, is_short_full}
 use Rattle.mrpc_table.specs.Valid.{IsFieldNumber}
 use Rattle.mrpc_table.specs.Words.{is_numeric, is_key}
-use Rattle.table_text.specs.Faults.{Offends, IsLast, IsAbove, AreInner, LacksValue, LacksZero, is_packable, is_key_kind, order_of, no_form, enum_behind_message, enum_behind_method, message_behind_method, falling_enum, falling_message, value_outside, falling_value, field_outside, falling_field, optional_message, packed_no_number, enum_without_value, value_out_of_range, no_field_number, index_out_of_turn, enum_without_zero, type_twice, value_twice, field_twice, number_twice, method_twice, unknown_type, map_key, long_name, long_full_name, too_many_enums, too_many_messages, too_many_methods, too_many_values, too_many_fields}
-use Rattle.table_text.specs.Forms.{Form, enum, value, message, field, method, Says, is_enum, is_message, is_method, goes_on, type_named, type_of_kind, types_of_label, types_used, names_of_label, names_in, full_name_of_kind, full_names_of_label, full_names_in}
-use Rattle.table_text.specs.Judged.{Types, Before, types_of, line_fault, is_syntax, is_number, is_duplicate, is_unknown, is_map_key, is_limit, is_among, is_empty, falls, lacks_value, lacks_zero, is_within, is_field_number, is_index, clashes, field_falls, value_falls, is_type_before, is_value_before, is_field_before, repeats_number, is_unknown_kind, is_unknown_label, is_key_word, is_map_key_label, is_numeric_word, is_short_kind, is_short_label, has_short_names, is_full, open_count}
-use Rattle.table_text.specs.Lines.{in_32_bits, behind, kind_of, label_of, line_of}
+use Rattle.table_text.specs.Faults.{Offends, is_packable, is_key_kind, order_of, no_form, enum_behind_message, enum_behind_method, message_behind_method, falling_enum, falling_message, value_outside, falling_value, field_outside, falling_field, optional_message, packed_no_number, enum_without_value, value_out_of_range, no_field_number, index_out_of_turn, enum_without_zero, type_twice, value_twice, field_twice, number_twice, method_twice, unknown_type, map_key, long_name, long_full_name, too_many_enums, too_many_messages, too_many_methods, too_many_values, too_many_fields}
+use Rattle.table_text.specs.Forms.{Form, enum, value, message, field, method, Says, is_method, goes_on, type_named, type_of_kind, types_of_label, types_used, names_of_label, names_in, full_name_of_kind, full_names_of_label, full_names_in}
+use Rattle.table_text.specs.Judged.{Types, Before, types_of, line_fault, is_syntax, is_number, is_duplicate, is_unknown, is_map_key, is_limit, is_among, is_empty, falls, lacks_value, lacks_zero, is_within, is_field_number, is_index, clashes, field_falls, is_type_before, is_field_before, repeats_number, is_unknown_kind, is_unknown_label, is_key_word, is_numeric_word, is_short_kind, is_short_label, has_short_names, is_full}
+use Rattle.table_text.specs.Lines.{in_32_bits, behind, line_of}
 use Rattle.table_text.specs.declared.fault.TableReason.{TableReason}
 use Rattle.table_text.specs.declared.fault.TableReason.TheVariants.{Syntax, Number, Duplicate, UnknownType, MapKey, Limit}
 use Rattle.table_text.specs.declared.line.KindWord.{KindWord}
@@ -21,11 +21,11 @@ use Rattle.table_text.specs.declared.line.LabelWord.{LabelWord}
 use Rattle.table_text.specs.declared.line.LabelWord.TheVariants as labels
 use Rattle.table_text.specs.declared.line.Line.{Line}
 use Rattle.table_text.proofs.FormLines.{kept, kept_whole, kept_within, in_32, says_line, line_said}
-use Rattle.table_text.proofs.FormParts.{Parts, field_form, Fits, enum_name, message_name, method_key_of, named_in, in_names}
+use Rattle.table_text.proofs.FormParts.{Fits, enum_name, message_name, method_key_of, named_in, in_names}
 use Rattle.table_text.proofs.FormPlaces.{left_true, right_true, not_is}
 use Rattle.table_text.proofs.FormReasons.{enums_counted, messages_counted, methods_counted, behind_message, behind_enum}
 use Rattle.table_text.proofs.FormTests.{said_lacks_value, said_lacks_zero, outside_falls, below_falls, outside_field_falls, below_field_falls, said_value_before, said_field_before, said_repeats, said_many, said_enum_falls, said_message_falls}
-use Rattle.table_text.proofs.OrderLemmas.{contains_first, contains_nothing, contains_cases, contains_among, among_contains, among_not}
+use Rattle.table_text.proofs.OrderLemmas.{contains_nothing, contains_cases, contains_among, among_not}
 use Rattle.table_text.proofs.SpellLemmas.{KindIs, LabelIs, kind_is, label_is}
 use Rattle.table_text.proofs.Soundness.{number_fits}
 

@@ -1,6 +1,6 @@
 -- What a line says by its form is what it is read as, with each number as far as the reader keeps it.
-use Rattle.std.proofs.Common.{◌≡◌, ℕ, suc, ℤ, pos, negsuc, ◌+◌, ◌-◌, ◌^◌, ◌<◌, ◌≤◌, ◌==◌, Bool, true, false, cond, List, [], ◌∷◌, ◌++◌, codes, Option, Some, None, refl, ap, sym, subst, ◌∙◌, arith, inl, inr, ◌⊎◌}
-use Rattle.std.specs.Prelude.{option_map, option_and_then, nat_le, nat_lt, IsTrue, FitsSigned, if◌then◌else◌}
+use Rattle.std.proofs.Common.{◌≡◌, ℕ, ℤ, pos, negsuc, ◌+◌, ◌-◌, ◌^◌, ◌<◌, ◌≤◌, ◌==◌, true, false, cond, List, [], ◌∷◌, codes, Some, None, refl, ap, sym, ◌∙◌, arith, inl, inr, ◌⊎◌}
+use Rattle.std.specs.Prelude.{option_map, option_and_then, nat_le, FitsSigned, if◌then◌else◌}
 use Rattle.std.specs.Int.{w32}
 use Rattle.std.specs.Str.{bytes_eq}
 use Rattle.std.specs.Str.Parse.{digits_value}
@@ -8,12 +8,9 @@ use Rattle.std.proofs.lemmas.Int.{ints}
 use Rattle.std.proofs.lemmas.Bool.{ne_eqb}
 use Rattle.std.proofs.lemmas.Bool.Decides.{eqb_tells, leb_tells}
 use Rattle.mrpc_table.specs.Lines.{words_of, is_decimal, number_of}
-use Rattle.mrpc_table.specs.Names.{is_name_form, is_full_form}
 use Rattle.table_text.specs.Forms.{Form, enum, value, message, field, method, IsWhole, AreWordsOf, Says}
 use Rattle.table_text.specs.Judged.{is_within}
 use Rattle.table_text.specs.Lines.{in_32_bits, whole_of, negative, not_negative, name_of, full_name_of, kind_of, label_of, enum_of, value_of, message_of, field_of, method_of, line_of_words, line_of}
-use Rattle.table_text.specs.declared.line.KindWord.{KindWord}
-use Rattle.table_text.specs.declared.line.LabelWord.{LabelWord}
 use Rattle.table_text.specs.declared.line.Whole.{Whole}
 use Rattle.table_text.specs.declared.line.Whole.TheVariants.{Low, Within, High}
 use Rattle.table_text.specs.declared.line.Line.{Line}

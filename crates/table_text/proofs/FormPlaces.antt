@@ -1,31 +1,26 @@
 -- Where a line stands among those before it, and what the open part tells of that.
-use Rattle.std.proofs.Common.{◌≡◌, ℕ, ℤ, pos, negsuc, ◌+◌, ◌-◌, ◌^◌, ◌<◌, ◌≤◌, ◌==◌, ◌||◌, ◌&&◌, not, Bool, true, false, cond, List, [], ◌∷◌, ◌++◌, length, map, Option, Some, None, refl, ap, sym, subst, ◌∙◌, append_assoc, arith, inl, inr, ◌⊎◌}
-use Rattle.std.specs.Prelude.{FitsSigned, int_lt, nat_le, nat_lt, option_map}
+use Rattle.std.proofs.Common.{◌≡◌, ℕ, ℤ, pos, negsuc, ◌+◌, ◌^◌, ◌<◌, ◌≤◌, ◌||◌, ◌&&◌, not, Bool, true, false, List, [], ◌∷◌, ◌++◌, map, Option, Some, refl, ap, sym, subst, ◌∙◌, append_assoc, arith, inl, inr, ◌⊎◌}
+use Rattle.std.specs.Prelude.{FitsSigned, int_lt}
 use Rattle.std.specs.Int.{w32}
-use Rattle.std.specs.List.{All, Contains, filter_map, list_any}
+use Rattle.std.specs.List.{All, Contains, list_any}
 use Rattle.std.specs.Option.{option_map_or}
-use Rattle.std.specs.Ordering.{nat_cmp, int_cmp, int_eq, is_lt}
+use Rattle.std.specs.Ordering.{nat_cmp, int_eq, is_lt}
 use Rattle.std.specs.Cmp.Lexicographic.{slice_cmp}
 use Rattle.std.specs.declared.cmp.Ordering.{Ordering}
 use Rattle.std.specs.declared.cmp.Ordering.TheVariants.{Less, Equal, Greater}
-use Rattle.std.proofs.lemmas.Bool.{lt-ltb, le-leb, leb-true, ltb-true, eq-eqb, eqb-true}
 use Rattle.std.proofs.lemmas.Bool.Decides.{leb_tells}
 use Rattle.std.proofs.lemmas.Int.{ints}
-use Rattle.std.proofs.lemmas.List.{append-nil, length-map, nil_from_length}
-use Rattle.std.proofs.lemmas.List.Elements.{All-contains, All-nil, All-map, Contains-push, Contains-append_right, filter_map-append}
+use Rattle.std.proofs.lemmas.List.Elements.{All-contains, All-nil, All-map, Contains-push}
 use Rattle.mrpc_table.specs.Valid.{IsBelow, IsValueBelow}
-use Rattle.table_text.specs.Faults.{IsLast, IsAbove, AreInner, LacksValue, LacksZero}
-use Rattle.table_text.specs.Forms.{Form, enum, value, message, field, method, goes_on, is_method, is_of_enum, is_of_message}
-use Rattle.table_text.specs.Judged.{Open, nothing, values, fields, is_below, is_among, falls, last_of, is_empty, is_value_below, value_falls, is_field_below, field_falls, is_index, repeats_number, is_value_before, is_field_before, lacks_value, lacks_zero, open_count}
-use Rattle.table_text.specs.Lines.{in_32_bits}
-use Rattle.table_text.specs.declared.line.KindWord.{KindWord}
-use Rattle.table_text.specs.declared.line.LabelWord.{LabelWord}
+use Rattle.table_text.specs.Faults.{IsLast, IsAbove}
+use Rattle.table_text.specs.Forms.{Form, enum, value, message, field, method, goes_on, is_method}
+use Rattle.table_text.specs.Judged.{nothing, is_below, falls, last_of, is_value_below}
 use Rattle.table_text.specs.declared.line.Whole.{Whole}
 use Rattle.table_text.specs.declared.line.Whole.TheVariants.{Low, Within, High}
-use Rattle.table_text.proofs.FormLines.{kept_whole, in_32}
-use Rattle.table_text.proofs.FormParts.{value_form, Parts, field_form, field_key, InEnum, InMessage, InNothing, PartIs, IsOrdered, enum_name, message_name, around, no_longer, Ended, none, with_last, ended, mapped_in, in_map, in_names}
+use Rattle.table_text.proofs.FormLines.{kept_whole}
+use Rattle.table_text.proofs.FormParts.{value_form, Parts, field_form, field_key, InEnum, InMessage, PartIs, around, none, with_last, ended, mapped_in}
 use Rattle.table_text.proofs.KeptLemmas.{map_push}
-use Rattle.table_text.proofs.OrderLemmas.{last_push, contains_first, contains_later, contains_nothing, contains_cases, contains_among, among_contains, less_is, int_equal, int_self}
+use Rattle.table_text.proofs.OrderLemmas.{last_push, contains_first, contains_later, contains_nothing, contains_cases, less_is, int_equal, int_self}
 use Rattle.table_text.proofs.ParseLemmas.{unsome, ltb_tells}
 use Rattle.table_text.proofs.TableFacts.{both_left, both_right}
 

@@ -1,17 +1,16 @@
 -- A reason that is found against a line stands against it.
-use Rattle.std.proofs.Common.{◌≡◌, ℕ, ℤ, pos, ◌+◌, ◌^◌, ◌<◌, ◌≤◌, ◌==◌, ◌||◌, ◌&&◌, not, Bool, true, false, cond, List, [], ◌∷◌, ◌++◌, codes, length, map, Option, Some, None, refl, ap, sym, subst, ◌∙◌, arith, inl, inr, ◌⊎◌}
-use Rattle.std.specs.Prelude.{nat_le, nat_lt, IsTrue, FitsSigned, option_to_list}
-use Rattle.std.specs.Int.{w32}
+use Rattle.std.proofs.Common.{◌≡◌, ℕ, ◌<◌, ◌==◌, ◌||◌, ◌&&◌, not, Bool, true, false, cond, List, [], ◌∷◌, ◌++◌, codes, length, Option, Some, None, refl, ap, sym, subst, ◌∙◌, arith, inl, inr, ◌⊎◌}
+use Rattle.std.specs.Prelude.{nat_lt, IsTrue, option_to_list}
 use Rattle.std.specs.List.{Contains, filter_map, count_by, slice_split}
 use Rattle.std.proofs.lemmas.Bool.{leb-true, leb-false, ltb-true, eq-eqb}
 use Rattle.std.proofs.lemmas.List.Elements.{Contains-append_left, Contains-append_right}
 use Rattle.mrpc_table.specs.Lines.{words_of}
-use Rattle.mrpc_table.specs.Names.{is_name_form, is_full_form, is_short, is_short_full}
+use Rattle.mrpc_table.specs.Names.{is_full_form, is_short, is_short_full}
 use Rattle.mrpc_table.specs.Text.{spaced}
 use Rattle.mrpc_table.specs.Words.{is_numeric, is_key}
-use Rattle.table_text.specs.Faults.{Offends, IsLast, IsAbove, is_packable, is_key_kind, no_form, enum_behind_message, enum_behind_method, message_behind_method, falling_enum, falling_message, value_outside, falling_value, field_outside, falling_field, optional_message, packed_no_number, enum_without_value, value_out_of_range, no_field_number, index_out_of_turn, enum_without_zero, type_twice, value_twice, field_twice, number_twice, method_twice, unknown_type, map_key, long_name, long_full_name, too_many_enums, too_many_messages, too_many_methods, too_many_values, too_many_fields}
-use Rattle.table_text.specs.Forms.{Form, enum, value, message, field, method, Says, is_enum, is_message, is_method, type_of_kind, types_of_label, types_used, names_of_label, names_in, full_name_of_kind, full_names_of_label, full_names_in}
-use Rattle.table_text.specs.Judged.{Types, Before, types_of, line_fault, is_syntax, is_number, is_duplicate, is_unknown, is_map_key, is_limit, is_among, is_empty, falls, lacks_value, lacks_zero, is_within, is_field_number, is_index, clashes, field_falls, is_type_before, is_field_before, repeats_number, is_unknown_kind, is_unknown_label, is_key_word, is_map_key_label, is_numeric_word, is_short_kind, is_short_label, has_short_names, is_full, open_count}
+use Rattle.table_text.specs.Faults.{Offends, IsLast, IsAbove, is_packable, is_key_kind, enum_behind_message, enum_behind_method, message_behind_method, falling_enum, falling_message, value_outside, falling_value, field_outside, falling_field, optional_message, packed_no_number, enum_without_value, value_out_of_range, no_field_number, index_out_of_turn, enum_without_zero, type_twice, value_twice, field_twice, number_twice, method_twice, unknown_type, map_key, long_name, long_full_name, too_many_enums, too_many_messages, too_many_methods, too_many_values, too_many_fields}
+use Rattle.table_text.specs.Forms.{Form, enum, value, message, field, method, Says, is_enum, is_message, is_method, type_of_kind, types_of_label, names_of_label, names_in, full_name_of_kind, full_names_of_label}
+use Rattle.table_text.specs.Judged.{Before, types_of, line_fault, is_syntax, is_number, is_duplicate, is_unknown, is_map_key, is_limit, is_among, is_empty, falls, lacks_value, lacks_zero, is_within, is_field_number, is_index, clashes, field_falls, is_type_before, is_field_before, repeats_number, is_unknown_kind, is_unknown_label, is_key_word, is_numeric_word, is_short_kind, is_short_label, has_short_names, is_full}
 use Rattle.table_text.specs.Lines.{in_32_bits, behind}
 use Rattle.table_text.specs.declared.fault.TableReason.{TableReason}
 use Rattle.table_text.specs.declared.fault.TableReason.TheVariants.{Syntax, Number, Duplicate, UnknownType, MapKey, Limit}
@@ -19,13 +18,12 @@ use Rattle.table_text.specs.declared.line.KindWord.{KindWord}
 use Rattle.table_text.specs.declared.line.KindWord.TheVariants as kinds
 use Rattle.table_text.specs.declared.line.LabelWord.{LabelWord}
 use Rattle.table_text.specs.declared.line.LabelWord.TheVariants as labels
-use Rattle.table_text.specs.declared.line.Whole.TheVariants.{Within}
 use Rattle.table_text.specs.declared.line.Line.TheVariants as line_forms
 use Rattle.table_text.proofs.Clean.{left_no, right_no}
 use Rattle.table_text.proofs.Complete.{field_number_is}
 use Rattle.table_text.proofs.FormLines.{kept, kept_whole, fits_within, in_32}
-use Rattle.table_text.proofs.FormParts.{Parts, field_form, Fits, IsFormed, enum_name, message_name, method_key_of, first_same, rest_same, named_in, in_names, counted}
-use Rattle.table_text.proofs.FormPlaces.{either_true, is_not, not_is}
+use Rattle.table_text.proofs.FormParts.{Fits, IsFormed, enum_name, message_name, method_key_of, first_same, rest_same, named_in, in_names, counted}
+use Rattle.table_text.proofs.FormPlaces.{either_true, is_not}
 use Rattle.table_text.proofs.FormTests.{lacks_value_said, lacks_zero_said, outside, below, value_falls_said, outside_message, below_field, field_falls_said, value_before_said, field_before_said, repeats_said, many_said, enum_falls_said, message_falls_said}
 use Rattle.table_text.proofs.OrderLemmas.{contains_first, contains_later, among_contains, not_among}
 use Rattle.table_text.proofs.ParseLemmas.{unsome, behind_is}

@@ -1,26 +1,23 @@
 -- Each test of a line against the open part, and what it tells of the lines before.
-use Rattle.std.proofs.Common.{◌≡◌, ℕ, ℤ, pos, ◌+◌, ◌^◌, ◌<◌, ◌≤◌, ◌==◌, ◌||◌, ◌&&◌, not, Bool, true, false, cond, List, [], ◌∷◌, ◌++◌, length, map, Option, Some, None, refl, ap, sym, subst, ◌∙◌, append_assoc, length-append, arith, inl, inr, ◌⊎◌}
-use Rattle.std.specs.Prelude.{nat_le, nat_lt, FitsSigned}
+use Rattle.std.proofs.Common.{◌≡◌, ℕ, ℤ, pos, ◌^◌, ◌<◌, ◌≤◌, not, Bool, true, false, List, [], ◌∷◌, ◌++◌, length, map, Option, refl, ap, sym, subst, ◌∙◌, append_assoc, length-append, arith, inl, inr, ◌⊎◌}
+use Rattle.std.specs.Prelude.{nat_le, FitsSigned}
 use Rattle.std.specs.Int.{w32}
-use Rattle.std.specs.List.{All, Contains, filter_map, list_any}
+use Rattle.std.specs.List.{Contains, filter_map, list_any}
 use Rattle.std.specs.Option.{option_map_or}
 use Rattle.std.specs.Ordering.{int_eq}
 use Rattle.std.proofs.lemmas.Bool.{lt-ltb, le-leb, leb-true, ltb-true, eq-eqb, eqb-true}
 use Rattle.std.proofs.lemmas.List.{length-map}
-use Rattle.std.proofs.lemmas.List.Elements.{All-contains, Contains-append_right, filter_map-append}
+use Rattle.std.proofs.lemmas.List.Elements.{All-contains, filter_map-append}
 use Rattle.mrpc_table.specs.Valid.{IsBelow, IsValueBelow}
 use Rattle.table_text.specs.Faults.{IsLast, IsAbove, AreInner, LacksValue, LacksZero}
-use Rattle.table_text.specs.Forms.{Form, enum, value, message, field, method, goes_on, is_method, is_of_enum, is_of_message}
-use Rattle.table_text.specs.Judged.{Before, Open, nothing, values, fields, is_below, is_among, falls, last_of, is_empty, is_value_below, value_falls, is_field_below, field_falls, is_index, repeats_number, is_value_before, is_field_before, lacks_value, lacks_zero, open_count}
+use Rattle.table_text.specs.Forms.{Form, enum, value, message, field, method, is_method, is_of_enum, is_of_message}
+use Rattle.table_text.specs.Judged.{Open, nothing, values, fields, is_below, falls, last_of, is_value_below, value_falls, is_field_below, field_falls, is_index, repeats_number, is_value_before, is_field_before, lacks_value, lacks_zero, open_count}
 use Rattle.table_text.specs.Lines.{in_32_bits}
-use Rattle.table_text.specs.declared.line.KindWord.{KindWord}
-use Rattle.table_text.specs.declared.line.LabelWord.{LabelWord}
 use Rattle.table_text.specs.declared.line.Whole.{Whole}
 use Rattle.table_text.proofs.FormLines.{kept_whole, in_32}
-use Rattle.table_text.proofs.FormParts.{value_form, Parts, field_form, field_key, InEnum, InMessage, InNothing, PartIs, IsOrdered, Fits, enum_name, message_name, no_longer, in_map, mapped_in, in_names}
-use Rattle.table_text.proofs.FormPlaces.{either_true, left_true, right_true, is_not, not_is, below_said, said_below, falls_at, none_last, any_in, in_any, values_go, fields_go, is_last_above, OfEnum, the_enum, a_value, of_enum, OfMessage, the_message, a_field, of_message, ends_method, of_nothing, value_above, field_above, at_enum, at_value, enum_ends, at_message, at_field, message_ends, same_last, value_below_said, said_value_below}
-use Rattle.table_text.proofs.OrderLemmas.{contains_first, contains_nothing, contains_among, among_contains, int_equal, int_self}
-use Rattle.table_text.proofs.ParseLemmas.{unsome}
+use Rattle.table_text.proofs.FormParts.{value_form, Parts, field_form, field_key, InEnum, InMessage, PartIs, IsOrdered, enum_name, message_name, no_longer, in_map, mapped_in}
+use Rattle.table_text.proofs.FormPlaces.{is_not, below_said, said_below, falls_at, none_last, any_in, in_any, values_go, fields_go, is_last_above, the_enum, a_value, of_enum, the_message, a_field, of_message, ends_method, of_nothing, value_above, field_above, at_enum, at_value, enum_ends, at_message, at_field, message_ends, same_last, value_below_said, said_value_below}
+use Rattle.table_text.proofs.OrderLemmas.{contains_among, among_contains, int_equal}
 
 -- ---- what may be last
 

@@ -1,13 +1,12 @@
 -- The first fault by what the lines say is the first one that is judged.
-use Rattle.std.proofs.Common.{◌≡◌, ◌≢◌, ℕ, zero, suc, ◌+◌, ◌-◌, ◌<◌, ◌≤◌, ◌==◌, ◌||◌, not, Bool, true, false, cond, List, [], ◌∷◌, ◌++◌, length, take, drop, Option, Some, None, refl, ap, sym, subst, ◌∙◌, arith, inl, inr, ◌⊎◌}
+use Rattle.std.proofs.Common.{◌≡◌, ◌≢◌, ℕ, zero, suc, ◌+◌, ◌-◌, ◌<◌, ◌≤◌, ◌==◌, ◌||◌, not, Bool, true, false, cond, List, [], ◌∷◌, ◌++◌, length, take, drop, Option, Some, None, refl, ap, sym, subst, ◌∙◌, arith, inl, inr}
 use Rattle.std.specs.Prelude.{slice_get, nat_lt}
-use Rattle.std.specs.List.{AllZip, Contains, fold}
-use Rattle.std.specs.Option.{option_map_or}
-use Rattle.std.proofs.lemmas.Bool.{cases_lt, eq-eqb, ne_eqb, lt-ltb}
+use Rattle.std.specs.List.{Contains}
+use Rattle.std.proofs.lemmas.Bool.{cases_lt, eq-eqb, lt-ltb}
 use Rattle.std.proofs.lemmas.List.{take_all}
 use Rattle.std.proofs.lemmas.Option.{slice_get_within}
 use Rattle.mrpc_table.specs.Lines.{whole_lines, rest_of}
-use Rattle.table_text.specs.Faults.{IsFirstFault, IsFaultOf, IsAgainst, at_line, too_long, at_end, Offends, OffendsAtEnd, unended, last_without_value, last_without_zero, no_form, order_of, bytes_of}
+use Rattle.table_text.specs.Faults.{IsFirstFault, IsFaultOf, IsAgainst, at_line, too_long, at_end, OffendsAtEnd, unended, last_without_value, last_without_zero, no_form, order_of, bytes_of}
 use Rattle.table_text.specs.Forms.{Form, enum, value, message, field, method, Says, Say}
 use Rattle.table_text.specs.Judged.{Types, Before, IsFirstJudged, IsJudgedOf, after, after_line, before_of, types_of, line_fault, end_fault, fault_at, lacks_value, lacks_zero, is_empty, has_short_names, is_full}
 use Rattle.table_text.specs.Lines.{line_of}
@@ -21,7 +20,7 @@ use Rattle.table_text.proofs.Clean.{is_clean}
 use Rattle.table_text.proofs.FirstFaults.{no_fault_past}
 use Rattle.table_text.proofs.FormAgainst.{AtMost, at_limit, stands_found, not_empty, syntax_least}
 use Rattle.table_text.proofs.FormLines.{kept, says_line, line_said}
-use Rattle.table_text.proofs.FormParts.{Fits, IsFormed, fits_step, rest_same}
+use Rattle.table_text.proofs.FormParts.{Fits, IsFormed, fits_step}
 use Rattle.table_text.proofs.FormPlaces.{either_true, left_true, right_true}
 use Rattle.table_text.proofs.FormReasons.{found_stands, some_in}
 use Rattle.table_text.proofs.FormTests.{lacks_value_said, lacks_zero_said, said_lacks_value, said_lacks_zero}

@@ -1,8 +1,7 @@
 -- The canonical text of a table is whole lines, none of which is `end`; and a text is one, or has a first fault.
-use Rattle.std.proofs.Common.{◌≡◌, ◌≢◌, ◌⊎◌, ℕ, zero, suc, ◌+◌, ◌-◌, ◌<◌, ◌≤◌, ◌==◌, ◌||◌, not, Bool, true, false, cond, List, [], ◌∷◌, ◌++◌, codes, length, take, get_or, Option, Some, None, refl, ap, sym, subst, ◌∙◌, append_assoc, arith, inl, inr, eq-eqb}
+use Rattle.std.proofs.Common.{◌≡◌, ◌≢◌, ◌⊎◌, ℕ, zero, suc, ◌+◌, ◌-◌, ◌<◌, ◌≤◌, ◌==◌, ◌||◌, not, Bool, true, false, cond, List, [], ◌∷◌, ◌++◌, codes, length, get_or, Option, Some, None, refl, ap, sym, subst, ◌∙◌, arith, inl, inr, eq-eqb}
 use Rattle.std.specs.Prelude.{slice_get, All}
 use Rattle.std.specs.List.{flat_map, AllByRecursion, join_with_byte}
-use Rattle.std.specs.Option.{option_map_or}
 use Rattle.std.proofs.lemmas.Bool.{cases_lt, ne_eqb, eqb-true}
 use Rattle.std.proofs.lemmas.List.{append-nil, nil_from_length}
 use Rattle.std.proofs.lemmas.List.Elements.{All-from_recursion, recursion_from_All, All-take}
@@ -13,16 +12,14 @@ use Rattle.mrpc_table.specs.Text.{table_text}
 use Rattle.mrpc_table.specs.Valid.{IsValid}
 use Rattle.mrpc_table.specs.declared.table.Table.{Table}
 use Rattle.table_text.specs.Lines.{line_of}
-use Rattle.table_text.specs.Faults.{bytes_of}
-use Rattle.table_text.specs.Judged.{IsFirstJudged, fault_at, fault_behind, line_fault, end_fault, types_of, before_of, is_empty, lacks_value}
+use Rattle.table_text.specs.Judged.{IsFirstJudged, fault_at, end_fault, before_of, is_empty, lacks_value}
 use Rattle.table_text.specs.Drafts.{table_in}
 use Rattle.table_text.specs.TableText.{HasTableBehind, IsEndless}
 use Rattle.table_text.specs.declared.fault.TableReason.{TableReason}
 use Rattle.table_text.specs.declared.fault.TableReason.TheVariants.{Syntax}
 use Rattle.table_text.proofs.Accepts.{IsFaultless, accepted, text_lines}
 use Rattle.table_text.proofs.Complete.{complete}
-use Rattle.table_text.proofs.TableFacts.{has_part}
-use Rattle.table_text.proofs.TableCuts.{fed, IsOneLine, one_line_each, ended_at, IsTableLine, AreTableLines, Cut, cut_ends, cut_from, cut_to, cut_nowhere, Passed, ended_parts}
+use Rattle.table_text.proofs.TableCuts.{fed, IsOneLine, one_line_each, ended_at, AreTableLines, cut_ends, cut_from, cut_to, cut_nowhere, Passed, ended_parts}
 
 -- ---- the canonical text of a table
 

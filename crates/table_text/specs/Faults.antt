@@ -1,6 +1,6 @@
 -- What is wrong with a line of a text that is no canonical text of a table, given the lines before it; and which line
 -- is at fault first, and for which reason (this project's own).
-use Rattle.std.specs.Prelude.{◌≡◌, ◌≢◌, ℕ, ℤ, pos, ◌+◌, ◌-◌, ◌<◌, ◌≤◌, true, false, List, [], ◌∷◌, ◌++◌, length, take, map, sum, All, Contains, count_by, FitsSigned, Option, Some, slice_get}
+use Rattle.std.specs.Prelude.{◌≡◌, ◌≢◌, ℕ, ℤ, pos, ◌+◌, ◌-◌, ◌<◌, ◌≤◌, true, false, List, [], ◌∷◌, ◌++◌, length, take, map, sum, All, Contains, count_by, FitsSigned, Some, slice_get}
 use Rattle.std.specs.Prelude.{Bool}
 use Rattle.std.specs.Int.{w32}
 use Rattle.mrpc_table.specs.Lines.{whole_lines, rest_of}
