@@ -31,3 +31,11 @@ mod Reports
 mod Named
 mod FirstFaults
 mod Texts
+mod Places
+mod Along
+mod Spans
+mod Formed
+mod KeptOrder
+mod Declares
+mod Members
+mod Ordered

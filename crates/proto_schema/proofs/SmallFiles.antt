@@ -1,6 +1,6 @@
 -- A small file and what it says, and a small text with a fault.
-use Rattle.std.proofs.Common.{ℕ, false, List, [], ◌∷◌, ◌++◌, codes, refl}
-use Rattle.std.specs.Prelude.{None}
+use Rattle.std.proofs.Common.{ℕ, ◌<◌, false, List, [], ◌∷◌, ◌++◌, codes, refl, arith}
+use Rattle.std.specs.Prelude.{Option, Some, None}
 use Rattle.mrpc_table.specs.declared.words.Decimal.TheVariants.{Small}
 use Rattle.proto_schema.specs.Lexemes.{Meaning, Lexeme, identifier, integer, string, mark, the_end, word_at, number_at}
 use Rattle.proto_schema.specs.Grammar
@@ -8,10 +8,14 @@ use Rattle.proto_schema.specs.Files
 use Rattle.proto_schema.specs.Files.{nothing_said}
 use Rattle.proto_schema.specs.Faults
 use Rattle.proto_schema.specs.Faults.{IsNamed}
+use Rattle.proto_schema.specs.Order
+use Rattle.proto_schema.specs.Order.{IsFormed, IsOrdered, StandsAt, message_decl, field_decl, its_type, its_name, its_number}
 use Rattle.proto_schema.specs.declared.fault.ProtoReason.TheVariants as reasons
 use Rattle.proto_schema.specs.declared.file.Span.{Span}
 use Rattle.proto_schema.specs.declared.file.FieldLabel.TheVariants.{Plain}
 use Rattle.proto_schema.specs.declared.file.FieldType.TheVariants.{Named}
+use Rattle.proto_schema.specs.declared.file.FieldDecl.{FieldDecl}
+use Rattle.proto_schema.specs.declared.file.MessageDecl.{MessageDecl}
 use Rattle.proto_schema.specs.declared.file.File.{File}
 
 abbrev at : ℕ → Meaning → Lexeme
@@ -65,3 +69,29 @@ pub small_import : IsNamed (header ++ at 4 (identifier (codes "import")) ∷ at 
 small_import =
     Faults.import 4 (at 4 (identifier (codes "import"))) (at 5 (identifier (codes "x"))) nothing_said refl (Files.start (Files.proto3 _ _ _ _ refl refl refl refl))
     (refl, refl) refl refl refl refl refl
+
+-- where the parts of its field stand
+small_type : StandsAt small_says (here 7) (field_decl 0 0) its_type
+small_type = Order.field 0 0 _ _ refl refl (Order.field_type _ refl refl)
+
+small_number : StandsAt small_says (here 10) (field_decl 0 0) its_number
+small_number = Order.field 0 0 _ _ refl refl (Order.field_number refl)
+
+-- no file has a message that stands before an earlier one
+abbrev message_at : ℕ → MessageDecl
+message_at n = record { name = word_at (codes "M") (here n); parent = None; fields = []; oneofs = []; ranges = []; names = [] }
+
+abbrev of_messages : List MessageDecl → File
+of_messages ms = record { «package» = None; imports = []; messages = ms; enums = []; services = [] }
+
+small_disorder : IsOrdered (of_messages (message_at 5 ∷ message_at 4 ∷ [])) → ⊥
+small_disorder h =
+    let l : 5 < 4 = h.ascend (message_decl 0) (message_decl 1) its_name its_name (here 5) (here 4) (Order.messages 0 1 (omega arith)) (Order.message 0 _ refl refl) (Order.message 1 _ refl refl) in
+    omega arith
+
+-- no field is one of a oneof that its message hasn't
+abbrev member : FieldDecl
+member = record { name = word_at (codes "a") (here 8); number = number_at false (Small 1) (here 10); kind = Named (word_at (codes "uint64") (here 7)); label = Plain; oneof = Some 0; packed = None }
+
+small_stray : IsFormed (of_messages (record (message_at 5) { fields = member ∷ [] } ∷ [])) → ⊥
+small_stray h = let l : 0 < 0 = ((h.messages 0 (message_at 0) (omega arith)).fields 0 member (omega arith)).oneof in omega arith

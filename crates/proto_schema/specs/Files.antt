@@ -1,9 +1,12 @@
 -- Statements, and what a text of statements says (Protocol Buffers, proto3 language specification; the profile is this
 -- project's own). A text is its statements, one after another: one that ends in `{` opens a block, and `}` closes the
 -- innermost open one.
-use Rattle.std.specs.Prelude.{◌≡◌, ◌≢◌, ℕ, zero, suc, ◌-◌, Bool, true, false, List, [], ◌∷◌, ◌++◌, codes, length, Option, Some, None, slice_get}
-use Rattle.proto_schema.specs.Lexemes.{Lexeme, string, the_end, IsWord, IsMark, semicolon, equals, opening_brace, closing_brace, opening_paren, closing_paren, word_at}
-use Rattle.proto_schema.specs.Grammar.{FullName, begins_with, member_words, statement_words, group_word, FieldTypeOf, RpcType, NumberOf, OptionOf, FieldOptions, RangesOf, NamesOf}
+use Rattle.std.specs.Prelude.{◌≡◌, ◌≢◌, ℕ, zero, suc, ◌-◌, Bool, true, false, List, [], ◌∷◌, ◌++◌, codes, length}
+use Rattle.std.specs.Prelude.{Option, Some, None, slice_get}
+use Rattle.proto_schema.specs.Lexemes.{Lexeme, string, the_end, IsWord, IsMark, semicolon, equals, opening_brace}
+use Rattle.proto_schema.specs.Lexemes.{closing_brace, opening_paren, closing_paren, word_at}
+use Rattle.proto_schema.specs.Grammar.{FullName, begins_with, member_words, statement_words, group_word, FieldTypeOf}
+use Rattle.proto_schema.specs.Grammar.{RpcType, NumberOf, OptionOf, FieldOptions, RangesOf, NamesOf}
 use Rattle.proto_schema.specs.declared.file.Word.{Word}
 use Rattle.proto_schema.specs.declared.file.Number.{Number}
 use Rattle.proto_schema.specs.declared.file.Range.{Range}

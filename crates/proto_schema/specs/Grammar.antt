@@ -1,8 +1,12 @@
 -- The parts of statements: names, types, numbers, options, reserved numbers and names (Protocol Buffers, proto3
 -- language specification; where it is narrower or wider, this project's own).
-use Rattle.std.specs.Prelude.{◌≡◌, ◌≢◌, ◌⊎◌, ℕ, suc, Bool, true, false, List, [], ◌∷◌, ◌++◌, codes, Option, Some, None, if◌then◌else◌}
+use Rattle.std.specs.Prelude.{◌≡◌, ◌≢◌, ◌⊎◌, ℕ, suc, Bool, true, false, List, [], ◌∷◌, ◌++◌, codes, Option, Some, None}
+use Rattle.std.specs.Prelude.{if◌then◌else◌}
 use Rattle.mrpc_table.specs.declared.words.Decimal.{Decimal}
-use Rattle.proto_schema.specs.Lexemes.{Lexeme, integer, number, string, mark, the_end, none, says, says_one_of, IsWord, IsMark, dot, comma, equals, minus, plus, opening_brace, closing_brace, opening_paren, closing_paren, opening_bracket, closing_bracket, less, greater, span_to, word_at, joined, rooted, number_at}
+use Rattle.proto_schema.specs.Lexemes.{Lexeme, integer, number, string, mark, the_end, none, says, says_one_of, IsWord}
+use Rattle.proto_schema.specs.Lexemes.{IsMark, dot, comma, equals, minus, plus, opening_brace, closing_brace}
+use Rattle.proto_schema.specs.Lexemes.{opening_paren, closing_paren, opening_bracket, closing_bracket, less, greater}
+use Rattle.proto_schema.specs.Lexemes.{span_to, word_at, joined, rooted, number_at}
 use Rattle.proto_schema.specs.declared.file.Word.{Word}
 use Rattle.proto_schema.specs.declared.file.Number.{Number}
 use Rattle.proto_schema.specs.declared.file.Range.{Range}

@@ -1,11 +1,15 @@
 -- A text is read token by token: what a token does to a part of a statement, by how far the part is read.
-use Rattle.std.specs.Prelude.{◌≡◌, ℕ, ◌+◌, ◌-◌, ◌^◌, ◌<◌, ◌≤◌, length, ◌==◌, nat_le, Bool, true, false, ◌&&◌, ◌||◌, if◌then◌else◌, List, [], ◌∷◌, ◌++◌, codes, Option, Some, None, Result, Ok, Err}
+use Rattle.std.specs.Prelude.{◌≡◌, ℕ, ◌+◌, ◌-◌, ◌^◌, ◌<◌, ◌≤◌, length, ◌==◌, nat_le, Bool, true, false, ◌&&◌, ◌||◌}
+use Rattle.std.specs.Prelude.{if◌then◌else◌, List, [], ◌∷◌, ◌++◌, codes, Option, Some, None, Result, Ok, Err}
 use Rattle.std.specs.Str.{bytes_eq}
 use Rattle.mrpc_table.specs.declared.words.Decimal.{Decimal}
 use Rattle.proto_tokens.specs.Tokens.{literal_of}
 use Rattle.proto_tokens.specs.declared.token.Kind.TheVariants.{Text}
 use Rattle.proto_tokens.specs.declared.token.Token.{Token}
-use Rattle.proto_schema.specs.Lexemes.{Meaning, identifier, integer, number, string, mark, the_end, none, Lexeme, says, dot, comma, semicolon, equals, minus, plus, opening_brace, closing_brace, opening_paren, closing_paren, opening_bracket, closing_bracket, less, greater, span_to, word_at, number_at}
+use Rattle.proto_schema.specs.Lexemes.{Meaning, identifier, integer, number, string, mark, the_end, none, Lexeme, says}
+use Rattle.proto_schema.specs.Lexemes.{dot, comma, semicolon, equals, minus, plus, opening_brace, closing_brace}
+use Rattle.proto_schema.specs.Lexemes.{opening_paren, closing_paren, opening_bracket, closing_bracket, less, greater}
+use Rattle.proto_schema.specs.Lexemes.{span_to, word_at, number_at}
 use Rattle.proto_schema.specs.Grammar.{latest}
 use Rattle.proto_schema.specs.Faults.{is_no_token, is_type_part}
 use Rattle.proto_schema.specs.declared.file.Span.{Span}

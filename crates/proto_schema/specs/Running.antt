@@ -1,12 +1,18 @@
 -- A text is read token by token: statements, and the whole text.
-use Rattle.std.specs.Prelude.{◌≡◌, ℕ, ◌==◌, nat_le, Bool, true, false, not, ◌&&◌, ◌||◌, if◌then◌else◌, List, [], ◌∷◌, ◌++◌, codes, length, Option, Some, None, is_some, Result, Ok, Err}
+use Rattle.std.specs.Prelude.{◌≡◌, ℕ, ◌==◌, nat_le, Bool, true, false, not, ◌&&◌, ◌||◌, if◌then◌else◌, List, [], ◌∷◌}
+use Rattle.std.specs.Prelude.{◌++◌, codes, length, Option, Some, None, is_some, Result, Ok, Err}
 use Rattle.std.specs.Str.{bytes_eq}
 use Rattle.proto_tokens.specs.Tokens.{AreTokens, is_last}
 use Rattle.proto_tokens.specs.declared.token.Token.{Token}
-use Rattle.proto_schema.specs.Lexemes.{Meaning, identifier, string, mark, the_end, Lexeme, says, dot, semicolon, equals, opening_brace, closing_brace, word_at}
-use Rattle.proto_schema.specs.Files.{Draft, Block, no_block, a_oneof, an_enum, a_service, an_rpc, with_file, with_block, in_message, in_enum, open_message, open_enum, open_service, open_oneof, add_field, add_rpc, nothing_said, MOST_OPEN}
+use Rattle.proto_schema.specs.Lexemes.{Meaning, identifier, string, mark, the_end, Lexeme, says, dot, semicolon, equals}
+use Rattle.proto_schema.specs.Lexemes.{opening_brace, closing_brace, word_at}
+use Rattle.proto_schema.specs.Files.{Draft, Block, no_block, a_oneof, an_enum, a_service, an_rpc, with_file, with_block}
+use Rattle.proto_schema.specs.Files.{in_message, in_enum, open_message, open_enum, open_service, open_oneof, add_field}
+use Rattle.proto_schema.specs.Files.{add_rpc, nothing_said, MOST_OPEN}
 use Rattle.proto_schema.specs.Faults.{is_no_token}
-use Rattle.proto_schema.specs.Reading.{fault_at, unexpected, wrong, if_name, is_mark, full_step, option_step, next_option, field_step, reserved_step, value_step, rpc_step, option_depth, field_depth, value_depth}
+use Rattle.proto_schema.specs.Reading.{fault_at, unexpected, wrong, if_name, is_mark, full_step, option_step}
+use Rattle.proto_schema.specs.Reading.{next_option, field_step, reserved_step, value_step, rpc_step, option_depth}
+use Rattle.proto_schema.specs.Reading.{field_depth, value_depth}
 use Rattle.proto_schema.specs.declared.file.Span.{Span}
 use Rattle.proto_schema.specs.declared.file.Word.{Word}
 use Rattle.proto_schema.specs.declared.file.Import.{Import}

@@ -2,7 +2,14 @@
 
 ghost use Rattle.std.specs.Prelude.{◌≡◌, ◌<◌, ◌^◌, ◌&&◌, ℕ, List, false};
 ghost use Rattle.proto_schema.specs.Lexemes.{lexeme, number_at, span_of as span_of_token};
-ghost use Rattle.proto_schema.specs.Reading.{Lies, Gives, typed_step as typed_reading, key_step as key_reading, begins_map as map_begins, of_key as reading_of_key, of_inner_key as reading_of_inner_key, of_value as reading_of_value, of_inner_value as reading_of_inner_value, if_number, closed as closed_map, map_step as map_reading, map_depth, named_step, of_type as reading_of_type, of_map as reading_of_map, of_tail as reading_of_tail, field_step as field_reading, field_depth, tail_step as tail_reading, tail_depth};
+ghost use Rattle.proto_schema.specs.Reading.{Lies, Gives, typed_step as typed_reading, key_step as key_reading};
+ghost use Rattle.proto_schema.specs.Reading.{begins_map as map_begins, of_key as reading_of_key};
+ghost use Rattle.proto_schema.specs.Reading.{of_inner_key as reading_of_inner_key, of_value as reading_of_value};
+ghost use Rattle.proto_schema.specs.Reading.{of_inner_value as reading_of_inner_value, if_number, closed as closed_map};
+ghost use Rattle.proto_schema.specs.Reading.{map_step as map_reading, map_depth, named_step};
+ghost use Rattle.proto_schema.specs.Reading.{of_type as reading_of_type, of_map as reading_of_map};
+ghost use Rattle.proto_schema.specs.Reading.{of_tail as reading_of_tail, field_step as field_reading, field_depth};
+ghost use Rattle.proto_schema.specs.Reading.{tail_step as tail_reading, tail_depth};
 ghost use Rattle.proto_schema.specs.declared.field.FieldState.TheVariants as states;
 ghost use Rattle.proto_schema.specs.declared.field.FieldStep.TheVariants as steps;
 ghost use Rattle.proto_schema.specs.declared.tail.TailState.TheVariants as tails;

@@ -2,6 +2,7 @@
 
 ghost use Rattle.std.specs.Prelude.{◌≡◌, ◌⊎◌, ℕ, List};
 ghost use Rattle.proto_schema.specs.Faults.{IsTextOf, HasFault};
+ghost use Rattle.proto_schema.specs.Order.{IsFormed, IsOrdered};
 ghost use Rattle.proto_schema.specs.declared.file.File.{File};
 ghost use Rattle.proto_schema.specs.declared.file.Span.{Span};
 ghost use Rattle.proto_schema.specs.declared.fault.ProtoReason.{ProtoReason};
@@ -32,3 +33,11 @@ pub fn file_or_fault()
 {
     one_list();
 }
+
+/// A file that was read is well formed, and its names and numbers start in its order: its places are those of its
+/// lists, each oneof has a field and each enum a value, and its names have the forms of names; no two names or numbers
+/// start at one place.
+pub fn file_is_ordered()
+    ensures formed { (text : List ℕ) (F : File) → IsTextOf text F → IsFormed F }
+    ensures ordered { (text : List ℕ) (F : File) → IsTextOf text F → IsOrdered F }
+{}

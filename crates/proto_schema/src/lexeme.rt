@@ -3,8 +3,10 @@
 ghost use Rattle.std.specs.Prelude.{◌≡◌, ℕ, List, IfOk, true, false};
 ghost use Rattle.proto_tokens.specs.Tokens.{literal_of};
 ghost use Rattle.proto_tokens.specs.declared.token.Kind.TheVariants.{Identifier};
-ghost use Rattle.proto_schema.specs.Lexemes.{lexeme, says, span_of as span_of_token, span_to as joined_span, word_at, number_at};
-ghost use Rattle.proto_schema.specs.Reading.{Lies, Gives, fault_at as fault_of, unexpected as unexpected_at, is_mark as is_the_mark, if_number};
+ghost use Rattle.proto_schema.specs.Lexemes.{lexeme, says, span_of as span_of_token, span_to as joined_span, word_at};
+ghost use Rattle.proto_schema.specs.Lexemes.{number_at};
+ghost use Rattle.proto_schema.specs.Reading.{Lies, Gives, fault_at as fault_of, unexpected as unexpected_at};
+ghost use Rattle.proto_schema.specs.Reading.{is_mark as is_the_mark, if_number};
 
 use crate::fault::{ProtoFault, ProtoReason};
 use crate::file::{Number, Span, Word};

@@ -2,7 +2,8 @@
 
 ghost use Rattle.std.specs.Prelude.{◌≡◌, ◌∷◌, ◌++◌, IfOk};
 ghost use Rattle.proto_schema.specs.Lexemes.{lexeme, dot as dot_mark, span_to as joined_span};
-ghost use Rattle.proto_schema.specs.Reading.{Lies, Gives, if_name, part, full_step as full_reading, type_step as type_reading};
+ghost use Rattle.proto_schema.specs.Reading.{Lies, Gives, if_name, part, full_step as full_reading};
+ghost use Rattle.proto_schema.specs.Reading.{type_step as type_reading};
 
 use crate::fault::ProtoFault;
 use crate::file::{Span, Word};

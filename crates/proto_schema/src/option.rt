@@ -2,7 +2,8 @@
 
 ghost use Rattle.std.specs.Prelude.{◌≡◌, ◌<◌, ◌^◌, ℕ, List, codes, true, false};
 ghost use Rattle.proto_schema.specs.Lexemes.{lexeme};
-ghost use Rattle.proto_schema.specs.Reading.{Lies, Gives, if_name as if_named, is_number as is_any_number, truth_of, option_step as option_reading, option_depth};
+ghost use Rattle.proto_schema.specs.Reading.{Lies, Gives, if_name as if_named, is_number as is_any_number, truth_of};
+ghost use Rattle.proto_schema.specs.Reading.{option_step as option_reading, option_depth};
 ghost use Rattle.proto_schema.specs.declared.option.OptionState.TheVariants as states;
 ghost use Rattle.proto_schema.specs.declared.option.OptionStep.TheVariants as steps;
 

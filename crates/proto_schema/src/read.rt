@@ -1,6 +1,7 @@
 //! Proto files from their text.
 
-ghost use Rattle.std.specs.Prelude.{◌≡◌, ◌↔◌, ◌<◌, ◌≤◌, ◌^◌, ◌+◌, IsTrue, ℕ, List, IfOk, IfErr, MatchResult, length, codes, true, false};
+ghost use Rattle.std.specs.Prelude.{◌≡◌, ◌↔◌, ◌<◌, ◌≤◌, ◌^◌, ◌+◌, IsTrue, ℕ, List, IfOk, IfErr, MatchResult, length};
+ghost use Rattle.std.specs.Prelude.{codes, true, false};
 ghost use Rattle.std.specs.Str.{bytes_eq};
 ghost use Rattle.proto_tokens.specs.Strings.{string_value as value_of};
 ghost use Rattle.proto_tokens.specs.Tokens.{IsNext, AreTokens, line_at, is_last, literal_of};
@@ -12,7 +13,9 @@ ghost use Rattle.proto_schema.specs.Faults.{IsTextOf, IsFaultOf, is_no_token};
 ghost use Rattle.proto_schema.specs.declared.file.File.{File};
 ghost use Rattle.proto_schema.specs.declared.fault.ProtoFault.TheVariants as faults;
 ghost use Rattle.proto_schema.specs.Reading.{Lies};
-ghost use Rattle.proto_schema.specs.Running.{Comes, Failed, Begins, run, reading, behind_word, behind_step, draft_of, place_of, is_over, is_too_deep as too_deep, depth, statement_step as statement_reading};
+ghost use Rattle.proto_schema.specs.Running.{Comes, Failed, Begins, run, reading, behind_word, behind_step, draft_of};
+ghost use Rattle.proto_schema.specs.Running.{place_of, is_over, is_too_deep as too_deep, depth};
+ghost use Rattle.proto_schema.specs.Running.{statement_step as statement_reading};
 ghost use Rattle.proto_schema.specs.Lexemes.{Lexeme};
 ghost use Rattle.proto_schema.specs.declared.statement.State.TheVariants as states;
 

@@ -2,7 +2,10 @@
 
 ghost use Rattle.std.specs.Prelude.{◌≡◌, ℕ, List};
 ghost use Rattle.proto_schema.specs.Lexemes.{lexeme};
-ghost use Rattle.proto_schema.specs.Reading.{Lies, Gives, range_step as range_reading, whole_range as reading_whole_range, of_range as reading_of_range, ranges_step as ranges_reading, reserved_name, reserved_part_step, reserved_step as reserved_reading};
+ghost use Rattle.proto_schema.specs.Reading.{Lies, Gives, range_step as range_reading};
+ghost use Rattle.proto_schema.specs.Reading.{whole_range as reading_whole_range, of_range as reading_of_range};
+ghost use Rattle.proto_schema.specs.Reading.{ranges_step as ranges_reading, reserved_name, reserved_part_step};
+ghost use Rattle.proto_schema.specs.Reading.{reserved_step as reserved_reading};
 ghost use Rattle.proto_schema.specs.declared.reserved.RangeState.TheVariants as states;
 ghost use Rattle.proto_schema.specs.declared.reserved.ReservedPart.TheVariants as parts;
 

@@ -2,7 +2,10 @@
 
 ghost use Rattle.std.specs.Prelude.{◌≡◌, ℕ, List};
 ghost use Rattle.proto_schema.specs.Lexemes.{lexeme, word_at, span_of as span_of_token};
-ghost use Rattle.proto_schema.specs.Reading.{Lies, Gives, if_name, is_streaming as is_streaming_at, part_span as reading_part_span, rpc_type_step, of_input as reading_of_input, of_output as reading_of_output, rpc_step as rpc_reading};
+ghost use Rattle.proto_schema.specs.Reading.{Lies, Gives, if_name, is_streaming as is_streaming_at};
+ghost use Rattle.proto_schema.specs.Reading.{part_span as reading_part_span, rpc_type_step};
+ghost use Rattle.proto_schema.specs.Reading.{of_input as reading_of_input, of_output as reading_of_output};
+ghost use Rattle.proto_schema.specs.Reading.{rpc_step as rpc_reading};
 ghost use Rattle.proto_schema.specs.declared.rpc.RpcState.TheVariants as states;
 ghost use Rattle.proto_schema.specs.declared.rpc.RpcStep.TheVariants as steps;
 

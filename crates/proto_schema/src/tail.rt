@@ -2,7 +2,8 @@
 
 ghost use Rattle.std.specs.Prelude.{◌≡◌, ◌<◌, ◌^◌, ℕ, List};
 ghost use Rattle.proto_schema.specs.Lexemes.{lexeme};
-ghost use Rattle.proto_schema.specs.Reading.{Lies, Gives, behind_option as reading_behind_option, tail_step as tail_reading, tail_depth};
+ghost use Rattle.proto_schema.specs.Reading.{Lies, Gives, behind_option as reading_behind_option};
+ghost use Rattle.proto_schema.specs.Reading.{tail_step as tail_reading, tail_depth};
 
 use crate::fault::ProtoFault;
 use crate::lexeme::{is_mark, unexpected};

@@ -2,7 +2,8 @@
 
 ghost use Rattle.std.specs.Prelude.{◌≡◌, ◌<◌, ◌^◌, ℕ, List};
 ghost use Rattle.proto_schema.specs.Lexemes.{lexeme};
-ghost use Rattle.proto_schema.specs.Reading.{Lies, Gives, tail_step as tail_reading, tail_depth, of_value_tail, value_step as value_reading, value_depth};
+ghost use Rattle.proto_schema.specs.Reading.{Lies, Gives, tail_step as tail_reading, tail_depth, of_value_tail};
+ghost use Rattle.proto_schema.specs.Reading.{value_step as value_reading, value_depth};
 ghost use Rattle.proto_schema.specs.declared.value.ValueState.TheVariants as states;
 
 use crate::fault::ProtoFault;

@@ -91,3 +91,9 @@ between_other text i h n m =
 pub between_ends : (text : List ℕ) (i : ℕ) → length text ≤ i → walk between (drop i text) ≡ drop i text
 unfolding walk
 between_ends text i h = rw (drop_all i text h) refl
+
+pub ruleset block_lemmas = (block_on, block_star_on, block_star_last, block_stops, block_ends)
+
+pub ruleset slash_lemmas = (slash_last, slash_slash, slash_star, slash_other)
+
+pub ruleset between_lemmas = (between_blank, between_slash, between_other, between_ends)

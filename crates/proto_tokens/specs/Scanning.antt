@@ -1,11 +1,14 @@
 -- What stands at the front of bytes, by its first bytes.
-use Rattle.std.specs.Prelude.{ℕ, ◌+◌, ◌==◌, Bool, not, ◌&&◌, ◌||◌, if◌then◌else◌, List, [], ◌∷◌, take, drop, Option, Some, None, option_map}
+use Rattle.std.specs.Prelude.{ℕ, ◌+◌, ◌==◌, Bool, not, ◌&&◌, ◌||◌, if◌then◌else◌, List, [], ◌∷◌, take, drop, Option}
+use Rattle.std.specs.Prelude.{Some, None, option_map}
 use Rattle.std.specs.List.{prefix_len}
 use Rattle.std.specs.Str.Parse.{digits_value}
 use Rattle.mrpc_table.specs.Names.{is_name_start, is_name_byte}
 use Rattle.mrpc_table.specs.Lines.{in_64_bits}
 use Rattle.proto_tokens.specs.Gaps.{is_blank, begins}
-use Rattle.proto_tokens.specs.Literals.{is_decimal_digit, is_octal_digit, is_hexadecimal_digit, is_exponent_letter, is_sign, is_glue, is_quote, is_simple_escape, has_digits, is_wide, is_mark, goes_on}
+use Rattle.proto_tokens.specs.Literals.{is_decimal_digit, is_octal_digit, is_hexadecimal_digit, is_exponent_letter}
+use Rattle.proto_tokens.specs.Literals.{is_sign, is_glue, is_quote, is_simple_escape, has_digits, is_wide, is_mark}
+use Rattle.proto_tokens.specs.Literals.{goes_on}
 use Rattle.proto_tokens.specs.declared.token.Kind.TheVariants.{Identifier, Integer, Number, Text, Mark}
 use Rattle.proto_tokens.specs.declared.word.Word.{Word}
 
@@ -31,13 +34,15 @@ walk line (c ∷ cs) = if c == 10 then walk between cs else walk line cs
 walk (block start) [] = start
 walk (block start) (c ∷ cs) = if c == 42 then walk (star start) cs else walk (block start) cs
 walk (star start) [] = start
-walk (star start) (c ∷ cs) = if c == 47 then walk between cs else if c == 42 then walk (star start) cs else walk (block start) cs
+walk (star start) (c ∷ cs) =
+    if c == 47 then walk between cs else if c == 42 then walk (star start) cs else walk (block start) cs
 
 -- ---- numbers
 
 abbrev pub integer_of : ℕ → List ℕ → ℕ → ℕ → Option Word
 integer_of base digits before n =
-    if n == 0 then None else Some (record { kind = Integer (in_64_bits (digits_value base (take n digits))); len = n + before })
+    if n == 0 then None
+    else Some (record { kind = Integer (in_64_bits (digits_value base (take n digits))); len = n + before })
 
 abbrev pub hexadecimal_behind : List ℕ → Option Word
 hexadecimal_behind digits = integer_of 16 digits 2 (prefix_len is_hexadecimal_digit digits)
@@ -55,7 +60,9 @@ unless_none before n = if n == 0 then 0 else n + before
 abbrev pub exponent_len : List ℕ → ℕ
 exponent_len (e ∷ sign ∷ cs) =
     if is_exponent_letter e
-    then if is_sign sign then unless_none 2 (prefix_len is_decimal_digit cs) else unless_none 1 (prefix_len is_decimal_digit (sign ∷ cs))
+    then
+    if is_sign sign then unless_none 2 (prefix_len is_decimal_digit cs)
+    else unless_none 1 (prefix_len is_decimal_digit (sign ∷ cs))
     else 0
 exponent_len _ = 0
 

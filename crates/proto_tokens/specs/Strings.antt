@@ -1,6 +1,7 @@
 -- What a string of a proto file stands for (Protocol Buffers, proto3 language specification, "String literals"; escapes
 -- as protoc reads them).
-use Rattle.std.specs.Prelude.{ℕ, zero, suc, ◌+◌, ◌-◌, ◌*◌, ◌/◌, ◌%◌, ◌==◌, nat_lt, nat_le, min, Bool, false, ◌&&◌, if◌then◌else◌, List, [], ◌∷◌, ◌++◌, length, take, drop}
+use Rattle.std.specs.Prelude.{ℕ, zero, suc, ◌+◌, ◌-◌, ◌*◌, ◌/◌, ◌%◌, ◌==◌, nat_lt, nat_le, min, Bool, false, ◌&&◌}
+use Rattle.std.specs.Prelude.{if◌then◌else◌, List, [], ◌∷◌, ◌++◌, length, take, drop}
 use Rattle.std.specs.List.{prefix_len}
 use Rattle.std.specs.Char.{is_digit, digit_char}
 use Rattle.std.specs.Str.Parse.{digits_value}
@@ -26,8 +27,9 @@ utf8 n =
     else if nat_lt n 2048 then (192 + n / 64) ∷ low_six n ∷ []
     else if nat_lt n 65536 then (224 + n / 4096) ∷ low_six (n / 64) ∷ low_six n ∷ []
     else if nat_lt n 1114112 then (240 + n / 262144) ∷ low_six (n / 4096) ∷ low_six (n / 64) ∷ low_six n ∷ []
-    else 92 ∷ 85 ∷ hexadecimal_char (n / 268435456) ∷ hexadecimal_char (n / 16777216) ∷ hexadecimal_char (n / 1048576) ∷ hexadecimal_char (n / 65536)
-    ∷ hexadecimal_char (n / 4096) ∷ hexadecimal_char (n / 256) ∷ hexadecimal_char (n / 16) ∷ hexadecimal_char n ∷ []
+    else 92 ∷ 85 ∷ hexadecimal_char (n / 268435456) ∷ hexadecimal_char (n / 16777216)
+    ∷ hexadecimal_char (n / 1048576) ∷ hexadecimal_char (n / 65536) ∷ hexadecimal_char (n / 4096)
+    ∷ hexadecimal_char (n / 256) ∷ hexadecimal_char (n / 16) ∷ hexadecimal_char n ∷ []
 
 -- the first half of a UTF-16 pair, and `\u` with the second half
 abbrev pub is_high : ℕ → Bool
@@ -80,7 +82,8 @@ escape_of (c ∷ cs) =
 unfoldable pub value_up_to : ℕ → List ℕ → List ℕ
 value_up_to zero bytes = []
 value_up_to (suc n) [] = []
-value_up_to (suc n) (c ∷ cs) = if c == 92 then (escape_of cs).value ++ value_up_to n (drop (escape_of cs).len cs) else c ∷ value_up_to n cs
+value_up_to (suc n) (c ∷ cs) =
+    if c == 92 then (escape_of cs).value ++ value_up_to n (drop (escape_of cs).len cs) else c ∷ value_up_to n cs
 
 -- the bytes between the quotes
 abbrev pub body_of : List ℕ → List ℕ

@@ -1,5 +1,6 @@
 -- The tokens of a text (Protocol Buffers, proto3 language specification, "Lexical elements").
-use Rattle.std.specs.Prelude.{◌≡◌, ◌≢◌, ℕ, ◌+◌, ◌-◌, ◌≤◌, ◌==◌, Bool, true, false, List, [], ◌∷◌, ◌++◌, length, take, drop, count_by}
+use Rattle.std.specs.Prelude.{◌≡◌, ◌≢◌, ℕ, ◌+◌, ◌-◌, ◌≤◌, ◌==◌, Bool, true, false, List, [], ◌∷◌, ◌++◌, length, take}
+use Rattle.std.specs.Prelude.{drop, count_by}
 use Rattle.mrpc_table.specs.Names.{is_name_byte, is_name_form}
 use Rattle.mrpc_table.specs.Lines.{in_64_bits}
 use Rattle.proto_tokens.specs.Gaps.{begins, Gap}

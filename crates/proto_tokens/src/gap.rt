@@ -25,11 +25,12 @@ fn line_end(text: &[u8], at: usize) -> usize
 }
 
 // The place behind the first `*/` from a place on.
-#[tactic(auto, using(crate::proofs::Walks::block_on, crate::proofs::Walks::block_star_on, crate::proofs::Walks::block_star_last, crate::proofs::Walks::block_stops, crate::proofs::Walks::block_ends))]
+#[tactic(auto, using(crate::proofs::Walks::block_lemmas))]
 fn block_end(text: &[u8], at: usize) -> Option<usize>
     requires { at ≤ length text.now }
     ensures bound { IfSome result (λ end. (at ≤ end) × (end ≤ length text.now)) }
-    ensures gap { MatchOption result ((start : List ℕ) → walk (block start) (drop at text.now) ≡ start) (λ end. (start : List ℕ) → walk (block start) (drop at text.now) ≡ walk between (drop end text.now)) }
+    ensures gap { MatchOption result ((start : List ℕ) → walk (block start) (drop at text.now) ≡ start)
+        (λ end. (start : List ℕ) → walk (block start) (drop at text.now) ≡ walk between (drop end text.now)) }
 {
     let mut i = at;
     while i < text.len() {
@@ -42,11 +43,12 @@ fn block_end(text: &[u8], at: usize) -> Option<usize>
 }
 
 // The place behind the comment that begins with the slash at a place.
-#[tactic(auto, using(crate::proofs::Walks::slash_last, crate::proofs::Walks::slash_slash, crate::proofs::Walks::slash_star, crate::proofs::Walks::slash_other))]
+#[tactic(auto, using(crate::proofs::Walks::slash_lemmas))]
 fn comment_end(text: &[u8], at: usize) -> Option<usize>
     requires { at < length text.now }
     ensures bound { IfSome result (λ end. (at < end) × (end ≤ length text.now)) }
-    ensures gap { MatchOption result (walk (slash (drop at text.now)) (drop (at + 1) text.now) ≡ drop at text.now) (λ end. walk (slash (drop at text.now)) (drop (at + 1) text.now) ≡ walk between (drop end text.now)) }
+    ensures gap { MatchOption result (walk (slash (drop at text.now)) (drop (at + 1) text.now) ≡ drop at text.now)
+        (λ end. walk (slash (drop at text.now)) (drop (at + 1) text.now) ≡ walk between (drop end text.now)) }
 {
     if at + 1 >= text.len() {
         return None;
@@ -59,7 +61,7 @@ fn comment_end(text: &[u8], at: usize) -> Option<usize>
 }
 
 /// The place behind the blanks and comments from a place on.
-#[tactic(auto, using(crate::proofs::Walks::between_blank, crate::proofs::Walks::between_slash, crate::proofs::Walks::between_other, crate::proofs::Walks::between_ends))]
+#[tactic(auto, using(crate::proofs::Walks::between_lemmas))]
 pub fn gap_end(text: &[u8], at: usize) -> usize
     requires { at ≤ length text.now }
     ensures bound { (at ≤ result) × (result ≤ length text.now) }

@@ -3,7 +3,9 @@
 ghost use Rattle.std.specs.Prelude.{◌≡◌, ◌≤◌, ◌<◌, ◌+◌, ◌-◌, ◌^◌, ◌++◌, true, length, drop, IfOk, OnOk};
 ghost use Rattle.std.specs.List.{prefix_len};
 ghost use Rattle.std.specs.Char.{is_digit, digit_char};
-ghost use Rattle.proto_tokens.specs.Strings.{few, spelled, utf8, low_six, hexadecimal_char, is_high, is_low, is_low_escape, is_pair, joined, code_point, unicode_escape, simple_value, escape_of, string_value};
+ghost use Rattle.proto_tokens.specs.Strings.{few, spelled, utf8, low_six, hexadecimal_char, is_high, is_low};
+ghost use Rattle.proto_tokens.specs.Strings.{is_low_escape, is_pair, joined, code_point, unicode_escape, simple_value};
+ghost use Rattle.proto_tokens.specs.Strings.{escape_of, string_value};
 
 use crate::word::{capped, digits_len, is_digit};
 use mrpc_table::{Bytes, Memory};
@@ -130,8 +132,8 @@ fn low_half(behind: &[u8]) -> u32
     }
 }
 
-// Appends the bytes of the code point that `\u` or `\U` and `len - 1` digits spell, with the second half of a pair where
-// the bytes behind begin with one. Gives the number of bytes of the escape.
+// Appends the bytes of the code point that `\u` or `\U` and `len - 1` digits spell, with the second half of a pair
+// where the bytes behind begin with one. Gives the number of bytes of the escape.
 fn push_code_point(out: &mut Bytes, number: u32, len: usize, behind: &[u8]) -> Result<usize, Memory>
     requires { len + length behind.now < 2 ^ 63 }
     ensures value { OnOk result (out.new ≡ out.old ++ (code_point number len behind.now).value) }

@@ -1,14 +1,18 @@
 //! What stands at the front of bytes: a token of the text that isn't its end.
 
-ghost use Rattle.std.specs.Prelude.{◌≡◌, ◌≤◌, ◌<◌, ◌==◌, ◌+◌, ◌^◌, ◌∷◌, ℕ, List, length, drop, take, min, Some, None, MatchOption, IfSome};
+ghost use Rattle.std.specs.Prelude.{◌≡◌, ◌≤◌, ◌<◌, ◌==◌, ◌+◌, ◌^◌, ◌∷◌, ℕ, List, length, drop, take, min, Some, None};
+ghost use Rattle.std.specs.Prelude.{MatchOption, IfSome};
 ghost use Rattle.std.specs.List.{prefix_len};
 ghost use Rattle.proto_tokens.specs.Gaps.{begins};
 ghost use Rattle.std.specs.Char.{digit_value, is_digit};
 ghost use Rattle.std.specs.Str.Parse.{digits_value};
 ghost use Rattle.mrpc_table.specs.Names.{is_name_start, is_name_byte};
 ghost use Rattle.mrpc_table.specs.Lines.{in_64_bits};
-ghost use Rattle.proto_tokens.specs.Literals.{is_decimal_digit, is_simple_escape, has_digits, is_wide, is_mark, is_glue, is_quote, goes_on};
-ghost use Rattle.proto_tokens.specs.Scanning.{is_escape, closes, hexadecimal_behind, octal_behind, fraction_len, exponent_len, decimal_at, is_hexadecimal, unsplit_number_at, begins_number, mark_at, number_at, word_at};
+ghost use Rattle.proto_tokens.specs.Literals.{is_decimal_digit, is_simple_escape, has_digits, is_wide, is_mark};
+ghost use Rattle.proto_tokens.specs.Literals.{is_glue, is_quote, goes_on};
+ghost use Rattle.proto_tokens.specs.Scanning.{is_escape, closes, hexadecimal_behind, octal_behind, fraction_len};
+ghost use Rattle.proto_tokens.specs.Scanning.{exponent_len, decimal_at, is_hexadecimal, unsplit_number_at};
+ghost use Rattle.proto_tokens.specs.Scanning.{begins_number, mark_at, number_at, word_at};
 
 use crate::token::Kind;
 use mrpc_table::Decimal;
