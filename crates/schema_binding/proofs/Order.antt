@@ -6,6 +6,7 @@ use Rattle.std.specs.declared.cmp.Ordering.TheVariants.{Less, Greater}
 use Rattle.std.proofs.lemmas.Bool.{cases_order, cases_Bool, cond-true, cond-false, eqb-true, eq-eqb, ne_eqb}
 use Rattle.std.proofs.lemmas.Cmp.{nat_list_cmp_total}
 use Rattle.std.proofs.lemmas.Option.{slice_get-get_or, same_Some, none-some}
+use Rattle.mrpc_table.specs.Ascending.{FieldsAscend}
 use Rattle.mrpc_table.specs.Normal.{field_at}
 use Rattle.mrpc_table.specs.Text.{message_name}
 use Rattle.mrpc_table.specs.Valid.{Ascends, IsBelow, IsValid}

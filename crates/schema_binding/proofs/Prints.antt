@@ -13,7 +13,8 @@ use Rattle.mrpc_table.specs.declared.table.Message.{Message}
 use Rattle.mrpc_table.specs.declared.table.Table.{Table}
 use Rattle.schema_binding.specs.Agreement.{FieldText, field_text, Prints, BothReach, through, Differs}
 use Rattle.schema_binding.specs.Places.{print_in, print_at, IsPair, PrintOther, LeadsTo, IsShared, IsOther, IsLeastOther}
-use Rattle.schema_binding.proofs.Order.{FieldsAscend, message_name_is, place_of, field_found, field_known, IsFound, numbers_rise}
+use Rattle.mrpc_table.specs.Ascending.{FieldsAscend}
+use Rattle.schema_binding.proofs.Order.{message_name_is, place_of, field_found, field_known, IsFound, numbers_rise}
 
 -- ---- options
 

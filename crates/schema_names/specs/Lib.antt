@@ -1,0 +1,5 @@
+pub mod Children
+pub mod Finding
+pub mod Kept
+pub mod Numbers
+pub mod Scopes

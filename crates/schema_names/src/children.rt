@@ -1,0 +1,42 @@
+//! What stands in scopes, by its name.
+
+ghost use Rattle.std.specs.Prelude.{◌≡◌, ℕ, List, Some, None, cond, OnOk};
+ghost use Rattle.std.specs.Option.{option_copied};
+ghost use Rattle.schema_names.specs.Children.{child, same_child};
+
+use mrpc_table::Memory;
+use std::alloc::Global;
+use std::collections::BTreeMap;
+
+/// Values by the numbers of scopes and the names that stand in them.
+#[derive(Drop)]
+pub struct Children<'a, V> {
+    by: BTreeMap<(usize, &'a [u8]), V>,
+}
+
+impl<'a, V: Copy + Drop> Children<'a, V> {
+    /// No values.
+    pub fn new(alloc: Global) -> Children<'a, V>
+        ensures { (scope : ℕ) (name : List ℕ) → child result scope name ≡ None }
+    {
+        Children {
+            by: BTreeMap::new(alloc),
+        }
+    }
+
+    /// The value of a name in a scope.
+    pub fn get(&self, scope: usize, name: &'a [u8]) -> Option<V>
+        ensures { result ≡ child self.now scope name.now }
+    {
+        self.by.get(&(scope, name)).copied()
+    }
+
+    /// Gives a name in a scope this value.
+    pub fn insert(&mut self, scope: usize, name: &'a [u8], value: V) -> Result<(), Memory>
+        ensures { OnOk result ((k : ℕ) (other : List ℕ)
+            → child self.new k other ≡ cond (same_child scope name.now k other) (Some value) (child self.old k other)) }
+    {
+        self.by.insert((scope, name), value)?;
+        Ok(())
+    }
+}
