@@ -197,7 +197,7 @@ names_nothing {F} {scope} {name} part others is apart none sort full n =
 same_rest : (rest more : List ℕ) → 46 ∷ more ≡ 46 ∷ rest → more ≡ rest
 same_rest rest more e = cc
 
-absolute_full : {F : File} {scope full : List (List ℕ)} {name : List ℕ} (rest : List ℕ) → name ≡ 46 ∷ rest → Means (F ∷ []) scope name full → full ≡ parts_of rest
+pub absolute_full : {F : File} {scope full : List (List ℕ)} {name : List ℕ} (rest : List ℕ) → name ≡ 46 ∷ rest → Means (F ∷ []) scope name full → full ≡ parts_of rest
 absolute_full rest is (absolute more) = ap parts_of (same_rest rest more is)
 absolute_full rest is (relative name first {others = more} cuts apart decides) =
     let e : first ∷ more ≡ [] ∷ parts_of rest = sym cuts ∙ ap parts_of is in
