@@ -16,7 +16,7 @@ use proto_schema::{File, Word};
 use std::alloc::Global;
 use std::collections::BTreeMap;
 
-// The number of what stands in the file or in a message, of these numbers of messages.
+/// The number of what stands in the file or in a message, of these numbers of messages.
 pub fn number_in(numbers: &[usize], parent: Option<usize>) -> usize
     requires { is_within numbers.now parent }
     ensures { result ≡ number_at numbers.now parent }
@@ -35,14 +35,15 @@ fn number_of<'a>(
     next: usize,
 ) -> Result<usize, Memory>
     ensures number { IfOk result (λ n. n ≡ unwrap_or (child messages.old outer name.now) next) }
-    ensures messages { IfOk result (λ n. (k : ℕ) (other : List ℕ) → child messages.new k other ≡ cond (same_child outer name.now k other) (Some n) (child messages.old k other)) }
+    ensures messages { IfOk result (λ n. (k : ℕ) (other : List ℕ) → child messages.new k other
+        ≡ cond (same_child outer name.now k other) (Some n) (child messages.old k other)) }
 {
     let number = messages.get(outer, name).unwrap_or(next);
     messages.insert(outer, name, number)?;
     Ok(number)
 }
 
-// The numbers of the scopes of a file's messages, which they get by scope and name, too.
+/// The numbers of the scopes of a file's messages, which they get by scope and name, too.
 pub fn number_messages<'a>(
     alloc: Global,
     file: &'a File,
@@ -86,13 +87,15 @@ fn keep_first<'a>(
     name: &'a [u8],
     declared: Declared,
 ) -> Result<(), Memory>
-    ensures { OnOk result ((k : ℕ) (other : List ℕ) → child types.new k other ≡ cond (same_child outer name.now k other) (Some (first_of (child types.old outer name.now) declared)) (child types.old k other)) }
+    ensures { OnOk result ((k : ℕ) (other : List ℕ) → child types.new k other
+        ≡ cond (same_child outer name.now k other) (Some (first_of (child types.old outer name.now) declared))
+        (child types.old k other)) }
 {
     let first = first_of(types.get(outer, name), declared);
     types.insert(outer, name, first)
 }
 
-// Adds a file's messages to its types.
+/// Adds a file's messages to its types.
 pub fn add_messages<'a>(
     file: &'a File,
     numbers: &[usize],
@@ -117,7 +120,7 @@ pub fn add_messages<'a>(
     Ok(())
 }
 
-// Adds a file's enums to its types.
+/// Adds a file's enums to its types.
 pub fn add_enums<'a>(
     file: &'a File,
     numbers: &[usize],
@@ -156,7 +159,7 @@ fn name_parts(alloc: Global, name: &[u8]) -> Result<Vec<&[u8]>, Memory>
     Ok(parts)
 }
 
-// The parts of a package.
+/// The parts of a package.
 pub fn package_parts(alloc: Global, declared: &Option<Word>) -> Result<Vec<&[u8]>, Memory>
     ensures { IfOk result (λ v. values_of v.items ≡ package_parts declared.now) }
 {
@@ -172,13 +175,14 @@ fn put_last<'a>(
     part: &'a [u8],
     place: usize,
 ) -> Result<(), Memory>
-    ensures { OnOk result ((q : List ℕ) → last_in places.new q ≡ cond (is_same part.now q) (Some place) (last_in places.old q)) }
+    ensures { OnOk result ((q : List ℕ) → last_in places.new q
+        ≡ cond (is_same part.now q) (Some place) (last_in places.old q)) }
 {
     places.insert(part, place)?;
     Ok(())
 }
 
-// Where each of some parts stands last.
+/// Where each of some parts stands last.
 pub fn last_places<'a>(
     alloc: Global,
     parts: &[&'a [u8]],

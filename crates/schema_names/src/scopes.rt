@@ -134,13 +134,14 @@ impl<'a> Scopes<'a> {
         }
     }
 
-    // The number of the innermost scope, of this one, those of the messages around it and of the file, that has a type of
-    // this name.
+    // The number of the innermost scope, of this one, those of the messages around it and of the file, that has a type
+    // of this name.
     fn deciding(&self, parent: Option<usize>, name: &'a [u8]) -> Option<usize>
         requires { IsPlace self.now parent }
         ensures { (scope : List (List ℕ)) → IsScope self.now parent scope
             → MatchOption result (StaysOpen self.now name.now scope)
-            (λ k. (decisive : List (List ℕ)) × IsNumber self.now decisive k × Decides (self.now ∷ []) name.now scope decisive) }
+            (λ k. (decisive : List (List ℕ)) × IsNumber self.now decisive k
+            × Decides (self.now ∷ []) name.now scope decisive) }
     {
         let mut place = parent;
         while let Some(i) = place {
@@ -159,7 +160,8 @@ impl<'a> Scopes<'a> {
 
     // The last place at which the package has a part.
     fn last_place(&self, part: &'a [u8]) -> Option<usize>
-        ensures { MatchOption result ((i : ℕ) → slice_get (package_of self.now) i ≢ Some part.now) (IsLast (package_of self.now) part.now) }
+        ensures { MatchOption result ((i : ℕ) → slice_get (package_of self.now) i ≢ Some part.now)
+            (IsLast (package_of self.now) part.now) }
     {
         self.last_places.get(&part).copied()
     }
