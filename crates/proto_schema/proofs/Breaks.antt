@@ -8,7 +8,7 @@ use Rattle.proto_schema.specs.Faults.{is_no_token}
 use Rattle.proto_schema.specs.Reading.{fault_at, unexpected, is_mark}
 use Rattle.proto_schema.specs.Running.{place_of, added, statement_step, Outcome, cut_off, read, failed, is_over, behind, run, reading, behind_word, behind_equals, behind_value, behind_syntax, is_too_deep}
 use Rattle.proto_schema.proofs.Next.{run_step, run_over}
-use Rattle.proto_schema.specs.declared.file.File.{File}
+use Rattle.proto_file.specs.declared.file.File.{File}
 use Rattle.proto_schema.specs.declared.fault.ProtoReason.TheVariants as reasons
 use Rattle.proto_schema.specs.declared.fault.ProtoFault.{ProtoFault}
 use Rattle.proto_schema.specs.declared.statement.State.{State}

@@ -3,16 +3,17 @@ use Rattle.std.proofs.Common.{ℕ, ◌+◌, ◌-◌, ◌≤◌, ◌==◌, nat_le
 use Rattle.std.specs.Prelude.{Ok, Err, Result, Option, Some, None, if◌then◌else◌, not, ◌&&◌, ◌||◌}
 use Rattle.std.specs.Str.{bytes_eq}
 use Rattle.mrpc_table.specs.declared.words.Decimal.{Decimal}
-use Rattle.proto_schema.specs.Lexemes.{Meaning, identifier, integer, number, string, mark, the_end, none, Lexeme, dot, comma, semicolon, equals, minus, plus, opening_brace, closing_brace, opening_paren, closing_paren, opening_bracket, closing_bracket, greater, span_to, word_at, number_at, says}
+use Rattle.proto_file.specs.Dot.{dot}
+use Rattle.proto_schema.specs.Lexemes.{Meaning, identifier, integer, number, string, mark, the_end, none, Lexeme, comma, semicolon, equals, minus, plus, opening_brace, closing_brace, opening_paren, closing_paren, opening_bracket, closing_bracket, greater, span_to, word_at, number_at, says}
 use Rattle.proto_schema.specs.Grammar.{latest}
 use Rattle.proto_schema.specs.Faults.{is_no_token}
 use Rattle.proto_schema.specs.Reading.{fault_at, wrong, is_mark, is_string, is_number, by_name, if_name, by_number, if_number, full_step, typed_step, key_step, option_step, option_depth, more_option, value_start, brace_step, tail_step, tail_depth, of_option, next_option, field_step, field_depth, more_field, more_map, map_step, map_depth, closed, begins_map, of_key, of_inner_key, of_value, of_inner_value, of_type, of_map, of_tail, named_step, head, value_step, value_depth, of_value_tail, rpc_step, reserved_step}
 use Rattle.proto_schema.specs.Running.{statement_step, depth, ended, import_step, begins, field_begins, of_package, of_options, of_reserved, of_rpc}
 use Rattle.proto_schema.specs.Running
-use Rattle.proto_schema.specs.declared.file.Word.{Word}
-use Rattle.proto_schema.specs.declared.file.Number.{Number}
-use Rattle.proto_schema.specs.declared.file.FieldLabel.{FieldLabel}
-use Rattle.proto_schema.specs.declared.file.FieldLabel.TheVariants as labels
+use Rattle.proto_file.specs.declared.file.Word.{Word}
+use Rattle.proto_file.specs.declared.file.Number.{Number}
+use Rattle.proto_file.specs.declared.file.FieldLabel.{FieldLabel}
+use Rattle.proto_file.specs.declared.file.FieldLabel.TheVariants as labels
 use Rattle.proto_schema.specs.declared.fault.ProtoReason.TheVariants as reasons
 use Rattle.proto_schema.specs.declared.fault.ProtoFault.{ProtoFault}
 use Rattle.proto_schema.specs.declared.name.NameState.TheVariants as names
@@ -27,8 +28,8 @@ use Rattle.proto_schema.specs.declared.tail.TailState.TheVariants as tails
 use Rattle.proto_schema.specs.declared.tail.TailStep.{TailStep}
 use Rattle.proto_schema.specs.declared.tail.TailStep.TheVariants as tail_steps
 use Rattle.proto_schema.specs.declared.field.Head.{Head}
-use Rattle.proto_schema.specs.declared.file.FieldType.{FieldType}
-use Rattle.proto_schema.specs.declared.file.FieldType.TheVariants as types
+use Rattle.proto_file.specs.declared.file.FieldType.{FieldType}
+use Rattle.proto_file.specs.declared.file.FieldType.TheVariants as types
 use Rattle.proto_schema.specs.declared.field.FieldState.{FieldState}
 use Rattle.proto_schema.specs.declared.field.FieldState.TheVariants as fields
 use Rattle.proto_schema.specs.declared.field.FieldStep.{FieldStep}

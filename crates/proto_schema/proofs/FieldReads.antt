@@ -4,7 +4,8 @@ use Rattle.std.specs.Prelude.{Ok, Result, Option, None}
 use Rattle.std.proofs.lemmas.Bool.{lt-leb}
 use Rattle.std.proofs.lemmas.List.{append_assoc}
 use Rattle.mrpc_table.specs.declared.words.Decimal.{Decimal}
-use Rattle.proto_schema.specs.Lexemes.{integer, Lexeme, dot, comma, equals, less, greater, span_to, word_at, number_at, rooted, IsWord, IsMark, says}
+use Rattle.proto_file.specs.Dot.{dot}
+use Rattle.proto_schema.specs.Lexemes.{integer, Lexeme, comma, equals, less, greater, span_to, word_at, number_at, rooted, IsWord, IsMark, says}
 use Rattle.proto_schema.specs.Grammar.{FullName, one, more, TypeName, relative, absolute, begins_with, group_word, MapKey, map_key, NestedMaps, innermost, around, FieldTypeOf, named, a_map, map_of_maps, whole, negative}
 use Rattle.proto_schema.specs.Files.{field, FieldEnd, field_end}
 use Rattle.proto_schema.specs.Reading.{is_mark, by_number, part, full_step, typed_step, behind_key, map_step, of_key, of_inner_key, of_value, of_inner_value, field_step, head, of_type, of_map, of_tail, field_of, tail_step}
@@ -12,13 +13,13 @@ use Rattle.proto_schema.proofs.NameLemmas.{Walks, stay, go, walks_on, walks_in, 
 use Rattle.proto_schema.proofs.NameRest.{behind_dot}
 use Rattle.proto_schema.proofs.OptionReads.{TailGoes, tail_reads}
 use Rattle.proto_schema.proofs.Takes.{Takes, last, next, walk_takes}
-use Rattle.proto_schema.specs.declared.file.Span.{Span}
-use Rattle.proto_schema.specs.declared.file.Word.{Word}
-use Rattle.proto_schema.specs.declared.file.Number.{Number}
-use Rattle.proto_schema.specs.declared.file.FieldLabel.{FieldLabel}
-use Rattle.proto_schema.specs.declared.file.FieldType.{FieldType}
-use Rattle.proto_schema.specs.declared.file.FieldType.TheVariants as types
-use Rattle.proto_schema.specs.declared.file.FieldDecl.{FieldDecl}
+use Rattle.proto_file.specs.declared.file.Span.{Span}
+use Rattle.proto_file.specs.declared.file.Word.{Word}
+use Rattle.proto_file.specs.declared.file.Number.{Number}
+use Rattle.proto_file.specs.declared.file.FieldLabel.{FieldLabel}
+use Rattle.proto_file.specs.declared.file.FieldType.{FieldType}
+use Rattle.proto_file.specs.declared.file.FieldType.TheVariants as types
+use Rattle.proto_file.specs.declared.file.FieldDecl.{FieldDecl}
 use Rattle.proto_schema.specs.declared.fault.ProtoFault.{ProtoFault}
 use Rattle.proto_schema.specs.declared.name.NameState.{NameState}
 use Rattle.proto_schema.specs.declared.name.NameState.TheVariants as names

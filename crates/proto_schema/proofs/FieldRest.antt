@@ -3,7 +3,8 @@ use Rattle.std.proofs.Common.{subst, ◌≡◌, ℕ, Bool, true, false, List, []
 use Rattle.std.specs.Prelude.{Ok, Err, Result, Option, None}
 use Rattle.std.specs.Str.{bytes_eq}
 use Rattle.mrpc_table.specs.declared.words.Decimal.{Decimal}
-use Rattle.proto_schema.specs.Lexemes.{identifier, integer, Lexeme, dot, semicolon, equals, less, span_to, word_at, number_at, IsWord, IsMark, says}
+use Rattle.proto_file.specs.Dot.{dot}
+use Rattle.proto_schema.specs.Lexemes.{identifier, integer, Lexeme, semicolon, equals, less, span_to, word_at, number_at, IsWord, IsMark, says}
 use Rattle.proto_schema.specs.Grammar.{relative, group_word, FieldTypeOf, named, NumberOf, whole, FieldOptions}
 use Rattle.proto_schema.specs.Files.{field, FieldEnd, field_end}
 use Rattle.proto_schema.specs.Reading.{wrong, is_mark, part, fault_at, full_step, type_step, typed_step, begins_map, map_step, tail_step, field_step, more_field, named_step, head, of_type, of_map, of_tail, field_of}
@@ -12,12 +13,12 @@ use Rattle.proto_schema.proofs.NameLemmas.{mark_is}
 use Rattle.proto_schema.proofs.NameRest.{ends, TypedRest, from_start, from_root, from_dot, from_part, from_top, no_group}
 use Rattle.proto_schema.proofs.MapRest.{IsPart, not_map, MapRest, MapBack, map_back, kind_from}
 use Rattle.proto_schema.proofs.TailRest.{TailRest, TailBack, tail_back, OptionsEnd, options_end}
-use Rattle.proto_schema.specs.declared.file.Word.{Word}
-use Rattle.proto_schema.specs.declared.file.Number.{Number}
-use Rattle.proto_schema.specs.declared.file.FieldLabel.{FieldLabel}
-use Rattle.proto_schema.specs.declared.file.FieldType.{FieldType}
-use Rattle.proto_schema.specs.declared.file.FieldType.TheVariants as types
-use Rattle.proto_schema.specs.declared.file.FieldDecl.{FieldDecl}
+use Rattle.proto_file.specs.declared.file.Word.{Word}
+use Rattle.proto_file.specs.declared.file.Number.{Number}
+use Rattle.proto_file.specs.declared.file.FieldLabel.{FieldLabel}
+use Rattle.proto_file.specs.declared.file.FieldType.{FieldType}
+use Rattle.proto_file.specs.declared.file.FieldType.TheVariants as types
+use Rattle.proto_file.specs.declared.file.FieldDecl.{FieldDecl}
 use Rattle.proto_schema.specs.declared.fault.ProtoReason.TheVariants as reasons
 use Rattle.proto_schema.specs.declared.fault.ProtoFault.{ProtoFault}
 use Rattle.proto_schema.specs.declared.name.NameState.{NameState}

@@ -6,14 +6,15 @@ use Rattle.proto_schema.specs.Files
 use Rattle.proto_schema.specs.Files.{Draft, Block, no_block, a_oneof, an_enum, a_service, an_rpc}
 use Rattle.proto_schema.specs.Running.{place_of, place_with, added, read, run}
 use Rattle.proto_schema.proofs.Next.{run_over}
-use Rattle.proto_schema.specs.declared.file.Word.{Word}
-use Rattle.proto_schema.specs.declared.file.File.{File}
+use Rattle.proto_file.specs.declared.file.Word.{Word}
+use Rattle.proto_file.specs.declared.file.File.{File}
 use Rattle.proto_schema.specs.declared.statement.Opening.{Opening}
 use Rattle.proto_schema.specs.declared.statement.State.{State}
 use Rattle.proto_schema.specs.declared.statement.State.TheVariants as states
 use Rattle.proto_schema.specs.declared.statement.Said.{Said}
 use Rattle.proto_schema.specs.declared.statement.Said.TheVariants as said
-use Rattle.proto_schema.specs.Lexemes.{dot, opening_brace, closing_brace, span_to, word_at}
+use Rattle.proto_file.specs.Dot.{dot}
+use Rattle.proto_schema.specs.Lexemes.{opening_brace, closing_brace, span_to, word_at}
 use Rattle.proto_schema.specs.Reading.{full_step, option_step, field_step, reserved_step, value_step, rpc_step}
 use Rattle.proto_schema.specs.Running.{imported, filled_with, without_first, closed_with, closes_in}
 use Rattle.proto_schema.proofs.NameLemmas.{Walks, stay, go, walks_in, FullGoes}
@@ -27,16 +28,16 @@ use Rattle.proto_schema.proofs.ReservedRest.{Kept}
 use Rattle.proto_schema.proofs.StatementRest.{said_of}
 use Rattle.proto_schema.proofs.RunRest.{not_deep, begin_or}
 use Rattle.proto_schema.proofs.StatementRest.{NotBegin}
-use Rattle.proto_schema.specs.declared.file.Span.{Span}
-use Rattle.proto_schema.specs.declared.file.Number.{Number}
-use Rattle.proto_schema.specs.declared.file.Range.{Range}
-use Rattle.proto_schema.specs.declared.file.Import.{Import}
-use Rattle.proto_schema.specs.declared.file.FieldLabel.{FieldLabel}
-use Rattle.proto_schema.specs.declared.file.FieldLabel.TheVariants as labels
-use Rattle.proto_schema.specs.declared.file.FieldType.{FieldType}
-use Rattle.proto_schema.specs.declared.file.FieldDecl.{FieldDecl}
-use Rattle.proto_schema.specs.declared.file.ValueDecl.{ValueDecl}
-use Rattle.proto_schema.specs.declared.file.RpcDecl.{RpcDecl}
+use Rattle.proto_file.specs.declared.file.Span.{Span}
+use Rattle.proto_file.specs.declared.file.Number.{Number}
+use Rattle.proto_file.specs.declared.file.Range.{Range}
+use Rattle.proto_file.specs.declared.file.Import.{Import}
+use Rattle.proto_file.specs.declared.file.FieldLabel.{FieldLabel}
+use Rattle.proto_file.specs.declared.file.FieldLabel.TheVariants as labels
+use Rattle.proto_file.specs.declared.file.FieldType.{FieldType}
+use Rattle.proto_file.specs.declared.file.FieldDecl.{FieldDecl}
+use Rattle.proto_file.specs.declared.file.ValueDecl.{ValueDecl}
+use Rattle.proto_file.specs.declared.file.RpcDecl.{RpcDecl}
 use Rattle.proto_schema.specs.declared.name.NameState.{NameState}
 use Rattle.proto_schema.specs.declared.name.NameState.TheVariants as names
 use Rattle.proto_schema.specs.declared.option.OptionState.{OptionState}
@@ -61,7 +62,7 @@ use Rattle.proto_schema.proofs.OptionReads.{closing_goes, Ready, ready_value, re
 use Rattle.proto_schema.proofs.FieldReads.{first_goes, TypedGoes, MapGoes, MapEnds, in_key, key_comma, in_inner_key, inner_comma, in_value as in_map_value, value_ends as map_value_ends, in_inner_value, inner_value_ends, close_goes, in_type, name_ready, in_map, map_ends, typed_ready, in_tail, tail_ends}
 use Rattle.proto_schema.proofs.RpcReads.{RpcTypeGoes, in_input, input_ends, in_output, output_ends}
 use Rattle.proto_schema.proofs.ValueReads.{RangeGoes, in_tail as in_value_tail, tail_ends as value_tail_ends, in_ranges, range_ends, kept}
-use Rattle.proto_schema.specs.declared.file.FieldType.TheVariants as types
+use Rattle.proto_file.specs.declared.file.FieldType.TheVariants as types
 use Rattle.proto_schema.specs.declared.option.OptionState.TheVariants as option_states
 use Rattle.proto_schema.specs.declared.field.Head.{Head}
 use Rattle.proto_schema.specs.declared.field.MapState.{MapState}

@@ -26,8 +26,8 @@ use Rattle.proto_schema.proofs.Shallow.{get_behind, drop_behind, reading_keeps, 
 use Rattle.proto_schema.proofs.Breaks.{cut_goes_on, reading_fails}
 use Rattle.proto_schema.proofs.Reports.{Told, told, Means, has_name, breaks_off, reading_told}
 use Rattle.proto_schema.proofs.Named.{Reports, here, earlier, named_reports, take_at_most, extend_word}
-use Rattle.proto_schema.specs.declared.file.Span.{Span}
-use Rattle.proto_schema.specs.declared.file.File.{File}
+use Rattle.proto_file.specs.declared.file.Span.{Span}
+use Rattle.proto_file.specs.declared.file.File.{File}
 use Rattle.proto_schema.specs.declared.fault.ProtoReason.{ProtoReason}
 use Rattle.proto_schema.specs.declared.fault.ProtoReason.TheVariants as reasons
 use Rattle.proto_schema.specs.declared.fault.ProtoFault.{ProtoFault}

@@ -7,21 +7,21 @@ use Rattle.proto_schema.specs.Lexemes.{Lexeme, word_at}
 use Rattle.proto_schema.specs.Files
 use Rattle.proto_schema.specs.Files.{Draft, Block, no_block, a_oneof, an_enum, a_service, an_rpc, Statement, Says, Forms, ClosesTo, nothing_said, edit_at, edit_last, first_of, with_file, with_block, in_message, in_enum, in_service, open_message, open_enum, open_service, open_oneof, add_field, add_rpc, oneofs_of, count_oneofs, field}
 use Rattle.proto_schema.specs.Faults.{IsTextOf}
-use Rattle.proto_schema.specs.Order.{IsPlaceBelow, HasName, HasFullName, HasTypeNames, IsFormedField, IsFormedMessage, IsFormedEnum, IsFormedRpc, IsFormedService, IsFormed}
+use Rattle.proto_file.specs.Order.{IsPlaceBelow, HasName, HasFullName, HasTypeNames, IsFormedField, IsFormedMessage, IsFormedEnum, IsFormedRpc, IsFormedService, IsFormed}
 use Rattle.proto_schema.proofs.Places.{nothing_at, all_by_place, contained, in_pushed, before_pushed, pushed, Changed, changed, kept, in_edited_at, length_edited_at, in_edited_last, length_edited_last}
 use Rattle.proto_schema.proofs.Along.{Along, along_split, tokens_along}
 use Rattle.proto_schema.proofs.Spans.{NameWithin, EndWithin, RpcWithin, along_same, word_along, full_along, types_along, end_along, numbered_along, rpc_along}
-use Rattle.proto_schema.specs.declared.file.Word.{Word}
-use Rattle.proto_schema.specs.declared.file.Range.{Range}
-use Rattle.proto_schema.specs.declared.file.Import.{Import}
-use Rattle.proto_schema.specs.declared.file.FieldLabel.TheVariants.{Plain}
-use Rattle.proto_schema.specs.declared.file.FieldDecl.{FieldDecl}
-use Rattle.proto_schema.specs.declared.file.MessageDecl.{MessageDecl}
-use Rattle.proto_schema.specs.declared.file.ValueDecl.{ValueDecl}
-use Rattle.proto_schema.specs.declared.file.EnumDecl.{EnumDecl}
-use Rattle.proto_schema.specs.declared.file.RpcDecl.{RpcDecl}
-use Rattle.proto_schema.specs.declared.file.ServiceDecl.{ServiceDecl}
-use Rattle.proto_schema.specs.declared.file.File.{File}
+use Rattle.proto_file.specs.declared.file.Word.{Word}
+use Rattle.proto_file.specs.declared.file.Range.{Range}
+use Rattle.proto_file.specs.declared.file.Import.{Import}
+use Rattle.proto_file.specs.declared.file.FieldLabel.TheVariants.{Plain}
+use Rattle.proto_file.specs.declared.file.FieldDecl.{FieldDecl}
+use Rattle.proto_file.specs.declared.file.MessageDecl.{MessageDecl}
+use Rattle.proto_file.specs.declared.file.ValueDecl.{ValueDecl}
+use Rattle.proto_file.specs.declared.file.EnumDecl.{EnumDecl}
+use Rattle.proto_file.specs.declared.file.RpcDecl.{RpcDecl}
+use Rattle.proto_file.specs.declared.file.ServiceDecl.{ServiceDecl}
+use Rattle.proto_file.specs.declared.file.File.{File}
 
 -- ---- messages, enums and services so far
 

@@ -3,17 +3,17 @@ use Rattle.std.proofs.Common.{◌≡◌, ◌⊎◌, inl, inr, ℕ, zero, suc, �
 use Rattle.std.specs.Prelude.{Some, slice_get}
 use Rattle.std.proofs.lemmas.Bool.{cases_order}
 use Rattle.std.proofs.lemmas.Option.{slice_get_within}
-use Rattle.proto_schema.specs.Order.{Declaration, import_decl, message_decl, field_decl, oneof_decl, enum_decl, value_decl, service_decl, rpc_decl, Part, its_type, its_key, its_value, its_name, its_number, its_input, its_output, rank_of, IsOfField, IsOfValue, IsOfRpc, StandsAt, Precedes, IsOrdered}
-use Rattle.proto_schema.specs.Order
-use Rattle.proto_schema.specs.declared.file.Span.{Span}
-use Rattle.proto_schema.specs.declared.file.MessageDecl.{MessageDecl}
-use Rattle.proto_schema.specs.declared.file.EnumDecl.{EnumDecl}
-use Rattle.proto_schema.specs.declared.file.File.{File}
-use Rattle.proto_schema.specs.declared.file.Word.{Word}
-use Rattle.proto_schema.specs.declared.file.FieldDecl.{FieldDecl}
-use Rattle.proto_schema.specs.declared.file.ValueDecl.{ValueDecl}
-use Rattle.proto_schema.specs.declared.file.RpcDecl.{RpcDecl}
-use Rattle.proto_schema.specs.declared.file.ServiceDecl.{ServiceDecl}
+use Rattle.proto_file.specs.Order.{Declaration, import_decl, message_decl, field_decl, oneof_decl, enum_decl, value_decl, service_decl, rpc_decl, Part, its_type, its_key, its_value, its_name, its_number, its_input, its_output, rank_of, IsOfField, IsOfValue, IsOfRpc, StandsAt, Precedes, IsOrdered}
+use Rattle.proto_file.specs.Order
+use Rattle.proto_file.specs.declared.file.Span.{Span}
+use Rattle.proto_file.specs.declared.file.MessageDecl.{MessageDecl}
+use Rattle.proto_file.specs.declared.file.EnumDecl.{EnumDecl}
+use Rattle.proto_file.specs.declared.file.File.{File}
+use Rattle.proto_file.specs.declared.file.Word.{Word}
+use Rattle.proto_file.specs.declared.file.FieldDecl.{FieldDecl}
+use Rattle.proto_file.specs.declared.file.ValueDecl.{ValueDecl}
+use Rattle.proto_file.specs.declared.file.RpcDecl.{RpcDecl}
+use Rattle.proto_file.specs.declared.file.ServiceDecl.{ServiceDecl}
 use Rattle.proto_schema.specs.Files.{field}
 use Rattle.proto_schema.proofs.Places.{one_at}
 use Rattle.proto_schema.proofs.Spans.{IsWithin}

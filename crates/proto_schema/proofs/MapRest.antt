@@ -4,16 +4,17 @@ use Rattle.std.specs.Prelude.{Ok, Err, Result, Option, Some, None, if◌then◌e
 use Rattle.std.specs.Str.{bytes_eq}
 use Rattle.std.proofs.lemmas.Bool.{leb-true, leb-false}
 use Rattle.std.proofs.lemmas.List.{append_assoc}
-use Rattle.proto_schema.specs.Lexemes.{identifier, Lexeme, dot, comma, less, greater, span_to, word_at, IsWord, IsMark, says}
+use Rattle.proto_file.specs.Dot.{dot}
+use Rattle.proto_schema.specs.Lexemes.{identifier, Lexeme, comma, less, greater, span_to, word_at, IsWord, IsMark, says}
 use Rattle.proto_schema.specs.Grammar.{relative, group_word, map_key, NestedMaps, innermost, around, FieldTypeOf, a_map, map_of_maps}
 use Rattle.proto_schema.specs.Reading.{wrong, is_mark, part, fault_at, full_step, type_step, typed_step, key_step, behind_key, map_step, more_map, of_key, of_inner_key, of_value, of_inner_value, begins_map, closed}
 use Rattle.proto_schema.proofs.Choices.{either_is, named_is, same_bytes, and_both, dotted_differs}
 use Rattle.proto_schema.proofs.NameLemmas.{mark_is}
 use Rattle.proto_schema.proofs.NameRest.{ends, TypedRest, NameBack, from_start, from_root, from_dot, from_part, from_top, typed_back, no_group}
-use Rattle.proto_schema.specs.declared.file.Span.{Span}
-use Rattle.proto_schema.specs.declared.file.Word.{Word}
-use Rattle.proto_schema.specs.declared.file.FieldType.{FieldType}
-use Rattle.proto_schema.specs.declared.file.FieldType.TheVariants as types
+use Rattle.proto_file.specs.declared.file.Span.{Span}
+use Rattle.proto_file.specs.declared.file.Word.{Word}
+use Rattle.proto_file.specs.declared.file.FieldType.{FieldType}
+use Rattle.proto_file.specs.declared.file.FieldType.TheVariants as types
 use Rattle.proto_schema.specs.declared.fault.ProtoReason.TheVariants as reasons
 use Rattle.proto_schema.specs.declared.fault.ProtoFault.{ProtoFault}
 use Rattle.proto_schema.specs.declared.name.NameState.{NameState}

@@ -2,13 +2,14 @@
 use Rattle.std.proofs.Common.{subst, ◌≡◌, ℕ, false, List, [], ◌∷◌, ◌++◌, codes, refl, ap, sym}
 use Rattle.std.specs.Prelude.{Ok, Err, Result}
 use Rattle.std.proofs.lemmas.List.{append_assoc}
-use Rattle.proto_schema.specs.Lexemes.{Lexeme, dot, span_to, word_at, joined, rooted, IsWord, IsMark, says}
+use Rattle.proto_file.specs.Dot.{dot}
+use Rattle.proto_schema.specs.Lexemes.{Lexeme, span_to, word_at, joined, rooted, IsWord, IsMark, says}
 use Rattle.proto_schema.specs.Grammar.{FullName, one, more, TypeName, relative, absolute, begins_with, group_word}
 use Rattle.proto_schema.specs.Reading.{is_mark, part, full_step, type_step, typed_step, fault_at}
 use Rattle.proto_schema.proofs.Choices.{either_is, named_is}
 use Rattle.proto_schema.proofs.NameLemmas.{mark_is}
-use Rattle.proto_schema.specs.declared.file.Span.{Span}
-use Rattle.proto_schema.specs.declared.file.Word.{Word}
+use Rattle.proto_file.specs.declared.file.Span.{Span}
+use Rattle.proto_file.specs.declared.file.Word.{Word}
 use Rattle.proto_schema.specs.declared.fault.ProtoFault.{ProtoFault}
 use Rattle.proto_schema.specs.declared.fault.ProtoReason.TheVariants as reasons
 use Rattle.proto_schema.specs.declared.name.NameState.{NameState}

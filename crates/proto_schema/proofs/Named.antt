@@ -19,10 +19,10 @@ use Rattle.proto_schema.proofs.FieldReads.{TypedGoes, first_goes, typed_reads, M
 use Rattle.proto_schema.proofs.RpcReads.{RpcGoes, RpcTypeGoes, quiet, in_input, input_ends, in_output, start_goes, named_goes, returns_goes, open_goes, rpc_type_reads}
 use Rattle.proto_schema.proofs.RunReads.{StepGoes, in_file, in_message, in_block, import_word, optional_word, repeated_word, rpc_word, in_field, in_rpc, by_word, message_leads, oneof_leads, map_no_statement, map_no_member, run_goes}
 use Rattle.proto_schema.proofs.Shallow.{SaysWell, says_well, says_deep, deep, says_well_or, drop_behind, get_behind}
-use Rattle.proto_schema.specs.declared.file.Span.{Span}
-use Rattle.proto_schema.specs.declared.file.Word.{Word}
-use Rattle.proto_schema.specs.declared.file.FieldLabel.{FieldLabel}
-use Rattle.proto_schema.specs.declared.file.FieldLabel.TheVariants as labels
+use Rattle.proto_file.specs.declared.file.Span.{Span}
+use Rattle.proto_file.specs.declared.file.Word.{Word}
+use Rattle.proto_file.specs.declared.file.FieldLabel.{FieldLabel}
+use Rattle.proto_file.specs.declared.file.FieldLabel.TheVariants as labels
 use Rattle.proto_schema.specs.declared.fault.ProtoReason.{ProtoReason}
 use Rattle.proto_schema.specs.declared.fault.ProtoReason.TheVariants as reasons
 use Rattle.proto_schema.specs.declared.fault.ProtoFault.{ProtoFault}

@@ -3,13 +3,14 @@ use Rattle.std.proofs.Common.{subst, ◌≡◌, ◌≢◌, ◌⊎◌, inl, inr, 
 use Rattle.std.specs.Prelude.{Ok, Option, None, ◌&&◌}
 use Rattle.std.proofs.lemmas.Bool.{ne_eqb, lt-leb, and_right}
 use Rattle.std.proofs.lemmas.List.{append_assoc}
-use Rattle.proto_schema.specs.Lexemes.{Meaning, identifier, integer, number, string, mark, the_end, none, Lexeme, dot, comma, semicolon, equals, minus, plus, opening_brace, closing_brace, opening_paren, closing_paren, opening_bracket, closing_bracket, IsWord, IsMark, says}
+use Rattle.proto_file.specs.Dot.{dot}
+use Rattle.proto_schema.specs.Lexemes.{Meaning, identifier, integer, number, string, mark, the_end, none, Lexeme, comma, semicolon, equals, minus, plus, opening_brace, closing_brace, opening_paren, closing_paren, opening_bracket, closing_bracket, IsWord, IsMark, says}
 use Rattle.proto_schema.specs.Grammar.{FullName, one, more, TypeName, relative, absolute, Closes, last_brace, closing, opening, other, Strings, one_string, strings, AnyNumber, an_integer, a_number, truth, Value, a_name, unsigned, signed, texts, block, OptionPart, plain_part, custom_part, OptionName, one_part, parts, is_packed, OptionOf, option, latest, OptionList, one_option, options, FieldOptions, no_options, bracketed}
 use Rattle.proto_schema.specs.Reading.{is_mark, truth_of, brace_step, option_step, next_option, tail_step, of_option}
 use Rattle.proto_schema.proofs.NameLemmas.{Walks, stay, go, walks_on, walks_in, word_no_mark, is_name}
 use Rattle.proto_schema.proofs.OptionRest.{said_if, untrue, truth_none}
 use Rattle.proto_schema.proofs.TailRest.{latest_assoc, latest_none}
-use Rattle.proto_schema.specs.declared.file.Word.{Word}
+use Rattle.proto_file.specs.declared.file.Word.{Word}
 use Rattle.proto_schema.specs.declared.option.OptionState.{OptionState}
 use Rattle.proto_schema.specs.declared.option.OptionState.TheVariants as states
 use Rattle.proto_schema.specs.declared.option.OptionStep.TheVariants as steps

@@ -3,12 +3,13 @@ use Rattle.std.proofs.Common.{subst, ◌≡◌, ◌≢◌, ◌⊎◌, inl, inr, 
 use Rattle.std.specs.Prelude.{Ok, Err, Result, Option, None, if◌then◌else◌, ◌&&◌, ◌||◌}
 use Rattle.std.proofs.lemmas.Bool.{eqb-true, eqb-false, leb-true, leb-false}
 use Rattle.std.proofs.lemmas.List.{append_assoc}
-use Rattle.proto_schema.specs.Lexemes.{Meaning, identifier, integer, number, string, mark, the_end, none, Lexeme, dot, equals, minus, plus, opening_brace, closing_brace, opening_paren, closing_paren, IsWord, IsMark, says}
+use Rattle.proto_file.specs.Dot.{dot}
+use Rattle.proto_schema.specs.Lexemes.{Meaning, identifier, integer, number, string, mark, the_end, none, Lexeme, equals, minus, plus, opening_brace, closing_brace, opening_paren, closing_paren, IsWord, IsMark, says}
 use Rattle.proto_schema.specs.Grammar.{FullName, one, more, TypeName, relative, absolute, Closes, last_brace, closing, opening, other, Strings, one_string, strings, AnyNumber, an_integer, a_number, truth, Value, a_name, unsigned, signed, texts, block, plain_part, custom_part, OptionName, one_part, parts, is_packed}
 use Rattle.proto_schema.specs.Reading.{wrong, is_mark, is_string, is_number, if_name, more_option, truth_of, value_start, brace_step, option_step}
 use Rattle.proto_schema.proofs.Choices.{either_is, named_is, string_meant, number_meant}
 use Rattle.proto_schema.proofs.NameLemmas.{mark_is}
-use Rattle.proto_schema.specs.declared.file.Word.{Word}
+use Rattle.proto_file.specs.declared.file.Word.{Word}
 use Rattle.proto_schema.specs.declared.fault.ProtoFault.{ProtoFault}
 use Rattle.proto_schema.specs.declared.option.OptionState.{OptionState}
 use Rattle.proto_schema.specs.declared.option.OptionState.TheVariants as states

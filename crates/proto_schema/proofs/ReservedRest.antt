@@ -8,10 +8,10 @@ use Rattle.proto_schema.specs.Grammar.{NumberOf, whole, negative, RangeOf, singl
 use Rattle.proto_schema.specs.Reading.{wrong, is_mark, is_string, if_number, range_step, a_range, whole_range, more_reserved, of_range, behind_range, ranges_step, reserved_name, reserved_part_step}
 use Rattle.proto_schema.proofs.Choices.{either_is, numbered_is, string_is, word_is, and_both}
 use Rattle.proto_schema.proofs.NameLemmas.{mark_is}
-use Rattle.proto_schema.specs.declared.file.Span.{Span}
-use Rattle.proto_schema.specs.declared.file.Word.{Word}
-use Rattle.proto_schema.specs.declared.file.Number.{Number}
-use Rattle.proto_schema.specs.declared.file.Range.{Range}
+use Rattle.proto_file.specs.declared.file.Span.{Span}
+use Rattle.proto_file.specs.declared.file.Word.{Word}
+use Rattle.proto_file.specs.declared.file.Number.{Number}
+use Rattle.proto_file.specs.declared.file.Range.{Range}
 use Rattle.proto_schema.specs.declared.fault.ProtoFault.{ProtoFault}
 use Rattle.proto_schema.specs.declared.reserved.RangeState.{RangeState}
 use Rattle.proto_schema.specs.declared.reserved.RangeState.TheVariants as ranges

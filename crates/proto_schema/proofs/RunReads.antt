@@ -9,8 +9,8 @@ use Rattle.proto_schema.specs.Files.{Draft, Block, no_block, a_oneof, an_enum, a
 use Rattle.proto_schema.specs.Reading.{unexpected}
 use Rattle.proto_schema.specs.Running.{place_of, place_with, added, statement_step, read, is_file, is_end, is_over, is_too_deep, behind, run, reading}
 use Rattle.proto_schema.proofs.Next.{run_step, run_over}
-use Rattle.proto_schema.specs.declared.file.Word.{Word}
-use Rattle.proto_schema.specs.declared.file.File.{File}
+use Rattle.proto_file.specs.declared.file.Word.{Word}
+use Rattle.proto_file.specs.declared.file.File.{File}
 use Rattle.proto_schema.specs.declared.fault.ProtoFault.{ProtoFault}
 use Rattle.proto_schema.specs.declared.statement.Opening.{Opening}
 use Rattle.proto_schema.specs.declared.statement.Opening.TheVariants as openings
@@ -21,7 +21,8 @@ use Rattle.proto_schema.specs.declared.statement.Said.TheVariants as said
 use Rattle.proto_schema.specs.declared.statement.Step.{Step}
 use Rattle.proto_schema.specs.declared.statement.Step.TheVariants as steps
 use Rattle.std.proofs.lemmas.Bool.{or_parts}
-use Rattle.proto_schema.specs.Lexemes.{dot, opening_brace, closing_brace, word_at}
+use Rattle.proto_file.specs.Dot.{dot}
+use Rattle.proto_schema.specs.Lexemes.{opening_brace, closing_brace, word_at}
 use Rattle.proto_schema.specs.Lexemes.{says_one_of}
 use Rattle.proto_schema.specs.Grammar.{NumberOf, FieldOptions, one, more as further, FieldTypeOf, named, a_map, map_of_maps, MapKey, map_key, relative, absolute, begins_with, group_word, member_words, statement_words}
 use Rattle.proto_schema.specs.Files.{LabelOf, plain, optional, repeated, FieldEnd, field, ClosesTo}
@@ -39,15 +40,15 @@ use Rattle.proto_schema.proofs.StatementRest.{said_of}
 use Rattle.std.proofs.lemmas.Bool.{and_right}
 use Rattle.proto_schema.proofs.BeginRest.{no_block_field}
 use Rattle.proto_schema.proofs.RunRest.{not_deep}
-use Rattle.proto_schema.specs.declared.file.Number.{Number}
-use Rattle.proto_schema.specs.declared.file.Range.{Range}
-use Rattle.proto_schema.specs.declared.file.Import.{Import}
-use Rattle.proto_schema.specs.declared.file.FieldLabel.{FieldLabel}
-use Rattle.proto_schema.specs.declared.file.FieldLabel.TheVariants as labels
-use Rattle.proto_schema.specs.declared.file.FieldType.{FieldType}
-use Rattle.proto_schema.specs.declared.file.FieldDecl.{FieldDecl}
-use Rattle.proto_schema.specs.declared.file.ValueDecl.{ValueDecl}
-use Rattle.proto_schema.specs.declared.file.RpcDecl.{RpcDecl}
+use Rattle.proto_file.specs.declared.file.Number.{Number}
+use Rattle.proto_file.specs.declared.file.Range.{Range}
+use Rattle.proto_file.specs.declared.file.Import.{Import}
+use Rattle.proto_file.specs.declared.file.FieldLabel.{FieldLabel}
+use Rattle.proto_file.specs.declared.file.FieldLabel.TheVariants as labels
+use Rattle.proto_file.specs.declared.file.FieldType.{FieldType}
+use Rattle.proto_file.specs.declared.file.FieldDecl.{FieldDecl}
+use Rattle.proto_file.specs.declared.file.ValueDecl.{ValueDecl}
+use Rattle.proto_file.specs.declared.file.RpcDecl.{RpcDecl}
 use Rattle.proto_schema.specs.declared.name.NameState.{NameState}
 use Rattle.proto_schema.specs.declared.name.NameState.TheVariants as names
 use Rattle.proto_schema.specs.declared.option.OptionState.{OptionState}

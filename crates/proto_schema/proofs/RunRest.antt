@@ -14,7 +14,7 @@ use Rattle.proto_schema.proofs.NameLemmas.{mark_is}
 use Rattle.proto_schema.proofs.Next.{run_step, run_over}
 use Rattle.proto_schema.proofs.StatementRest.{Rest, NotBegin, Back, statement_back}
 use Rattle.proto_schema.proofs.BeginRest.{BeginBack, begin_back}
-use Rattle.proto_schema.specs.declared.file.File.{File}
+use Rattle.proto_file.specs.declared.file.File.{File}
 use Rattle.proto_schema.specs.declared.fault.ProtoReason.TheVariants as reasons
 use Rattle.proto_schema.specs.declared.fault.ProtoFault.{ProtoFault}
 use Rattle.proto_schema.specs.declared.statement.Opening.TheVariants as openings

@@ -12,8 +12,8 @@ use Rattle.proto_schema.specs.Reading.{fault_at, unexpected, is_mark}
 use Rattle.proto_schema.specs.Running.{place_of, added, statement_step, read, failed, is_over, is_too_deep, behind, run, reading, behind_word, behind_equals, behind_value, behind_syntax, Outcome}
 use Rattle.proto_schema.proofs.Choices.{either_is}
 use Rattle.proto_schema.proofs.Next.{run_step, run_over}
-use Rattle.proto_schema.specs.declared.file.Word.{Word}
-use Rattle.proto_schema.specs.declared.file.File.{File}
+use Rattle.proto_file.specs.declared.file.Word.{Word}
+use Rattle.proto_file.specs.declared.file.File.{File}
 use Rattle.proto_schema.specs.declared.fault.ProtoReason.TheVariants as reasons
 use Rattle.proto_schema.specs.declared.fault.ProtoFault.{ProtoFault}
 use Rattle.proto_schema.specs.declared.statement.Place.{Place}

@@ -8,15 +8,15 @@ use Rattle.proto_schema.specs.Files
 use Rattle.proto_schema.specs.Files.{nothing_said}
 use Rattle.proto_schema.specs.Faults
 use Rattle.proto_schema.specs.Faults.{IsNamed}
-use Rattle.proto_schema.specs.Order
-use Rattle.proto_schema.specs.Order.{IsFormed, IsOrdered, StandsAt, message_decl, field_decl, its_type, its_name, its_number}
+use Rattle.proto_file.specs.Order
+use Rattle.proto_file.specs.Order.{IsFormed, IsOrdered, StandsAt, message_decl, field_decl, its_type, its_name, its_number}
 use Rattle.proto_schema.specs.declared.fault.ProtoReason.TheVariants as reasons
-use Rattle.proto_schema.specs.declared.file.Span.{Span}
-use Rattle.proto_schema.specs.declared.file.FieldLabel.TheVariants.{Plain}
-use Rattle.proto_schema.specs.declared.file.FieldType.TheVariants.{Named}
-use Rattle.proto_schema.specs.declared.file.FieldDecl.{FieldDecl}
-use Rattle.proto_schema.specs.declared.file.MessageDecl.{MessageDecl}
-use Rattle.proto_schema.specs.declared.file.File.{File}
+use Rattle.proto_file.specs.declared.file.Span.{Span}
+use Rattle.proto_file.specs.declared.file.FieldLabel.TheVariants.{Plain}
+use Rattle.proto_file.specs.declared.file.FieldType.TheVariants.{Named}
+use Rattle.proto_file.specs.declared.file.FieldDecl.{FieldDecl}
+use Rattle.proto_file.specs.declared.file.MessageDecl.{MessageDecl}
+use Rattle.proto_file.specs.declared.file.File.{File}
 
 abbrev at : ℕ → Meaning → Lexeme
 at n m = record { means = m; span = record { start = n; end = n; line = 1 } }

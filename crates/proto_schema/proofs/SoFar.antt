@@ -6,7 +6,8 @@ use Rattle.std.specs.Str.{bytes_eq}
 use Rattle.std.proofs.lemmas.Bool.{or_parts}
 use Rattle.std.proofs.lemmas.List.{append_assoc, append-nil}
 use Rattle.mrpc_table.specs.declared.words.Decimal.{Decimal}
-use Rattle.proto_schema.specs.Lexemes.{Meaning, identifier, integer, number, string, mark, the_end, none, Lexeme, dot, comma, semicolon, equals, minus, plus, opening_brace, closing_brace, opening_paren, closing_paren, opening_bracket, closing_bracket, less, greater, span_to, word_at, number_at, IsWord, IsMark, says, says_one_of}
+use Rattle.proto_file.specs.Dot.{dot}
+use Rattle.proto_schema.specs.Lexemes.{Meaning, identifier, integer, number, string, mark, the_end, none, Lexeme, comma, semicolon, equals, minus, plus, opening_brace, closing_brace, opening_paren, closing_paren, opening_bracket, closing_bracket, less, greater, span_to, word_at, number_at, IsWord, IsMark, says, says_one_of}
 use Rattle.proto_schema.specs.Grammar.{TypeName, begins_with, group_word, MapKey, map_key, RpcType, latest}
 use Rattle.proto_schema.specs.Files.{Draft, Block, no_block, a_oneof, an_enum, a_service, an_rpc, InFile, InMessage, InBody, LabelOf, plain, optional, repeated}
 use Rattle.proto_schema.specs.Faults
@@ -20,13 +21,13 @@ use Rattle.proto_schema.proofs.NameRest.{NameBack, TypedRest, typed_back}
 use Rattle.proto_schema.proofs.MapRest.{ValueBack, typed_value}
 use Rattle.proto_schema.proofs.RpcRest.{RpcTypeRest, TypeInBack, type_in_back}
 use Rattle.proto_schema.proofs.StatementRest.{NotBegin}
-use Rattle.proto_schema.specs.declared.file.Span.{Span}
-use Rattle.proto_schema.specs.declared.file.Word.{Word}
-use Rattle.proto_schema.specs.declared.file.Number.{Number}
-use Rattle.proto_schema.specs.declared.file.Range.{Range}
-use Rattle.proto_schema.specs.declared.file.FieldLabel.{FieldLabel}
-use Rattle.proto_schema.specs.declared.file.FieldLabel.TheVariants as labels
-use Rattle.proto_schema.specs.declared.file.FieldType.TheVariants as types
+use Rattle.proto_file.specs.declared.file.Span.{Span}
+use Rattle.proto_file.specs.declared.file.Word.{Word}
+use Rattle.proto_file.specs.declared.file.Number.{Number}
+use Rattle.proto_file.specs.declared.file.Range.{Range}
+use Rattle.proto_file.specs.declared.file.FieldLabel.{FieldLabel}
+use Rattle.proto_file.specs.declared.file.FieldLabel.TheVariants as labels
+use Rattle.proto_file.specs.declared.file.FieldType.TheVariants as types
 use Rattle.proto_schema.specs.declared.fault.ProtoReason.TheVariants as reasons
 use Rattle.proto_schema.specs.declared.fault.ProtoFault.{ProtoFault}
 use Rattle.proto_schema.specs.declared.name.NameState.{NameState}

@@ -5,13 +5,13 @@ use Rattle.proto_schema.specs.Lexemes.{Lexeme, IsWord, word_at}
 use Rattle.proto_schema.specs.Grammar
 use Rattle.proto_schema.specs.Grammar.{FullName, TypeName, MapKey, NestedMaps, FieldTypeOf, RpcType, NumberOf}
 use Rattle.proto_schema.specs.Files.{FieldEnd, field_end, RpcHead, rpc_head}
-use Rattle.proto_schema.specs.Order.{HasName, HasFullName, HasTypeName, relative, absolute, HasTypeNames}
+use Rattle.proto_file.specs.Order.{HasName, HasFullName, HasTypeName, relative, absolute, HasTypeNames}
 use Rattle.proto_schema.proofs.Along.{Along, along_ends, along_split, full_of_one, full_of_more}
-use Rattle.proto_schema.specs.declared.file.Word.{Word}
-use Rattle.proto_schema.specs.declared.file.Number.{Number}
-use Rattle.proto_schema.specs.declared.file.FieldType.{FieldType}
-use Rattle.proto_schema.specs.declared.file.FieldType.TheVariants.{Named, Map, NestedMap}
-use Rattle.proto_schema.specs.declared.file.RpcDecl.{RpcDecl}
+use Rattle.proto_file.specs.declared.file.Word.{Word}
+use Rattle.proto_file.specs.declared.file.Number.{Number}
+use Rattle.proto_file.specs.declared.file.FieldType.{FieldType}
+use Rattle.proto_file.specs.declared.file.FieldType.TheVariants.{Named, Map, NestedMap}
+use Rattle.proto_file.specs.declared.file.RpcDecl.{RpcDecl}
 
 pub record IsWithin (b e start : ℕ) : Type 0 where
   pub behind : b ≤ start

@@ -13,11 +13,11 @@ use Rattle.proto_schema.proofs.FieldRest.{FieldRest, FieldBack, field_back}
 use Rattle.proto_schema.proofs.ReservedRest.{Kept, ReservedRest, ReservedBack, part_back}
 use Rattle.proto_schema.proofs.ValueRest.{ValueRest, ValueBack, value_back}
 use Rattle.proto_schema.proofs.RpcRest.{RpcRest, RpcBack, rpc_back}
-use Rattle.proto_schema.specs.declared.file.Word.{Word}
-use Rattle.proto_schema.specs.declared.file.Import.{Import}
-use Rattle.proto_schema.specs.declared.file.FieldDecl.{FieldDecl}
-use Rattle.proto_schema.specs.declared.file.ValueDecl.{ValueDecl}
-use Rattle.proto_schema.specs.declared.file.RpcDecl.{RpcDecl}
+use Rattle.proto_file.specs.declared.file.Word.{Word}
+use Rattle.proto_file.specs.declared.file.Import.{Import}
+use Rattle.proto_file.specs.declared.file.FieldDecl.{FieldDecl}
+use Rattle.proto_file.specs.declared.file.ValueDecl.{ValueDecl}
+use Rattle.proto_file.specs.declared.file.RpcDecl.{RpcDecl}
 use Rattle.proto_schema.specs.declared.fault.ProtoReason.TheVariants as reasons
 use Rattle.proto_schema.specs.declared.fault.ProtoFault.{ProtoFault}
 use Rattle.proto_schema.specs.declared.name.NameState.{NameState}

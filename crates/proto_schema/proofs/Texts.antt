@@ -9,9 +9,9 @@ use Rattle.proto_schema.specs.Running.{read, failed, Comes, reading}
 use Rattle.proto_schema.specs.Reading.{fault_at}
 use Rattle.proto_schema.proofs.Shallow.{text_of, read_of}
 use Rattle.proto_schema.proofs.FirstFaults.{failed_first}
-use Rattle.proto_schema.specs.declared.file.Span.{Span}
+use Rattle.proto_file.specs.declared.file.Span.{Span}
 use Rattle.proto_schema.specs.declared.fault.ProtoReason.{ProtoReason}
-use Rattle.proto_schema.specs.declared.file.File.{File}
+use Rattle.proto_file.specs.declared.file.File.{File}
 use Rattle.proto_schema.specs.declared.fault.ProtoFault.{ProtoFault}
 use Rattle.proto_schema.specs.declared.fault.ProtoFault.TheVariants as fault
 

@@ -13,11 +13,11 @@ use Rattle.proto_schema.proofs.OptionReads.{TailGoes, tail_reads}
 use Rattle.proto_schema.proofs.Takes.{Takes, last, next, walk_takes}
 use Rattle.proto_schema.proofs.ValueRest.{value_of}
 use Rattle.proto_schema.proofs.ReservedRest.{Kept}
-use Rattle.proto_schema.specs.declared.file.Span.{Span}
-use Rattle.proto_schema.specs.declared.file.Word.{Word}
-use Rattle.proto_schema.specs.declared.file.Number.{Number}
-use Rattle.proto_schema.specs.declared.file.Range.{Range}
-use Rattle.proto_schema.specs.declared.file.ValueDecl.{ValueDecl}
+use Rattle.proto_file.specs.declared.file.Span.{Span}
+use Rattle.proto_file.specs.declared.file.Word.{Word}
+use Rattle.proto_file.specs.declared.file.Number.{Number}
+use Rattle.proto_file.specs.declared.file.Range.{Range}
+use Rattle.proto_file.specs.declared.file.ValueDecl.{ValueDecl}
 use Rattle.proto_schema.specs.declared.fault.ProtoFault.{ProtoFault}
 use Rattle.proto_schema.specs.declared.value.ValueState.{ValueState}
 use Rattle.proto_schema.specs.declared.value.ValueState.TheVariants as values

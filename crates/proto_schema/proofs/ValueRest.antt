@@ -8,10 +8,10 @@ use Rattle.proto_schema.specs.Reading.{wrong, is_mark, if_number, tail_step, val
 use Rattle.proto_schema.proofs.Choices.{either_is, numbered_is}
 use Rattle.proto_schema.proofs.NameLemmas.{mark_is}
 use Rattle.proto_schema.proofs.TailRest.{TailRest, TailBack, tail_back, OptionsEnd, options_end}
-use Rattle.proto_schema.specs.declared.file.Span.{Span}
-use Rattle.proto_schema.specs.declared.file.Word.{Word}
-use Rattle.proto_schema.specs.declared.file.Number.{Number}
-use Rattle.proto_schema.specs.declared.file.ValueDecl.{ValueDecl}
+use Rattle.proto_file.specs.declared.file.Span.{Span}
+use Rattle.proto_file.specs.declared.file.Word.{Word}
+use Rattle.proto_file.specs.declared.file.Number.{Number}
+use Rattle.proto_file.specs.declared.file.ValueDecl.{ValueDecl}
 use Rattle.proto_schema.specs.declared.fault.ProtoFault.{ProtoFault}
 use Rattle.proto_schema.specs.declared.value.ValueState.{ValueState}
 use Rattle.proto_schema.specs.declared.value.ValueState.TheVariants as values

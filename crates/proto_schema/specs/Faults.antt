@@ -4,15 +4,16 @@ use Rattle.std.specs.Prelude.{length, take, Some, slice_get}
 use Rattle.proto_tokens.specs.Tokens.{AreTokens}
 use Rattle.proto_tokens.specs.declared.token.Token.{Token}
 use Rattle.proto_schema.specs.Lexemes.{Lexeme, Meaning, identifier, string, mark, the_end, none, lexemes, IsWord}
-use Rattle.proto_schema.specs.Lexemes.{IsMark, dot, less, equals, opening_brace, opening_paren, closing_paren, says}
+use Rattle.proto_file.specs.Dot.{dot}
+use Rattle.proto_schema.specs.Lexemes.{IsMark, less, equals, opening_brace, opening_paren, closing_paren, says}
 use Rattle.proto_schema.specs.Lexemes.{says_one_of}
 use Rattle.proto_schema.specs.Grammar.{MapKey, RpcType}
 use Rattle.proto_schema.specs.Files.{Draft, InFile, InMessage, InBody, a_oneof, a_service, LabelOf, Says, Forms}
 use Rattle.proto_schema.specs.Files.{MOST_OPEN}
-use Rattle.proto_schema.specs.declared.file.FieldLabel.{FieldLabel}
-use Rattle.proto_schema.specs.declared.file.Word.{Word}
-use Rattle.proto_schema.specs.declared.file.File.{File}
-use Rattle.proto_schema.specs.declared.file.Span.{Span}
+use Rattle.proto_file.specs.declared.file.FieldLabel.{FieldLabel}
+use Rattle.proto_file.specs.declared.file.Word.{Word}
+use Rattle.proto_file.specs.declared.file.File.{File}
+use Rattle.proto_file.specs.declared.file.Span.{Span}
 use Rattle.proto_schema.specs.declared.fault.ProtoReason.{ProtoReason}
 use Rattle.proto_schema.specs.declared.fault.ProtoReason.TheVariants.{Token as NoToken, Expected, Import, Stream, Group}
 use Rattle.proto_schema.specs.declared.fault.ProtoReason.TheVariants.{Extend, Syntax2, Nesting}

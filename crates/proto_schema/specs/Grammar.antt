@@ -4,14 +4,15 @@ use Rattle.std.specs.Prelude.{◌≡◌, ◌≢◌, ◌⊎◌, ℕ, suc, Bool, t
 use Rattle.std.specs.Prelude.{if◌then◌else◌}
 use Rattle.mrpc_table.specs.declared.words.Decimal.{Decimal}
 use Rattle.proto_schema.specs.Lexemes.{Lexeme, integer, number, string, mark, the_end, none, says, says_one_of, IsWord}
-use Rattle.proto_schema.specs.Lexemes.{IsMark, dot, comma, equals, minus, plus, opening_brace, closing_brace}
+use Rattle.proto_file.specs.Dot.{dot}
+use Rattle.proto_schema.specs.Lexemes.{IsMark, comma, equals, minus, plus, opening_brace, closing_brace}
 use Rattle.proto_schema.specs.Lexemes.{opening_paren, closing_paren, opening_bracket, closing_bracket, less, greater}
 use Rattle.proto_schema.specs.Lexemes.{span_to, word_at, joined, rooted, number_at}
-use Rattle.proto_schema.specs.declared.file.Word.{Word}
-use Rattle.proto_schema.specs.declared.file.Number.{Number}
-use Rattle.proto_schema.specs.declared.file.Range.{Range}
-use Rattle.proto_schema.specs.declared.file.FieldType.{FieldType}
-use Rattle.proto_schema.specs.declared.file.FieldType.TheVariants.{Named, Map, NestedMap}
+use Rattle.proto_file.specs.declared.file.Word.{Word}
+use Rattle.proto_file.specs.declared.file.Number.{Number}
+use Rattle.proto_file.specs.declared.file.Range.{Range}
+use Rattle.proto_file.specs.declared.file.FieldType.{FieldType}
+use Rattle.proto_file.specs.declared.file.FieldType.TheVariants.{Named, Map, NestedMap}
 
 -- ---- names
 

@@ -1,4 +1,5 @@
 -- The tokens of a text with what they mean.
+use Rattle.proto_file.specs.Dot.{dot}
 use Rattle.std.specs.Prelude.{◌≡◌, ℕ, Bool, false, List, ◌∷◌, ◌++◌, map}
 use Rattle.std.specs.List.{list_any}
 use Rattle.std.specs.Str.{bytes_eq}
@@ -8,9 +9,9 @@ use Rattle.proto_tokens.specs.Strings.{string_value}
 use Rattle.proto_tokens.specs.declared.token.Kind.{Kind}
 use Rattle.proto_tokens.specs.declared.token.Kind.TheVariants as kinds
 use Rattle.proto_tokens.specs.declared.token.Token.{Token}
-use Rattle.proto_schema.specs.declared.file.Span.{Span}
-use Rattle.proto_schema.specs.declared.file.Word.{Word}
-use Rattle.proto_schema.specs.declared.file.Number.{Number}
+use Rattle.proto_file.specs.declared.file.Span.{Span}
+use Rattle.proto_file.specs.declared.file.Word.{Word}
+use Rattle.proto_file.specs.declared.file.Number.{Number}
 
 -- what a token means: a name, a whole number, another number, what a string stands for, a mark; the end of the text; or
 -- that no token stands there
@@ -61,9 +62,6 @@ abbrev pub says_one_of : Lexeme → List (List ℕ) → Bool
 says_one_of x words = list_any (λ word. says x.means word) words
 
 -- the marks, by name
-abbrev pub dot : ℕ
-dot = 46
-
 abbrev pub comma : ℕ
 comma = 44
 

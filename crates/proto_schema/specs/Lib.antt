@@ -2,6 +2,5 @@ pub mod Lexemes
 pub mod Grammar
 pub mod Files
 pub mod Faults
-pub mod Order
 pub mod Reading
 pub mod Running

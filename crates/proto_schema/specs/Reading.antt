@@ -7,19 +7,20 @@ use Rattle.proto_tokens.specs.Tokens.{literal_of}
 use Rattle.proto_tokens.specs.declared.token.Kind.TheVariants.{Text}
 use Rattle.proto_tokens.specs.declared.token.Token.{Token}
 use Rattle.proto_schema.specs.Lexemes.{Meaning, identifier, integer, number, string, mark, the_end, none, Lexeme, says}
-use Rattle.proto_schema.specs.Lexemes.{dot, comma, semicolon, equals, minus, plus, opening_brace, closing_brace}
+use Rattle.proto_file.specs.Dot.{dot}
+use Rattle.proto_schema.specs.Lexemes.{comma, semicolon, equals, minus, plus, opening_brace, closing_brace}
 use Rattle.proto_schema.specs.Lexemes.{opening_paren, closing_paren, opening_bracket, closing_bracket, less, greater}
 use Rattle.proto_schema.specs.Lexemes.{span_to, word_at, number_at}
 use Rattle.proto_schema.specs.Grammar.{latest}
 use Rattle.proto_schema.specs.Faults.{is_no_token, is_type_part}
-use Rattle.proto_schema.specs.declared.file.Span.{Span}
-use Rattle.proto_schema.specs.declared.file.Word.{Word}
-use Rattle.proto_schema.specs.declared.file.Number.{Number}
-use Rattle.proto_schema.specs.declared.file.Range.{Range}
-use Rattle.proto_schema.specs.declared.file.FieldLabel.{FieldLabel}
-use Rattle.proto_schema.specs.declared.file.FieldType.{FieldType}
-use Rattle.proto_schema.specs.declared.file.FieldType.TheVariants as types
-use Rattle.proto_schema.specs.declared.file.FieldDecl.{FieldDecl}
+use Rattle.proto_file.specs.declared.file.Span.{Span}
+use Rattle.proto_file.specs.declared.file.Word.{Word}
+use Rattle.proto_file.specs.declared.file.Number.{Number}
+use Rattle.proto_file.specs.declared.file.Range.{Range}
+use Rattle.proto_file.specs.declared.file.FieldLabel.{FieldLabel}
+use Rattle.proto_file.specs.declared.file.FieldType.{FieldType}
+use Rattle.proto_file.specs.declared.file.FieldType.TheVariants as types
+use Rattle.proto_file.specs.declared.file.FieldDecl.{FieldDecl}
 use Rattle.proto_schema.specs.declared.fault.ProtoReason.{ProtoReason}
 use Rattle.proto_schema.specs.declared.fault.ProtoReason.TheVariants as reasons
 use Rattle.proto_schema.specs.declared.fault.ProtoFault.{ProtoFault}

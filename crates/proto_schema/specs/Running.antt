@@ -4,7 +4,8 @@ use Rattle.std.specs.Prelude.{◌++◌, codes, length, Option, Some, None, is_so
 use Rattle.std.specs.Str.{bytes_eq}
 use Rattle.proto_tokens.specs.Tokens.{AreTokens, is_last}
 use Rattle.proto_tokens.specs.declared.token.Token.{Token}
-use Rattle.proto_schema.specs.Lexemes.{Meaning, identifier, string, mark, the_end, Lexeme, says, dot, semicolon, equals}
+use Rattle.proto_file.specs.Dot.{dot}
+use Rattle.proto_schema.specs.Lexemes.{Meaning, identifier, string, mark, the_end, Lexeme, says, semicolon, equals}
 use Rattle.proto_schema.specs.Lexemes.{opening_brace, closing_brace, word_at}
 use Rattle.proto_schema.specs.Files.{Draft, Block, no_block, a_oneof, an_enum, a_service, an_rpc, with_file, with_block}
 use Rattle.proto_schema.specs.Files.{in_message, in_enum, open_message, open_enum, open_service, open_oneof, add_field}
@@ -13,13 +14,13 @@ use Rattle.proto_schema.specs.Faults.{is_no_token}
 use Rattle.proto_schema.specs.Reading.{fault_at, unexpected, wrong, if_name, is_mark, full_step, option_step}
 use Rattle.proto_schema.specs.Reading.{next_option, field_step, reserved_step, value_step, rpc_step, option_depth}
 use Rattle.proto_schema.specs.Reading.{field_depth, value_depth}
-use Rattle.proto_schema.specs.declared.file.Span.{Span}
-use Rattle.proto_schema.specs.declared.file.Word.{Word}
-use Rattle.proto_schema.specs.declared.file.Import.{Import}
-use Rattle.proto_schema.specs.declared.file.FieldLabel.{FieldLabel}
-use Rattle.proto_schema.specs.declared.file.FieldLabel.TheVariants as labels
-use Rattle.proto_schema.specs.declared.file.FieldDecl.{FieldDecl}
-use Rattle.proto_schema.specs.declared.file.File.{File}
+use Rattle.proto_file.specs.declared.file.Span.{Span}
+use Rattle.proto_file.specs.declared.file.Word.{Word}
+use Rattle.proto_file.specs.declared.file.Import.{Import}
+use Rattle.proto_file.specs.declared.file.FieldLabel.{FieldLabel}
+use Rattle.proto_file.specs.declared.file.FieldLabel.TheVariants as labels
+use Rattle.proto_file.specs.declared.file.FieldDecl.{FieldDecl}
+use Rattle.proto_file.specs.declared.file.File.{File}
 use Rattle.proto_schema.specs.declared.fault.ProtoReason.TheVariants as reasons
 use Rattle.proto_schema.specs.declared.fault.ProtoFault.{ProtoFault}
 use Rattle.proto_schema.specs.declared.fault.ProtoFault.TheVariants as fault

@@ -6,12 +6,12 @@ ghost use Rattle.proto_schema.specs.Running.{draft_of, place_of, added};
 ghost use Rattle.proto_schema.specs.declared.statement.Opening.TheVariants as openings;
 ghost use Rattle.proto_schema.specs.declared.statement.Said.TheVariants as said;
 
-use crate::file::{
+use crate::statement::{Opening, Place, Said};
+use mrpc_table::{Memory, Sequence};
+use proto_file::{
     EnumDecl, EnumDecls, FieldDecl, FieldDecls, File, Import, Imports, MessageDecl, MessageDecls,
     Ranges, RpcDecl, RpcDecls, ServiceDecl, ServiceDecls, ValueDecl, ValueDecls, Word, Words,
 };
-use crate::statement::{Opening, Place, Said};
-use mrpc_table::{Memory, Sequence};
 use std::alloc::Global;
 use std::mem;
 

@@ -15,10 +15,10 @@ ghost use Rattle.proto_schema.specs.declared.field.FieldStep.TheVariants as step
 ghost use Rattle.proto_schema.specs.declared.tail.TailState.TheVariants as tails;
 
 use crate::fault::{ProtoFault, ProtoReason};
-use crate::file::{FieldDecl, FieldLabel, FieldType, Number, Word};
 use crate::lexeme::{fault_at, is_mark, is_word, number_of, span_of, unexpected, word_of};
 use crate::name::{NameState, NameStep, type_step};
 use crate::tail::{TailState, TailStep, tail_step};
+use proto_file::{FieldDecl, FieldLabel, FieldType, Number, Word};
 use proto_tokens::{Kind, Token};
 use std::alloc::Global;
 

@@ -9,8 +9,8 @@ ghost use Rattle.proto_schema.specs.Reading.{Lies, Gives, fault_at as fault_of, 
 ghost use Rattle.proto_schema.specs.Reading.{is_mark as is_the_mark, if_number};
 
 use crate::fault::{ProtoFault, ProtoReason};
-use crate::file::{Number, Span, Word};
 use mrpc_table::{Decimal, Memory, Name};
+use proto_file::{Number, Span, Word};
 use proto_tokens::{Kind, Token};
 use std::alloc::Global;
 

@@ -13,7 +13,6 @@
 mod draft;
 mod fault;
 mod field;
-mod file;
 mod laws;
 mod lexeme;
 mod name;
@@ -26,11 +25,6 @@ mod tail;
 mod value;
 
 pub use fault::{ProtoFault, ProtoReason};
-pub use file::{
-    EnumDecl, EnumDecls, FieldDecl, FieldDecls, FieldLabel, FieldType, File, Import, Imports,
-    MessageDecl, MessageDecls, Number, Range, Ranges, RpcDecl, RpcDecls, ServiceDecl, ServiceDecls,
-    Span, ValueDecl, ValueDecls, Word, Words,
-};
 pub use laws::{file_is_ordered, file_or_fault, one_fault, one_file};
 pub use read::read_proto;
 

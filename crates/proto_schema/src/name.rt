@@ -1,14 +1,15 @@
 //! Full names and types' names, token by token.
 
 ghost use Rattle.std.specs.Prelude.{◌≡◌, ◌∷◌, ◌++◌, IfOk};
-ghost use Rattle.proto_schema.specs.Lexemes.{lexeme, dot as dot_mark, span_to as joined_span};
+ghost use Rattle.proto_file.specs.Dot.{dot as dot_mark};
+ghost use Rattle.proto_schema.specs.Lexemes.{lexeme, span_to as joined_span};
 ghost use Rattle.proto_schema.specs.Reading.{Lies, Gives, if_name, part, full_step as full_reading};
 ghost use Rattle.proto_schema.specs.Reading.{type_step as type_reading};
 
 use crate::fault::ProtoFault;
-use crate::file::{Span, Word};
 use crate::lexeme::{bytes_of, is_mark, span_of, span_to, unexpected, word_of};
 use mrpc_table::Name;
+use proto_file::{Span, Word};
 use proto_tokens::{Kind, Token};
 use std::alloc::Global;
 

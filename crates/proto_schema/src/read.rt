@@ -10,7 +10,7 @@ ghost use Rattle.proto_tokens.specs.declared.token.Kind.TheVariants as kinds;
 ghost use Rattle.proto_schema.specs.Lexemes.{lexeme, lexemes};
 ghost use Rattle.proto_schema.specs.Files.{nothing_said};
 ghost use Rattle.proto_schema.specs.Faults.{IsTextOf, IsFaultOf, is_no_token};
-ghost use Rattle.proto_schema.specs.declared.file.File.{File};
+ghost use Rattle.proto_file.specs.declared.file.File.{File};
 ghost use Rattle.proto_schema.specs.declared.fault.ProtoFault.TheVariants as faults;
 ghost use Rattle.proto_schema.specs.Reading.{Lies};
 ghost use Rattle.proto_schema.specs.Running.{Comes, Failed, Begins, run, reading, behind_word, behind_step, draft_of};
@@ -21,10 +21,10 @@ ghost use Rattle.proto_schema.specs.declared.statement.State.TheVariants as stat
 
 use crate::draft::Draft;
 use crate::fault::{ProtoFault, ProtoReason};
-use crate::file::{File, Span};
 use crate::lexeme::{bytes_of, fault_at, is_mark, is_word, span_of, unexpected};
 use crate::statement::{Opening, Place, Said, State, Step, statement_step};
 use mrpc_table::Memory;
+use proto_file::{File, Span};
 use proto_tokens::{Kind, Token, next_token, one_list, one_token, string_value};
 use std::alloc::Global;
 

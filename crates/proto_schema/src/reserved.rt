@@ -10,8 +10,8 @@ ghost use Rattle.proto_schema.specs.declared.reserved.RangeState.TheVariants as 
 ghost use Rattle.proto_schema.specs.declared.reserved.ReservedPart.TheVariants as parts;
 
 use crate::fault::ProtoFault;
-use crate::file::{Number, Range, Ranges, Span, Word, Words};
 use crate::lexeme::{bytes_of, is_mark, is_word, negative_of, number_of, span_of, unexpected};
+use proto_file::{Number, Range, Ranges, Span, Word, Words};
 use proto_tokens::{Kind, Token, string_value};
 use std::alloc::Global;
 

@@ -11,9 +11,9 @@ ghost use Rattle.proto_schema.specs.declared.rpc.RpcStep.TheVariants as steps;
 
 use crate::fault::{ProtoFault, ProtoReason};
 use crate::field::typed_step;
-use crate::file::{RpcDecl, Span, Word};
 use crate::lexeme::{fault_at, is_mark, is_word, span_of, unexpected, word_of};
 use crate::name::{NameState, NameStep};
+use proto_file::{RpcDecl, Span, Word};
 use proto_tokens::{Kind, Token};
 use std::alloc::Global;
 

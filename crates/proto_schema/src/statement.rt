@@ -17,13 +17,13 @@ ghost use Rattle.proto_schema.specs.declared.statement.Step.TheVariants as steps
 
 use crate::fault::{ProtoFault, ProtoReason};
 use crate::field::{FieldState, FieldStep, field_step};
-use crate::file::{FieldDecl, FieldLabel, Import, Ranges, RpcDecl, ValueDecl, Word, Words};
 use crate::lexeme::{bytes_of, fault_at, is_mark, is_word, span_of, unexpected, word_of};
 use crate::name::{NameState, NameStep, full_step};
 use crate::option::{OptionState, OptionStep, option_step};
 use crate::reserved::{ReservedPart, ReservedState, ReservedStep, reserved_step};
 use crate::rpc::{RpcState, RpcStep, rpc_step};
 use crate::value::{ValueState, ValueStep, value_step};
+use proto_file::{FieldDecl, FieldLabel, Import, Ranges, RpcDecl, ValueDecl, Word, Words};
 use proto_tokens::{Kind, Token, string_value};
 use std::alloc::Global;
 

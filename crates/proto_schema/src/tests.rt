@@ -1,5 +1,6 @@
-use crate::{File, ProtoFault, ProtoReason, read_proto};
+use crate::{ProtoFault, ProtoReason, read_proto};
 use mrpc_table::Bytes;
+use proto_file::File;
 use std::alloc::Global;
 use std::test::Fail;
 

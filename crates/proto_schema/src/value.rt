@@ -7,9 +7,9 @@ ghost use Rattle.proto_schema.specs.Reading.{value_step as value_reading, value_
 ghost use Rattle.proto_schema.specs.declared.value.ValueState.TheVariants as states;
 
 use crate::fault::ProtoFault;
-use crate::file::{Number, Span, ValueDecl, Word};
 use crate::lexeme::{is_mark, negative_of, number_of, span_of, unexpected};
 use crate::tail::{TailState, TailStep, tail_step};
+use proto_file::{Number, Span, ValueDecl, Word};
 use proto_tokens::Token;
 
 /// How far a value is read.

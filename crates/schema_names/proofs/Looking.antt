@@ -10,9 +10,9 @@ use Rattle.std.proofs.lemmas.List.{append_assoc, take_at, take_more, get_or_at, 
 use Rattle.std.proofs.lemmas.List.Splits.{length-slice_split}
 use Rattle.std.proofs.lemmas.Option.{slice_get_within, same_Some, slice_get_read, slice_get-map, get_or_from_slice_get}
 use Rattle.mrpc_table.specs.Names.{parts_of}
-use Rattle.proto_schema.specs.declared.file.Span.{Span}
-use Rattle.proto_schema.specs.declared.file.MessageDecl.{MessageDecl}
-use Rattle.proto_schema.specs.declared.file.File.{File}
+use Rattle.proto_file.specs.declared.file.Span.{Span}
+use Rattle.proto_file.specs.declared.file.MessageDecl.{MessageDecl}
+use Rattle.proto_file.specs.declared.file.File.{File}
 use Rattle.schema_names.specs.Scopes.{IsScope, of_file, package_of, IsThere, Decides, here, outward, Means, absolute, relative, Names}
 use Rattle.schema_names.specs.Numbers.{StandBehind, sort_of, IsNumber, of_file as number_of_file, of_message as number_of_message, IsPlace, StandsAt, message, enum, IsFirstAt}
 use Rattle.schema_names.specs.Kept.{Keeps, AreOf, IsAmong, values_of}

@@ -2,12 +2,12 @@
 use Rattle.std.proofs.Common.{◌≡◌, ◌≢◌, ℕ, ◌+◌, true, false, List, [], ◌∷◌, ◌++◌, Option, Some, None, refl, arith}
 use Rattle.std.specs.Prelude.{codes, Contains}
 use Rattle.mrpc_table.specs.declared.words.Decimal.TheVariants.{Small}
-use Rattle.proto_schema.specs.declared.file.Span.{Span}
-use Rattle.proto_schema.specs.declared.file.Word.{Word}
-use Rattle.proto_schema.specs.declared.file.MessageDecl.{MessageDecl}
-use Rattle.proto_schema.specs.declared.file.ValueDecl.{ValueDecl}
-use Rattle.proto_schema.specs.declared.file.EnumDecl.{EnumDecl}
-use Rattle.proto_schema.specs.declared.file.File.{File}
+use Rattle.proto_file.specs.declared.file.Span.{Span}
+use Rattle.proto_file.specs.declared.file.Word.{Word}
+use Rattle.proto_file.specs.declared.file.MessageDecl.{MessageDecl}
+use Rattle.proto_file.specs.declared.file.ValueDecl.{ValueDecl}
+use Rattle.proto_file.specs.declared.file.EnumDecl.{EnumDecl}
+use Rattle.proto_file.specs.declared.file.File.{File}
 use Rattle.schema_names.specs.Scopes.{IsScope, of_file, of_message, package_of, Sort, a_message, an_enum, no_type, Declares, message, enum, value, IsThere, a_type, a_package, Decides, here, outward, Means, absolute, relative, Names}
 use Rattle.schema_names.specs.Numbers.{StandsAt, message as message_at, enum as enum_at, IsFirstAt, sort_of}
 use Rattle.schema_names.specs.declared.named.Named.{Named}

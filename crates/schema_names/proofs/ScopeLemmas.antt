@@ -4,8 +4,8 @@ use Rattle.std.specs.Prelude.{slice_get}
 use Rattle.std.proofs.lemmas.Bool.{cases_lt, cases_order}
 use Rattle.std.proofs.lemmas.List.{append-nil, append_assoc, take-append-le, take_all, append_cancel_left}
 use Rattle.std.proofs.lemmas.Option.{same_Some}
-use Rattle.proto_schema.specs.declared.file.MessageDecl.{MessageDecl}
-use Rattle.proto_schema.specs.declared.file.File.{File}
+use Rattle.proto_file.specs.declared.file.MessageDecl.{MessageDecl}
+use Rattle.proto_file.specs.declared.file.File.{File}
 use Rattle.schema_names.specs.Scopes.{IsScope, of_file, of_message, package_of}
 use Rattle.schema_names.specs.Numbers.{IsNumber, of_file as number_of_file, of_message as number_of_message}
 

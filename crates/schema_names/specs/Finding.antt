@@ -1,8 +1,8 @@
 -- What a look-up finds.
 use Rattle.std.specs.Prelude.{◌≡◌, ℕ, ◌+◌, ◌<◌, List, [], ◌∷◌, ◌++◌, length, Option, Some, None, MatchOption, nat_le, if◌then◌else◌}
 use Rattle.std.proofs.Common.{get_or}
-use Rattle.proto_schema.specs.declared.file.Span.{Span}
-use Rattle.proto_schema.specs.declared.file.File.{File}
+use Rattle.proto_file.specs.declared.file.Span.{Span}
+use Rattle.proto_file.specs.declared.file.File.{File}
 use Rattle.schema_names.specs.Scopes.{Sort, IsScope, Names, Decides, IsThere, package_of}
 use Rattle.schema_names.specs.Numbers.{StandsAt, sort_of, IsFirstAt}
 use Rattle.schema_names.specs.declared.named.Declared.{Declared}

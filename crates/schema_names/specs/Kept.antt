@@ -5,9 +5,9 @@ use Rattle.std.specs.Cmp.Lexicographic.{slice_cmp}
 use Rattle.std.specs.BTreeMap.{BTreeMap, get_by}
 use Rattle.std.specs.Borrow.{Bor}
 use Rattle.std.proofs.Common.{get_or}
-use Rattle.proto_schema.specs.declared.file.Span.{Span}
-use Rattle.proto_schema.specs.declared.file.MessageDecl.{MessageDecl}
-use Rattle.proto_schema.specs.declared.file.File.{File}
+use Rattle.proto_file.specs.declared.file.Span.{Span}
+use Rattle.proto_file.specs.declared.file.MessageDecl.{MessageDecl}
+use Rattle.proto_file.specs.declared.file.File.{File}
 use Rattle.schema_names.specs.Scopes.{IsScope, package_of}
 use Rattle.schema_names.specs.Numbers.{IsNumber, StandBehind, StandsAt}
 use Rattle.schema_names.specs.Children.{child}

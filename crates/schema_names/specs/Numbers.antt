@@ -1,9 +1,9 @@
 -- Messages and enums by their places in a file, and scopes by numbers.
 use Rattle.std.specs.Prelude.{◌≡◌, ℕ, ◌+◌, ◌<◌, ◌≤◌, List, [], ◌∷◌, ◌++◌, length, Option, Some, None, slice_get, Contains}
-use Rattle.proto_schema.specs.declared.file.Span.{Span}
-use Rattle.proto_schema.specs.declared.file.MessageDecl.{MessageDecl}
-use Rattle.proto_schema.specs.declared.file.EnumDecl.{EnumDecl}
-use Rattle.proto_schema.specs.declared.file.File.{File}
+use Rattle.proto_file.specs.declared.file.Span.{Span}
+use Rattle.proto_file.specs.declared.file.MessageDecl.{MessageDecl}
+use Rattle.proto_file.specs.declared.file.EnumDecl.{EnumDecl}
+use Rattle.proto_file.specs.declared.file.File.{File}
 use Rattle.schema_names.specs.Scopes.{IsScope, package_of, Sort, a_message, an_enum}
 use Rattle.schema_names.specs.declared.named.Named.{Named}
 use Rattle.schema_names.specs.declared.named.Named.TheVariants.{Message, Enum}

@@ -4,18 +4,16 @@
 use Rattle.std.specs.Prelude.{◌≡◌, ◌≢◌, ℕ, ◌≤◌, Bool, true, false, List, [], ◌∷◌, ◌++◌, Option, Some, None, slice_get, Contains}
 use Rattle.std.specs.List.{join_with_byte}
 use Rattle.mrpc_table.specs.Names.{parts_of}
-use Rattle.proto_schema.specs.declared.file.Word.{Word}
-use Rattle.proto_schema.specs.declared.file.Span.{Span}
-use Rattle.proto_schema.specs.declared.file.FieldDecl.{FieldDecl}
-use Rattle.proto_schema.specs.declared.file.MessageDecl.{MessageDecl}
-use Rattle.proto_schema.specs.declared.file.ValueDecl.{ValueDecl}
-use Rattle.proto_schema.specs.declared.file.EnumDecl.{EnumDecl}
-use Rattle.proto_schema.specs.declared.file.RpcDecl.{RpcDecl}
-use Rattle.proto_schema.specs.declared.file.ServiceDecl.{ServiceDecl}
-use Rattle.proto_schema.specs.declared.file.File.{File}
-
-abbrev pub dot : ℕ
-dot = 46
+use Rattle.proto_file.specs.Dot.{dot}
+use Rattle.proto_file.specs.declared.file.Word.{Word}
+use Rattle.proto_file.specs.declared.file.Span.{Span}
+use Rattle.proto_file.specs.declared.file.FieldDecl.{FieldDecl}
+use Rattle.proto_file.specs.declared.file.MessageDecl.{MessageDecl}
+use Rattle.proto_file.specs.declared.file.ValueDecl.{ValueDecl}
+use Rattle.proto_file.specs.declared.file.EnumDecl.{EnumDecl}
+use Rattle.proto_file.specs.declared.file.RpcDecl.{RpcDecl}
+use Rattle.proto_file.specs.declared.file.ServiceDecl.{ServiceDecl}
+use Rattle.proto_file.specs.declared.file.File.{File}
 
 -- the text of a full name
 abbrev pub text_of : List (List ℕ) → List ℕ

@@ -12,7 +12,7 @@ ghost use Rattle.schema_names.specs.Children.{child, same_child};
 use crate::children::Children;
 use crate::named::{Declared, Named};
 use mrpc_table::{Memory, cut};
-use proto_schema::{File, Word};
+use proto_file::{File, Word};
 use std::alloc::Global;
 use std::collections::BTreeMap;
 

@@ -1,7 +1,7 @@
 //! Laws of names. These functions do nothing; their clauses hold.
 
 ghost use Rattle.std.specs.Prelude.{◌≡◌, ◌≤◌, ℕ, List, [], ◌∷◌, Option, length};
-ghost use Rattle.proto_schema.specs.declared.file.File.{File};
+ghost use Rattle.proto_file.specs.declared.file.File.{File};
 ghost use Rattle.schema_names.specs.Numbers.{StandBehind, StartApart, IsPlace, IsNumber};
 ghost use Rattle.schema_names.specs.Scopes.{Sort, IsScope, Names};
 

@@ -2,7 +2,7 @@
 //! Name Resolution").
 //!
 //! `specs/Scopes.antt` says which full name each declaration has and which one a reference means. [`Scopes`] is made of
-//! the file that `proto_schema` has read; clauses see it as that file. The layer above uses two contracts: of
+//! a file that was read; clauses see it as that file. The layer above uses two contracts: of
 //! [`Scopes::find`], that it answers the first message or enum that a reference names, or that it names none, and of
 //! [`Scopes::number`], that scopes have one number exactly where they have one full name ([`one_number`]). Both take
 //! time by the length of what is asked and the logarithm of the number of types.

@@ -13,7 +13,7 @@ use crate::build::{
 use crate::children::Children;
 use crate::named::{Declared, Named};
 use mrpc_table::{Memory, cut};
-use proto_schema::File;
+use proto_file::File;
 use std::alloc::Global;
 use std::collections::BTreeMap;
 use std::marker::Model;
@@ -30,7 +30,7 @@ pub struct Scopes<'a> {
 }
 
 impl<'a> Model for Scopes<'a> {
-    ghost use Rattle.proto_schema.specs.declared.file.File.{File};
+    ghost use Rattle.proto_file.specs.declared.file.File.{File};
 
     ghost Value = { File };
 

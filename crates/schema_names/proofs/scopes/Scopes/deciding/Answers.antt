@@ -1,7 +1,7 @@
 use Rattle.std.proofs.Common.{◌≡◌, ℕ, List, Option, Some, None, get_or, sym, ◌∙◌, ap, subst, arith, ◌<◌, length, refl}
 use Rattle.std.specs.Prelude.{slice_get}
 use Rattle.std.proofs.lemmas.Option.{slice_get-get_or}
-use Rattle.proto_schema.specs.declared.file.MessageDecl.{MessageDecl}
+use Rattle.proto_file.specs.declared.file.MessageDecl.{MessageDecl}
 use Rattle.schema_names.specs.Numbers.{IsPlace}
 use Rattle.schema_names.specs.Finding.{number_at, Reaches, rank_of}
 use Rattle.schema_names.proofs.Looking.{kept, decided, undecided, stays_open, some_is, none_is, parent_place, parent_below, reaches_out}

@@ -2,19 +2,19 @@
 -- names and numbers start in the text.
 use Rattle.std.specs.Prelude.{◌≡◌, ℕ, ◌<◌, length, List, ◌∷◌, Option, Some, slice_get, IfSome, All, Contains, IsTrue}
 use Rattle.mrpc_table.specs.Names.{is_name_form, is_full_form}
-use Rattle.proto_schema.specs.Lexemes.{dot}
-use Rattle.proto_schema.specs.declared.file.Span.{Span}
-use Rattle.proto_schema.specs.declared.file.Word.{Word}
-use Rattle.proto_schema.specs.declared.file.Import.{Import}
-use Rattle.proto_schema.specs.declared.file.FieldType.{FieldType}
-use Rattle.proto_schema.specs.declared.file.FieldType.TheVariants.{Named, Map, NestedMap}
-use Rattle.proto_schema.specs.declared.file.FieldDecl.{FieldDecl}
-use Rattle.proto_schema.specs.declared.file.MessageDecl.{MessageDecl}
-use Rattle.proto_schema.specs.declared.file.ValueDecl.{ValueDecl}
-use Rattle.proto_schema.specs.declared.file.EnumDecl.{EnumDecl}
-use Rattle.proto_schema.specs.declared.file.RpcDecl.{RpcDecl}
-use Rattle.proto_schema.specs.declared.file.ServiceDecl.{ServiceDecl}
-use Rattle.proto_schema.specs.declared.file.File.{File}
+use Rattle.proto_file.specs.Dot.{dot}
+use Rattle.proto_file.specs.declared.file.Span.{Span}
+use Rattle.proto_file.specs.declared.file.Word.{Word}
+use Rattle.proto_file.specs.declared.file.Import.{Import}
+use Rattle.proto_file.specs.declared.file.FieldType.{FieldType}
+use Rattle.proto_file.specs.declared.file.FieldType.TheVariants.{Named, Map, NestedMap}
+use Rattle.proto_file.specs.declared.file.FieldDecl.{FieldDecl}
+use Rattle.proto_file.specs.declared.file.MessageDecl.{MessageDecl}
+use Rattle.proto_file.specs.declared.file.ValueDecl.{ValueDecl}
+use Rattle.proto_file.specs.declared.file.EnumDecl.{EnumDecl}
+use Rattle.proto_file.specs.declared.file.RpcDecl.{RpcDecl}
+use Rattle.proto_file.specs.declared.file.ServiceDecl.{ServiceDecl}
+use Rattle.proto_file.specs.declared.file.File.{File}
 
 -- ---- places, and forms of names
 
