@@ -16,6 +16,3 @@ pub use laws::{
     connections_are_apart, copies_go_on, empty_is_legal, histories_join, loads_go_on,
     malformed_go_on, one_fate, sendings_go_on, sent_in_order, standing_calls_have_copies,
 };
-
-#[cfg(test)]
-mod tests;

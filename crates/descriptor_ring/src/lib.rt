@@ -25,6 +25,3 @@ pub use numbers::{
 };
 pub use progress::Progress;
 pub use ring::{Receiver, Sender, Sent, open};
-
-#[cfg(test)]
-mod tests;

@@ -29,6 +29,3 @@ pub use feed::Feed;
 pub use format::{Frame, HEADER_LEN, HELLO, HELLO_VERSION, MAX_PAYLOAD, REPLY, REQUEST, VERSION};
 pub use laws::{frames_join, one_frame, one_split};
 pub use written::{frame, hello_frame};
-
-#[cfg(test)]
-mod tests;

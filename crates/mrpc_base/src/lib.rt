@@ -47,6 +47,3 @@ pub use stores::Stores;
 pub use tickets::{Tickets, WINDOWS};
 pub use words::{Room, Words};
 pub use writing::write_all;
-
-#[cfg(test)]
-mod tests;

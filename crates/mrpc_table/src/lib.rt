@@ -36,6 +36,3 @@ pub use words::{
     Decimal, cut, is_full_form, is_full_name, is_name, is_name_form, is_short, is_short_full,
     number_of,
 };
-
-#[cfg(test)]
-mod tests;

@@ -18,6 +18,3 @@ pub use command::{
     DONE, FAULTY_INPUT, INPUT_FAILED, NO_COMMAND, NO_MEMORY, OUTPUT_FAILED, WIRE_FAILED,
     one_decoding, run_command,
 };
-
-#[cfg(test)]
-mod tests;

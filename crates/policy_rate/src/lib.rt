@@ -14,6 +14,3 @@ mod rate;
 pub use bucket::{Bucket, Step};
 pub use laws::{bounded_charges, bounded_level};
 pub use rate::Rate;
-
-#[cfg(test)]
-mod tests;

@@ -27,6 +27,3 @@ mod value;
 pub use fault::{ProtoFault, ProtoReason};
 pub use laws::{file_is_ordered, file_or_fault, one_fault, one_file};
 pub use read::read_proto;
-
-#[cfg(test)]
-mod tests;

@@ -17,6 +17,3 @@ pub use laws::{one_list, one_token};
 pub use next::next_token;
 pub use string::string_value;
 pub use token::{Kind, Token};
-
-#[cfg(test)]
-mod tests;

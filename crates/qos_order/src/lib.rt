@@ -22,6 +22,3 @@ pub use laws::{even_shares, one_weight_fault, visits_balance};
 pub use weighted::Weighted;
 pub use weights::{Weight, WeightFault, Weights};
 pub use wheel::Wheel;
-
-#[cfg(test)]
-mod tests;

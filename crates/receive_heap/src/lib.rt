@@ -12,6 +12,3 @@ mod holes;
 
 pub use extents::{Block, Extents, NotHeld, TakeFault};
 pub use holes::Span;
-
-#[cfg(test)]
-mod tests;

@@ -19,6 +19,3 @@ pub use agreement::{Agreed, agree};
 pub use fault::{AgreeFault, HelloFault};
 pub use greeting::{hello, on_hello};
 pub use laws::{one_agreement, one_hello};
-
-#[cfg(test)]
-mod tests;

@@ -15,6 +15,3 @@ pub use fault::{ScriptFault, ScriptReason};
 pub use laws::one_answer;
 pub use reading::read_script;
 pub use script::{Line, Lines, Script};
-
-#[cfg(test)]
-mod tests;

@@ -20,6 +20,3 @@ pub use opening::open;
 pub use reader::Reader;
 pub use view::Load;
 pub use writer::Writer;
-
-#[cfg(test)]
-mod tests;

@@ -21,6 +21,3 @@ pub use fault::{TableFault, TableReason};
 pub use read::{one_fault, one_text, read_table, table_or_fault};
 pub use table_cut::{one_table_behind, split_table};
 pub use text::table_text;
-
-#[cfg(test)]
-mod tests;

@@ -14,6 +14,3 @@ mod totals;
 pub use counts::What;
 pub use laws::{counts_add_up, totals_are_counts};
 pub use totals::Totals;
-
-#[cfg(test)]
-mod tests;

@@ -17,6 +17,3 @@ mod view;
 pub use opening::open;
 pub use seat::Seat;
 pub use seats::Seats;
-
-#[cfg(test)]
-mod tests;

@@ -11,6 +11,3 @@ mod laws;
 
 pub use copying::copy_message;
 pub use laws::untouched_graph_is_copied;
-
-#[cfg(test)]
-mod tests;

@@ -11,8 +11,6 @@ mod fault;
 mod laws;
 mod records;
 mod sign;
-#[cfg(test)]
-mod tests;
 mod varint;
 
 pub use fault::{WireFault, WireReason};

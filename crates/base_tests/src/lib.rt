@@ -1,0 +1,16 @@
+//! Tests of the lowest crates, each by itself: devices in memory, lists and words, totals, rates, blocks of a heap, and
+//! the weighted order. It has no code of its own, and nothing stands on it.
+#![tactic(auto)]
+
+#[cfg(test)]
+mod blocks;
+#[cfg(test)]
+mod devices;
+#[cfg(test)]
+mod lists;
+#[cfg(test)]
+mod order;
+#[cfg(test)]
+mod rates;
+#[cfg(test)]
+mod totals;

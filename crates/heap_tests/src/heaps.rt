@@ -1,0 +1,95 @@
+ghost use Rattle.std.specs.Prelude.{◌≡◌, ◌<◌, ◌^◌, []};
+
+use mrpc_base::{Room, Stores, Words};
+use shared_heap::{Note, Reader, Writer, open};
+use std::test::Fail;
+use std::thread::{Threads, join};
+
+#[test]
+fn a_new_heap_is_all_zero(rt: HostRuntime) -> Result<(), Fail> {
+    let (mut writer, mut reader) = open(rt.alloc(), 4)?;
+    assert_eq!(rt; (writer.size(), reader.words()), (4, 4));
+    assert_eq!(rt;
+        (writer.room_stores(u64::MAX), reader.room_loads(u64::MAX)),
+        (Room::Made, Room::Made)
+    );
+    assert_eq!(rt; (reader.load(0), reader.load(3)), (0, 0));
+    Ok(())
+}
+
+#[test]
+fn a_met_note_brings_its_stores(rt: HostRuntime) -> Result<(), Fail> {
+    let (mut writer, mut reader) = open(rt.alloc(), 4)?;
+    writer.store(2, 150);
+    let early = writer.note();
+    writer.store(2, 9);
+    assert_eq!(rt; (early.stores(), writer.stores(), writer.made()), (1, 2, 2));
+    // Notes may be met in any order.
+    reader.meet(writer.note());
+    reader.meet(early);
+    assert_eq!(rt; (reader.load(2), reader.load(3)), (9, 0));
+    Ok(())
+}
+
+// The ends of a heap take no handle: none of their calls can wait.
+fn store_up_to(writer: &mut Writer, last: u64)
+    requires heap { writer.old.heap.words ≡ 4 }
+    requires few { last < 2 ^ 62 }
+    requires first { writer.old.stores ≡ [] }
+    ensures { writer.new.heap ≡ writer.old.heap }
+{
+    for value in 1..last + 1 {
+        writer.store(2, value);
+    }
+}
+
+// Whether loads never fall.
+fn never_fall(reader: &mut Reader, loads: u64) -> bool
+    requires { reader.old.heap.words ≡ 4 }
+    ensures { reader.new.heap ≡ reader.old.heap }
+{
+    let mut least = 0;
+    let mut rising = true;
+    for _ in 0..loads {
+        let value = reader.load(2);
+        rising &= least <= value;
+        least = value;
+    }
+    rising
+}
+
+// Stores in one thread, and loads in another, which then meets the last note.
+fn race<R: Threads + Sync>(rt: &R, mut writer: Writer, mut reader: Reader) -> (bool, u64)
+    requires heap { writer.heap.words ≡ 4 }
+    requires one_heap { reader.heap ≡ writer.heap }
+    requires first { writer.stores ≡ [] }
+{
+    let (note, (mut reader, rising)) = join(
+        rt,
+        move || -> Note
+            requires { (writer.heap.words ≡ 4) × (writer.stores ≡ []) }
+            ensures { result.heap ≡ writer.heap }
+        {
+            store_up_to(&mut writer, 1000);
+            writer.finish()
+        },
+        move || -> (Reader, bool)
+            requires { reader.heap.words ≡ 4 }
+            ensures { result.0.heap ≡ reader.heap }
+        {
+            let rising = never_fall(&mut reader, 1000);
+            (reader, rising)
+        },
+    );
+    reader.meet(note);
+    (rising, reader.load(2))
+}
+
+#[test]
+fn loads_never_fall_while_another_thread_stores(rt: HostRuntime) -> Result<(), Fail> {
+    let (writer, reader) = open(rt.alloc(), 4)?;
+    let (rising, last) = race(&rt, writer, reader);
+    assert!(rt; rising);
+    assert_eq!(rt; last, 1000);
+    Ok(())
+}

@@ -1,0 +1,362 @@
+ghost use Rattle.std.specs.Prelude.{◌≡◌, ◌≤◌, ◌<◌, ◌+◌, ◌^◌, ◌++◌, ◌∷◌, [], false, IsTrue, length};
+ghost use Rattle.std.specs.Thread.{IsSync};
+ghost use Rattle.descriptor_ring.specs.Rings.{IsOf};
+
+use descriptor_ring::{
+    Descriptor, Full, NumberReceiver, NumberSender, NumberTaken, NumbersSent, Receiver, Sender,
+    Sent, Taken, open, open_numbers,
+};
+use mrpc_base::{Stores, Words};
+use shared_heap::{Note, Reader, Writer};
+use std::alloc::{AllocError, Global};
+use std::sync::Wait;
+use std::test::Fail;
+use std::thread;
+use std::thread::{Threads, join};
+
+#[test]
+fn a_full_ring_of_one_number_refuses(rt: HostRuntime) -> Result<(), Fail> {
+    let (mut sender, mut receiver) = open_numbers(rt.alloc(), 1)?;
+    assert!(rt; sender.send(&rt, 7).is_ok());
+    let full = sender.send(&rt, 8).err().ok_or("it was full")?;
+    assert_eq!(rt; (full.item, full.lesson.held()), (8, 1));
+    receiver.hear(sender.progress());
+    assert!(rt; matches!(receiver.take(&rt), NumberTaken::Item(7)));
+    sender.hear(receiver.progress());
+    let NumberTaken::Empty(lesson) = receiver.take(&rt) else {
+        return Err(Fail::from("it was empty"));
+    };
+    assert_eq!(rt; lesson.held(), 0);
+    let Ok(sent) = sender.close(&rt) else {
+        return Err(Fail::from("there was room"));
+    };
+    receiver.hear_all(sent);
+    assert!(rt; matches!(receiver.take(&rt), NumberTaken::Closed));
+    Ok(())
+}
+
+#[test]
+fn a_ring_of_two_numbers_is_closed_once_there_is_room(rt: HostRuntime) -> Result<(), Fail> {
+    let (mut sender, mut receiver) = open_numbers(rt.alloc(), 2)?;
+    assert!(rt; sender.send(&rt, 7).is_ok() && sender.send(&rt, 8).is_ok());
+    let Err((sender, lesson)) = sender.close(&rt) else {
+        return Err(Fail::from("it was full"));
+    };
+    assert_eq!(rt; lesson.held(), 2);
+    assert!(rt; matches!(receiver.take(&rt), NumberTaken::Item(7)));
+    let Ok(sent) = sender.close(&rt) else {
+        return Err(Fail::from("there was room"));
+    };
+    assert!(rt; matches!(receiver.take(&rt), NumberTaken::Item(8)));
+    let NumberTaken::Closed = receiver.take(&rt) else {
+        return Err(Fail::from("it was closed"));
+    };
+    receiver.meet(sent);
+    assert!(rt; matches!(receiver.take(&rt), NumberTaken::Closed));
+    Ok(())
+}
+
+// Sends a descriptor, or tells how many items a full ring held.
+fn submit<R: Wait>(rt: &R, writer: &mut Writer, sender: &mut Sender) -> Option<u64>
+    requires one_heap { sender.old.heap ≡ writer.old.heap }
+    requires few { length sender.old.sent < 4294967294 }
+    ensures writer { writer.new ≡ writer.old }
+    ensures heap { sender.new.heap ≡ sender.old.heap }
+    ensures ring { sender.new.ring ≡ sender.old.ring }
+    ensures few { length sender.new.sent ≤ length sender.old.sent + 1 }
+{
+    let descriptor = submission(writer);
+    match sender.send(rt, descriptor) {
+        Ok(()) => None,
+        Err(full) => Some(full.lesson.held()),
+    }
+}
+
+#[test]
+fn a_full_ring_of_one_descriptor_refuses(rt: HostRuntime) -> Result<(), Fail> {
+    let (mut writer, mut reader) = shared_heap::open(rt.alloc(), 4)?;
+    let (mut sender, mut receiver) = open(rt.alloc(), 1, &reader)?;
+    writer.store(1, 9);
+    assert_eq!(rt; submit(&rt, &mut writer, &mut sender), None);
+    assert_eq!(rt; submit(&rt, &mut writer, &mut sender), Some(1));
+    receiver.hear(sender.progress());
+    let Taken::Item(descriptor) = receiver.take(&rt) else {
+        return Err(Fail::from("one was sent"));
+    };
+    sender.hear(receiver.progress());
+    meet(&mut reader, descriptor);
+    assert_eq!(rt; reader.load(1), 9);
+    assert_eq!(rt; submit(&rt, &mut writer, &mut sender), None);
+    assert!(rt; matches!(receiver.take(&rt), Taken::Item(_)));
+    let Taken::Empty(lesson) = receiver.take(&rt) else {
+        return Err(Fail::from("it was empty"));
+    };
+    assert_eq!(rt; lesson.held(), 0);
+    let Ok(sent) = sender.close(&rt) else {
+        return Err(Fail::from("there was room"));
+    };
+    receiver.hear_all(sent);
+    assert!(rt; matches!(receiver.take(&rt), Taken::Closed));
+    Ok(())
+}
+
+// Sends a descriptor, however often the ring is full.
+fn send_whole<R: Wait>(rt: &R, sender: &mut Sender, mut descriptor: Descriptor)
+    requires of_heap { IsOf sender.old.heap descriptor }
+    requires few { length sender.old.sent < 4294967294 }
+    ensures sent { length sender.new.sent ≡ length sender.old.sent + 1 }
+    ensures ring { sender.new.ring ≡ sender.old.ring }
+    ensures heap { sender.new.heap ≡ sender.old.heap }
+{
+    for _ in rt.forever() {
+        match sender.send(rt, descriptor) {
+            Ok(()) => return,
+            Err(full) => {
+                let Full {
+                    descriptor: back,
+                    lesson: _,
+                } = full;
+                descriptor = back;
+                thread::yield_now();
+            }
+        }
+    }
+}
+
+// Closes a ring, however often it is full.
+fn close_whole<R: Wait>(rt: &R, mut sender: Sender) -> Sent
+    ensures { result.ring ≡ sender.ring }
+{
+    for _ in rt.forever() {
+        match sender.close(rt) {
+            Ok(sent) => return sent,
+            Err((back, _)) => sender = back,
+        }
+        thread::yield_now();
+    }
+    unreachable!()
+}
+
+// What the writer has stored at place 2.
+fn submission(writer: &mut Writer) -> Descriptor
+    ensures of_heap { IsOf writer.old.heap result }
+    ensures same { writer.new ≡ writer.old }
+{
+    Descriptor {
+        kind: 1,
+        method: 0,
+        number: 0,
+        addr: 2,
+        stores: writer.stores(),
+        note: writer.note(),
+    }
+}
+
+// Stores 1 to 1000 at place 2, and sends a descriptor after every hundredth.
+fn write_all<R: Wait>(rt: &R, mut writer: Writer, mut sender: Sender) -> (Note, Sent)
+    requires words { writer.heap.words ≡ 4 }
+    requires one_heap { sender.heap ≡ writer.heap }
+    requires stores { writer.stores ≡ [] }
+    requires sent { sender.sent ≡ [] }
+    ensures heap { result.0.heap ≡ writer.heap }
+    ensures ring { result.1.ring ≡ sender.ring }
+{
+    for value in 1..1001 {
+        writer.store(2, value);
+        if value % 100 == 0 {
+            let descriptor = submission(&mut writer);
+            send_whole(rt, &mut sender, descriptor);
+        }
+    }
+    (writer.finish(), close_whole(rt, sender))
+}
+
+// What a reader of descriptors found.
+#[derive(Drop)]
+struct Found {
+    descriptors: u64,
+    // Whether each loaded value was one that its note knew or a later one, and none fell.
+    fresh: bool,
+}
+
+// Takes descriptors until the closing, and loads place 2 after each has been met.
+fn read_all<R: Wait>(rt: &R, reader: &mut Reader, receiver: &mut Receiver) -> Found
+    requires words { reader.old.heap.words ≡ 4 }
+    requires one_heap { receiver.old.heap ≡ reader.old.heap }
+    requires taken { receiver.old.taken ≡ [] }
+    ensures closed { IsTrue receiver.new.closed }
+    ensures ring { receiver.new.ring ≡ receiver.old.ring }
+    ensures heap { reader.new.heap ≡ reader.old.heap }
+{
+    let mut found = Found {
+        descriptors: 0,
+        fresh: true,
+    };
+    let mut last = 0;
+    for _ in rt.forever() {
+        match receiver.take(rt) {
+            Taken::Item(descriptor) => {
+                let least = descriptor.stores;
+                meet(reader, descriptor);
+                let value = reader.load(2);
+                found.fresh &= least <= value && last <= value;
+                last = value;
+                found.descriptors += 1;
+            }
+            Taken::Closed => return found,
+            Taken::Empty(_) => thread::yield_now(),
+        }
+    }
+    unreachable!()
+}
+
+fn meet(reader: &mut Reader, descriptor: Descriptor)
+    requires { IsOf reader.old.heap descriptor }
+    ensures { reader.new.heap ≡ reader.old.heap }
+{
+    let Descriptor { note, .. } = descriptor;
+    reader.meet(note);
+}
+
+// A writer in one thread, a reader in another, and a ring between them.
+fn run<R: Threads + Wait + Sync>(
+    rt: &R,
+    writer: Writer,
+    sender: Sender,
+    mut reader: Reader,
+    mut receiver: Receiver,
+) -> (Found, u64)
+    requires words { writer.heap.words ≡ 4 }
+    requires heaps { (sender.heap ≡ writer.heap) × (reader.heap ≡ writer.heap) × (receiver.heap ≡ writer.heap) }
+    requires rings { receiver.ring ≡ sender.ring }
+    requires first { (writer.stores ≡ []) × (sender.sent ≡ []) × (receiver.taken ≡ []) }
+{
+    let ((note, sent), (found, mut reader, mut receiver)) = join(
+        rt,
+        move || -> (Note, Sent)
+            requires { IsSync R.row × (writer.heap.words ≡ 4) × (sender.heap ≡ writer.heap) × (writer.stores ≡ [])
+                × (sender.sent ≡ []) }
+            ensures { (result.0.heap ≡ writer.heap) × (result.1.ring ≡ sender.ring) }
+        { write_all(rt, writer, sender) },
+        move || -> (Found, Reader, Receiver)
+            requires { IsSync R.row × (reader.heap.words ≡ 4) × (receiver.heap ≡ reader.heap) × (receiver.taken ≡ []) }
+            ensures { (result.1.heap ≡ reader.heap) × (result.2.ring ≡ receiver.ring) × IsTrue result.2.closed }
+        {
+            let found = read_all(rt, &mut reader, &mut receiver);
+            (found, reader, receiver)
+        },
+    );
+    receiver.meet(sent);
+    reader.meet(note);
+    (found, reader.load(2))
+}
+
+// The same over a new heap and a new ring.
+fn run_with<R: Threads + Wait + Sync>(
+    rt: &R,
+    alloc: Global,
+    cap: u64,
+) -> Result<(u64, u64, bool), AllocError>
+    requires { (1 ≤ cap) × (cap ≤ 1024) }
+{
+    let (writer, reader) = shared_heap::open(alloc, 4)?;
+    let (sender, receiver) = open(alloc, cap, &reader)?;
+    let (found, last) = run(rt, writer, sender, reader, receiver);
+    Ok((found.descriptors, last, found.fresh))
+}
+
+#[test]
+fn a_reader_meets_the_notes_of_descriptors(rt: HostRuntime) -> Result<(), Fail> {
+    let alloc = rt.alloc();
+    assert_eq!(rt; run_with(&rt, alloc, 1)?, (10, 1000, true));
+    assert_eq!(rt; run_with(&rt, alloc, 2)?, (10, 1000, true));
+    assert_eq!(rt; run_with(&rt, alloc, 1024)?, (10, 1000, true));
+    Ok(())
+}
+
+// Sends 0, 1, 2 and so on until the ring is full, and says how many it then holds.
+fn fill<R: Wait>(rt: &R, sender: &mut NumberSender) -> u64
+    requires { sender.old.sent ≡ [] }
+    ensures { sender.new.ring ≡ sender.old.ring }
+{
+    for number in 0..2000 {
+        if sender.send(rt, number).is_err() {
+            return number;
+        }
+    }
+    2000
+}
+
+// Closes a ring of numbers, however often it is full.
+fn close_numbers<R: Wait>(rt: &R, mut sender: NumberSender) -> NumbersSent
+    ensures { result.ring ≡ sender.ring }
+{
+    for _ in rt.forever() {
+        match sender.close(rt) {
+            Ok(sent) => return sent,
+            Err((back, _)) => sender = back,
+        }
+        thread::yield_now();
+    }
+    unreachable!()
+}
+
+// Takes numbers until the closing, and says how many of 0, 1, 2 and so on came in order.
+fn take_numbers<R: Wait>(rt: &R, receiver: &mut NumberReceiver) -> u64
+    requires taken { receiver.old.taken ≡ [] }
+    ensures closed { IsTrue receiver.new.closed }
+    ensures ring { receiver.new.ring ≡ receiver.old.ring }
+{
+    let mut next = 0;
+    for _ in rt.forever() {
+        match receiver.take(rt) {
+            NumberTaken::Item(number) => {
+                if number == next {
+                    next += 1;
+                }
+            }
+            NumberTaken::Closed => return next,
+            NumberTaken::Empty(_) => thread::yield_now(),
+        }
+    }
+    unreachable!()
+}
+
+// Fills a ring, and closes it in one thread while another takes.
+fn close_a_full_ring<R: Threads + Wait + Sync>(
+    rt: &R,
+    alloc: Global,
+    cap: u64,
+) -> Result<(u64, u64), AllocError>
+    requires { (1 ≤ cap) × (cap ≤ 1024) }
+{
+    let (mut sender, mut receiver) = open_numbers(alloc, cap)?;
+    let filled = fill(rt, &mut sender);
+    let told = sender.progress();
+    let (sent, (mut receiver, taken)) = join(
+        rt,
+        move || -> NumbersSent
+            requires { IsSync R.row }
+            ensures { result.ring ≡ sender.ring }
+        { close_numbers(rt, sender) },
+        move || -> (NumberReceiver, u64)
+            requires { IsSync R.row × (receiver.taken ≡ []) × (told.ring ≡ receiver.ring) }
+            ensures { (result.0.ring ≡ receiver.ring) × IsTrue result.0.closed }
+        {
+            receiver.hear(told);
+            let taken = take_numbers(rt, &mut receiver);
+            (receiver, taken)
+        },
+    );
+    receiver.meet(sent);
+    Ok((filled, taken))
+}
+
+#[test]
+fn a_ring_that_is_closed_while_full_loses_nothing(rt: HostRuntime) -> Result<(), Fail> {
+    let alloc = rt.alloc();
+    assert_eq!(rt; close_a_full_ring(&rt, alloc, 1)?, (1, 1));
+    assert_eq!(rt; close_a_full_ring(&rt, alloc, 2)?, (2, 2));
+    assert_eq!(rt; close_a_full_ring(&rt, alloc, 1024)?, (1024, 1024));
+    Ok(())
+}

@@ -1,0 +1,101 @@
+//! Commands over objects in memory, whose calls fail where a test says so.
+
+use mrpc_base::{MemSink, MemSource};
+use mrpc_top::{
+    DONE, INPUT_FAILED, NO_COMMAND, OUTPUT_FAILED, WIRE_FAILED, one_decoding, run_command,
+};
+use std::alloc::{AllocError, Global};
+use std::test::Fail;
+
+const ONE_CALL: &[u8] =
+    b"mrpc-replay 1\ntable\nmessage M\nfield 1 plain uint64 a\nmethod 0 S Get M M\nend\nconn 1 16\nstore 1 2 150\nsubmit 1 0 2\ndrain 1\nclose\n";
+
+fn words_of(alloc: Global, command: &str) -> Result<Vec<String>, AllocError> {
+    let mut words = Vec::new(alloc);
+    words.push(String::from_str(alloc, command)?)?;
+    Ok(words)
+}
+
+// What a run leaves.
+#[derive(Drop)]
+struct Left {
+    status: u8,
+    out: MemSink,
+    wire: MemSink,
+}
+
+// Runs a command on an input, with the numbers of the reads and writes that fail.
+fn run(
+    alloc: Global,
+    command: &str,
+    input: &[u8],
+    failing_reads: &[u64],
+    failing_lines: &[u64],
+    failing_frames: &[u64],
+) -> Result<Left, Fail> {
+    let words = words_of(alloc, command)?;
+    let mut input = MemSource::new(
+        input.to_vec(alloc)?,
+        failing_reads.to_vec(alloc)?,
+        Vec::new(alloc),
+    );
+    let mut out = MemSink::new(alloc, failing_lines.to_vec(alloc)?);
+    let mut wire = MemSink::new(alloc, failing_frames.to_vec(alloc)?);
+    let status = run_command(alloc, &words, &mut input, &mut out, &mut wire);
+    Ok(Left { status, out, wire })
+}
+
+#[test]
+fn a_call_is_taken_and_sent(rt: HostRuntime) -> Result<(), Fail> {
+    let left = run(rt.alloc(), "replay", ONE_CALL, &[], &[], &[])?;
+    assert_eq!(rt; left.status, DONE);
+    assert_eq!(rt;
+        left.out.written(),
+        b"took 1 1 0 0 2 1 1 copy 089601\nsent 1 1 19\n".as_slice()
+    );
+    assert_eq!(rt; left.wire.written().len(), 19);
+    Ok(())
+}
+
+#[test]
+fn a_failed_read_leaves_all_unwritten(rt: HostRuntime) -> Result<(), Fail> {
+    let left = run(rt.alloc(), "replay", ONE_CALL, &[1], &[], &[])?;
+    assert_eq!(rt; left.status, INPUT_FAILED);
+    assert!(rt; left.out.written().is_empty());
+    Ok(())
+}
+
+#[test]
+fn a_failed_line_ends_the_command(rt: HostRuntime) -> Result<(), Fail> {
+    let left = run(rt.alloc(), "replay", ONE_CALL, &[], &[2], &[])?;
+    assert_eq!(rt; left.status, OUTPUT_FAILED);
+    assert_eq!(rt; left.out.written().len(), 31);
+    assert_eq!(rt; left.wire.written().len(), 19);
+    Ok(())
+}
+
+#[test]
+fn a_failed_frame_ends_the_command(rt: HostRuntime) -> Result<(), Fail> {
+    let left = run(rt.alloc(), "replay", ONE_CALL, &[], &[], &[1])?;
+    assert_eq!(rt; left.status, WIRE_FAILED);
+    assert!(rt; left.wire.written().is_empty());
+    Ok(())
+}
+
+#[test]
+fn other_words_are_no_command(rt: HostRuntime) -> Result<(), Fail> {
+    let left = run(rt.alloc(), "run", ONE_CALL, &[], &[], &[])?;
+    assert_eq!(rt; left.status, NO_COMMAND);
+    Ok(())
+}
+
+#[test]
+fn a_frame_is_decoded(rt: HostRuntime) -> Result<(), Fail> {
+    let input =
+        b"mrpc-decode 1\ntable\nmessage M\nmethod 0 S Get M M\nend\n\0\0\0\0\x01\x01\0\0\0\0\0\x01\0\0\0\x01";
+    let left = run(rt.alloc(), "decode", input, &[], &[], &[])?;
+    one_decoding();
+    assert_eq!(rt; left.status, DONE);
+    assert_eq!(rt; left.out.written(), b"frame 1 0 1 1 -\n".as_slice());
+    Ok(())
+}
