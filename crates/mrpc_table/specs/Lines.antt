@@ -1,5 +1,5 @@
 -- The lines of a text, the words of a line, and the numbers that words spell.
-use Rattle.std.specs.Prelude.{ℕ, ◌-◌, ◌^◌, ◌==◌, nat_lt, Bool, false, not, ◌&&◌, ◌||◌, if◌then◌else◌, List, [], ◌∷◌, length, take, Option, Some, None, unwrap_or, slice_get}
+use Rattle.std.specs.Prelude.{ℕ, ◌-◌, ◌^◌, ◌==◌, nat_lt, Bool, false, not, ◌&&◌, ◌||◌, if◌then◌else◌, List, [], ◌∷◌, length, take, count_by, Option, Some, None, unwrap_or, slice_get}
 use Rattle.std.specs.List.{slice_split, list_all}
 use Rattle.std.specs.Char.{is_ascii_digit}
 use Rattle.std.specs.Str.Parse.{digits_value}
@@ -15,6 +15,10 @@ whole_lines text = take (length (pieces_of text) - 1) (pieces_of text)
 
 abbrev pub rest_of : List ℕ → List ℕ
 rest_of text = unwrap_or (slice_get (pieces_of text) (length (pieces_of text) - 1)) []
+
+-- how many lines end in a text
+abbrev pub line_count : List ℕ → ℕ
+line_count text = count_by (λ c. c == 10) text
 
 -- the words of a line, with one space between each two
 abbrev pub words_of : List ℕ → List (List ℕ)

@@ -1,11 +1,11 @@
 //! The words of lines: what stands between separators, names, and decimal numbers.
 
-ghost use Rattle.std.specs.Prelude.{◌≡◌, ◌+◌, ◌^◌, ◌==◌, ◌∷◌, [], length, min, option_map, MatchOption, IfSome, IsTrue, ◌↔◌, true};
+ghost use Rattle.std.specs.Prelude.{◌≡◌, ◌+◌, ◌≤◌, ◌^◌, ◌==◌, ◌∷◌, [], length, min, option_map, MatchOption, IfSome, IsTrue, ◌↔◌, true};
 ghost use Rattle.std.specs.List.{slice_split, list_all};
 ghost use Rattle.std.specs.Char.{is_ascii_digit};
 ghost use Rattle.std.specs.Str.Parse.{digits_value};
 ghost use Rattle.mrpc_table.specs.Names.{is_name_start, is_name_byte, is_name_form, is_full_form, is_short, is_short_full, IsName, IsFullName};
-ghost use Rattle.mrpc_table.specs.Lines.{is_decimal, number_of, in_64_bits};
+ghost use Rattle.mrpc_table.specs.Lines.{is_decimal, line_count, number_of, in_64_bits};
 
 use crate::limits::{MAX_FULL_NAME, MAX_NAME};
 
@@ -22,6 +22,14 @@ pub fn cut(text: &[u8], separator: u8) -> Option<(&[u8], &[u8])>
         }
     }
     None
+}
+
+/// How many lines end in the text.
+pub fn line_count(text: &[u8]) -> usize
+    ensures count { result ≡ line_count text.now }
+    ensures small { result ≤ length text.now }
+{
+    text.iter().filter(|byte| **byte == b'\n').count()
 }
 
 fn is_letter(byte: u8) -> bool

@@ -1,5 +1,6 @@
 -- The input of `decode`: two lines, the text of a table, an `end` line, and a stream of frames.
-use Rattle.std.specs.Prelude.{◌≡◌, ◌≢◌, ℕ, ◌+◌, ◌==◌, List, ◌++◌, codes, count_by}
+use Rattle.std.specs.Prelude.{◌≡◌, ◌≢◌, ℕ, ◌+◌, List, ◌++◌, codes}
+use Rattle.mrpc_table.specs.Lines.{line_count}
 use Rattle.mrpc_table.specs.Valid.{IsValid}
 use Rattle.mrpc_table.specs.Text.{table_text}
 use Rattle.table_text.specs.Faults.{IsFirstFault}
@@ -52,5 +53,5 @@ pub data IsTextFault (text : List ℕ) (line : ℕ) (word : List ℕ) : Type 0 w
       → IsTextFault text line word
   no_end :
       (T : Table) → IsValid T → IsEndless head text (table_text T)
-      → line ≡ count_by (λ byte. byte == 10) text + 1 → word ≡ codes "Word"
+      → line ≡ line_count text + 1 → word ≡ codes "Word"
       → IsTextFault text line word

@@ -1,12 +1,12 @@
 //! The text in front of a stream of frames: two lines, the text of a table, and an `end` line.
 
-ghost use Rattle.std.specs.Prelude.{◌≡◌, ◌≢◌, ◌<◌, ◌≤◌, ◌^◌, ◌==◌, count_by, length, IfOk, IfErr, Err};
+ghost use Rattle.std.specs.Prelude.{◌≡◌, ◌≢◌, ◌<◌, ◌^◌, length, IfOk, IfErr, Err};
 ghost use Rattle.mrpc_table.specs.Valid.{IsValid};
 ghost use Rattle.mrpc_table.specs.Text.{table_text};
 ghost use Rattle.mrpc_top.specs.DecodeInput.{OnFault, Holds, IsTextFault, IsFaultOfTable};
 
 use crate::decoding::Cut;
-use mrpc_table::Table;
+use mrpc_table::{Table, line_count};
 use std::alloc::Global;
 use table_text::{TableFault, one_fault, read_table, split_table};
 
@@ -58,12 +58,4 @@ fn read_lines(alloc: Global, text: &[u8]) -> Result<Table, Cut>
         Err(TableFault::At { line, reason }) => Err(fault(line + 2, reason.word())),
         Err(TableFault::Memory) => Err(Cut::Memory),
     }
-}
-
-// How many lines end in the text.
-fn line_count(text: &[u8]) -> usize
-    ensures count { result ≡ count_by (λ byte. byte == 10) text.now }
-    ensures small { result ≤ length text.now }
-{
-    text.iter().filter(|byte| **byte == b'\n').count()
 }

@@ -10,7 +10,8 @@ use Rattle.table_text.specs.TableText.{HasTableBehind, IsEndless, IsTableBehind}
 use Rattle.table_text.specs.declared.fault.TableReason.{TableReason}
 use Rattle.script_lang.specs.Offences.{Before}
 use Rattle.script_lang.specs.Stops.{AreRead, IsStop, in_line as stops_in_line, no_feed as stops_unfed, no_close as stops_unclosed, StopsAt}
-use Rattle.script_lang.specs.Texts.{IsHead, with_feed, Begins, Spells, line_count, line_behind, IsFault, no_first_line, no_second_line, no_limit, no_third_line, in_table, no_end, in_line, no_feed, no_close}
+use Rattle.mrpc_table.specs.Lines.{line_count}
+use Rattle.script_lang.specs.Texts.{IsHead, with_feed, Begins, Spells, line_behind, IsFault, no_first_line, no_second_line, no_limit, no_third_line, in_table, no_end, in_line, no_feed, no_close}
 use Rattle.script_lang.specs.declared.script.Line.{Line}
 use Rattle.script_lang.specs.declared.script.Script.{Script}
 use Rattle.script_lang.specs.declared.fault.ScriptReason.{ScriptReason}

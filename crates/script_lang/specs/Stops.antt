@@ -2,7 +2,8 @@
 use Rattle.std.specs.Prelude.{◌≡◌, ◌≢◌, ℕ, ◌+◌, true, false, List, [], ◌∷◌, ◌++◌, length, All}
 use Rattle.std.specs.List.{flat_map}
 use Rattle.script_lang.specs.Offences.{Before, OffendsFirst, Leads}
-use Rattle.script_lang.specs.Texts.{IsOneLine, with_feed, nothing, line_count}
+use Rattle.mrpc_table.specs.Lines.{line_count}
+use Rattle.script_lang.specs.Texts.{IsOneLine, with_feed, nothing}
 use Rattle.script_lang.specs.declared.script.Line.{Line}
 use Rattle.script_lang.specs.declared.reading.Stop.{Stop}
 use Rattle.script_lang.specs.declared.reading.Stop.TheVariants.{At, Memory}

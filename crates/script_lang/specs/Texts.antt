@@ -1,6 +1,7 @@
 -- The text of a script: which bytes spell it, and which fault a text has that is none.
-use Rattle.std.specs.Prelude.{◌≡◌, ◌≢◌, ℕ, ◌+◌, ◌≤◌, ◌==◌, true, false, List, [], ◌∷◌, ◌++◌, codes, All, Contains, count_by}
+use Rattle.std.specs.Prelude.{◌≡◌, ◌≢◌, ℕ, ◌+◌, ◌≤◌, true, false, List, [], ◌∷◌, ◌++◌, codes, All, Contains}
 use Rattle.std.specs.List.{flat_map}
+use Rattle.mrpc_table.specs.Lines.{line_count}
 use Rattle.mrpc_table.specs.Text.{table_text}
 use Rattle.mrpc_table.specs.Valid.{IsValid}
 use Rattle.mrpc_table.specs.declared.table.Table.{Table as TheTable}
@@ -65,10 +66,7 @@ Spells text s = Begins text s.loads s.table (record { lines = s.lines; closed = 
 
 -- ---- which fault it has
 
--- the number of lines of a text, and of the line behind it, counted from 1
-abbrev pub line_count : List ℕ → ℕ
-line_count text = count_by (λ c. c == 10) text
-
+-- the number of the line behind a text, counted from 1
 abbrev pub line_behind : List ℕ → ℕ
 line_behind text = line_count text + 1
 

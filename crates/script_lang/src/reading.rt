@@ -1,11 +1,12 @@
 //! Reading a script from its text.
 
 ghost use Rattle.std.specs.Prelude.{◌≡◌, ◌≤◌, length, IfOk, IfErr, MatchResult};
+ghost use Rattle.mrpc_table.specs.Lines.{line_count};
 ghost use Rattle.mrpc_table.specs.Text.{table_text};
 ghost use Rattle.mrpc_table.specs.Valid.{IsValid};
 ghost use Rattle.table_text.specs.TableText.{IsEndless};
 ghost use Rattle.script_lang.specs.Lines.{IsScript};
-ghost use Rattle.script_lang.specs.Texts.{IsHead, Spells, IsFaultOf, line_count, line_behind};
+ghost use Rattle.script_lang.specs.Texts.{IsHead, Spells, IsFaultOf, line_behind};
 ghost use Rattle.script_lang.specs.Stops.{AreRead, IsStopOf, IsTableFault};
 ghost use Rattle.script_lang.specs.declared.script.Script.{Script};
 ghost use Rattle.script_lang.specs.declared.fault.ScriptFault.TheVariants.{Memory as OutOfMemory};
@@ -15,7 +16,7 @@ use crate::fault::{ScriptFault, ScriptReason};
 use crate::head::{Head, read_head};
 use crate::laws::one_answer;
 use crate::script::{Lines, Script};
-use mrpc_table::{Memory, Table};
+use mrpc_table::{Memory, Table, line_count};
 use std::alloc::Global;
 use table_text::{TableFault, one_fault, read_table, split_table};
 
@@ -154,12 +155,4 @@ fn stopped_at(rest: &[u8], reason: ScriptReason) -> Stop
         left: rest.len(),
         reason,
     }
-}
-
-/// How many lines end in the text.
-fn line_count(text: &[u8]) -> usize
-    ensures count { result ≡ line_count text.now }
-    ensures small { result ≤ length text.now }
-{
-    text.iter().filter(|byte| **byte == b'\n').count()
 }
