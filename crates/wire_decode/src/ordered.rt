@@ -291,17 +291,42 @@ fn ordered_values(
     ensures ahead { IfSome result (λ r. start < r.1) }
     ensures within { IfSome result (λ r. r.1 ≤ length bytes.now) }
 {
-    let mut values = Vec::with_capacity(alloc, records_ahead(bytes, start, tag)).ok()?;
+    let mut values = Vec::new(alloc);
     let mut first = start;
     while first <= bytes.len() {
         let (value, next) = ordered_value(alloc, bytes, first, tag, table, kind, room)?;
+        let again = tag_again(bytes, next, tag);
+        room_ahead(alloc, &mut values, bytes, again, tag)?;
         values.push(value).ok()?;
-        match tag_again(bytes, next, tag) {
+        match again {
             Some(behind) => first = behind,
             None => return Some((values, next)),
         }
     }
     None
+}
+
+/// Makes room for the first value and for those of the records behind it, of which the tag of the next one ends at
+/// `again`. Mostly there is none, and the bytes are not looked at.
+#[inline(always)]
+fn room_ahead(
+    alloc: Global,
+    values: &mut Values,
+    bytes: &[u8],
+    again: Option<usize>,
+    tag: u32,
+) -> Option<()>
+    requires { IfSome again (λ first. first ≤ length bytes.now) }
+    ensures { values.new.items ≡ values.old.items }
+{
+    if values.is_empty() {
+        let more = match again {
+            Some(first) => records_ahead(bytes, first, tag),
+            None => 0,
+        };
+        *values = Vec::with_capacity(alloc, more.saturating_add(1)).ok()?;
+    }
+    Some(())
 }
 
 /// The place behind the same tag, where it stands at a place.

@@ -44,15 +44,16 @@ ordered_entries-loop-first-preserved t c =
 
 pub ordered_values-loop-first-init : goal.ordered_values-loop-first-init
 ordered_values-loop-first-init t c =
-    let none = ok-has c.with_capacity.result c.in_ok-values.values (λ v. v.items ≡ []) c.in_ok-values.ensures.value c.with_capacity.ensures.items in
     let P : List Value → Type 0 = λ xs. ValuesBefore c.args.table.now c.args.room c.args.kind c.args.bytes.now c.args.tag c.args.start c.args.start (map item_of xs) in
-    (omega arith, subst P (sym none) (values-start c.args.table.now c.args.room c.args.kind c.args.bytes.now c.args.tag c.args.start))
+    (omega arith, subst P (sym c.new-values.ensures.items) (values-start c.args.table.now c.args.room c.args.kind c.args.bytes.now c.args.tag c.args.start))
 
 pub ordered_values-returns-in-None-clause-found : goal.ordered_values-returns-in-None-clause-found
 ordered_values-returns-in-None-clause-found t c =
     let vs = c.loop-first.values.items in
     let v = c.in_ok-value.value in
-    let all : c.push.new.self.items ≡ vs ++ v ∷ [] = subst (λ b. c.push.new.self.items ≡ cond b (vs ++ v ∷ []) vs) (sym c.in_ok-ok.ensures.variant) c.push.ensures.items in
+    let roomy = c.room_ahead.new.values.items in
+    let pushed : c.push.new.self.items ≡ roomy ++ v ∷ [] = subst (λ b. c.push.new.self.items ≡ cond b (roomy ++ v ∷ []) roomy) (sym c.in_ok-ok.ensures.variant) c.push.ensures.items in
+    let all : c.push.new.self.items ≡ vs ++ v ∷ [] = pushed ∙ ap (λ xs. xs ++ v ∷ []) c.room_ahead.ensures in
     let P : List Item → Type 0 = λ xs. AreValues c.args.table.now c.args.room c.args.kind c.args.bytes.now c.args.tag c.args.start c.in_ok-value.next xs in
     subst P (sym (ap (map item_of) all ∙ map-pushed item_of vs v))
     (values-more c.args.table.now c.args.room c.args.kind c.args.bytes.now c.args.tag c.args.start c.loop-first.first c.in_ok-value.next (map item_of vs) (item_of v) c.loop-first.invariant.1 c.in_ok-value.ensures.found)
@@ -61,7 +62,9 @@ pub ordered_values-loop-first-preserved : goal.ordered_values-loop-first-preserv
 ordered_values-loop-first-preserved t c =
     let vs = c.loop-first.values.items in
     let v = c.in_ok-value.value in
-    let all : c.push.new.self.items ≡ vs ++ v ∷ [] = subst (λ b. c.push.new.self.items ≡ cond b (vs ++ v ∷ []) vs) (sym c.in_ok-ok.ensures.variant) c.push.ensures.items in
+    let roomy = c.room_ahead.new.values.items in
+    let pushed : c.push.new.self.items ≡ roomy ++ v ∷ [] = subst (λ b. c.push.new.self.items ≡ cond b (roomy ++ v ∷ []) roomy) (sym c.in_ok-ok.ensures.variant) c.push.ensures.items in
+    let all : c.push.new.self.items ≡ vs ++ v ∷ [] = pushed ∙ ap (λ xs. xs ++ v ∷ []) c.room_ahead.ensures in
     let P : List Item → Type 0 = λ xs. AreValues c.args.table.now c.args.room c.args.kind c.args.bytes.now c.args.tag c.args.start c.in_ok-value.next xs in
     let more = subst P (sym (ap (map item_of) all ∙ map-pushed item_of vs v))
     (values-more c.args.table.now c.args.room c.args.kind c.args.bytes.now c.args.tag c.args.start c.loop-first.first c.in_ok-value.next (map item_of vs) (item_of v) c.loop-first.invariant.1 c.in_ok-value.ensures.found) in (
