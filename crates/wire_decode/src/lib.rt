@@ -1,12 +1,12 @@
 //! The decoder: the message that Protocol Buffers bytes mean, or the first fault in them.
 //!
 //! The format is that of the Protocol Buffers encoding guide. Where the records come in the order of
-//! the fields, as encoders write them, they are read straight into the tree. Others are read in one
-//! pass into the contents of their records, in order; then each field has its value from its own
-//! records, and the tree comes with its fields by ascending number. All takes time in proportion to
-//! the bytes, but for sorting the entries of maps. `specs/Meaning.antt` says what bytes mean, rule by rule, and
-//! `specs/Faults.antt` which fault is the first one. It stands on `mrpc_table` and `wire_base`. The layers above use
-//! one contract: the answer is the meaning, or the first fault exactly where there is no meaning.
+//! the fields, as encoders write them, they are read straight into the tree, in vectors of earlier trees where some were
+//! taken back ([`Spare`]). Others are read in one pass into the contents of their records, in order; then each field
+//! has its value from its own records, and the tree comes with its fields by ascending number. All takes time in
+//! proportion to the bytes, but for sorting the entries of maps. `specs/Meaning.antt` says what bytes mean, rule by
+//! rule, and `specs/Faults.antt` which fault is the first one. It stands on `mrpc_table` and `wire_base`. The layers
+//! above use one contract: the answer is the meaning, or the first fault exactly where there is no meaning.
 #![tactic(auto)]
 
 ghost use Rattle.std.specs.Prelude.{◌≡◌, ◌<◌, ◌≤◌, length, IfOk, IfErr, MatchResult};
@@ -66,7 +66,7 @@ pub fn decode(alloc: Global, bytes: &[u8], table: &Table, msg: u32) -> Result<Tr
     decode_with(alloc, &mut Spare::new(alloc), bytes, table, msg)
 }
 
-/// The same as [`decode`], with the memory of trees that `spare` took back, as far as that goes.
+/// What [`decode`] gives, in vectors of the trees that `spare` took back, as far as they go.
 pub fn decode_with(
     alloc: Global,
     spare: &mut Spare,

@@ -45,8 +45,7 @@ pub fn ordered_message(
     ensures { IfSome result (λ parts. IsWhole table.now room fields.now bytes.now start (node_of parts.items)) }
 {
     let most = fields.len().min((bytes.len() - start) / 2);
-    let mut whole = spare.fields(alloc);
-    whole.reserve_exact(most).ok()?;
+    let mut whole = spare.fields(alloc, most)?;
     let mut at = start;
     let mut last = 0;
     let mut hint = 0;
@@ -322,19 +321,20 @@ fn ordered_values(
     None
 }
 
-/// Makes room for the first value and for those of the records behind it, of which the tag of the next one ends at
-/// `again`. Mostly there is none, and the bytes are not looked at.
+/// Makes room in a new vector, for what the record in front has and for what those behind it have, of which the tag of
+/// the next one ends at `again`. Mostly there is none, and the bytes are not looked at. A vector that was used before
+/// grows as it needs to.
 #[inline(always)]
-fn room_ahead(values: &mut Values, bytes: &[u8], again: Option<usize>, tag: u32) -> Option<()>
+fn room_ahead<T>(vector: &mut Vec<T>, bytes: &[u8], again: Option<usize>, tag: u32) -> Option<()>
     requires { IfSome again (λ first. first ≤ length bytes.now) }
-    ensures { values.new.items ≡ values.old.items }
+    ensures { vector.new.items ≡ vector.old.items }
 {
-    if values.is_empty() {
+    if vector.capacity() == 0 {
         let more = match again {
             Some(first) => records_ahead(bytes, first, tag),
             None => 0,
         };
-        values.reserve_exact(more.saturating_add(1)).ok()?;
+        vector.reserve_exact(more.saturating_add(1)).ok()?;
     }
     Some(())
 }
@@ -401,15 +401,14 @@ fn ordered_entries(
         return None;
     }
     let mut entries = spare.entries(alloc);
-    entries
-        .reserve_exact(records_ahead(bytes, start, tag))
-        .ok()?;
     let mut first = start;
     while first <= bytes.len() {
         let (inside, next) = span_at(bytes, first)?;
         let entry = ordered_entry(alloc, spare, &bytes[..next], inside, table, key, kind, room)?;
+        let again = tag_again(bytes, next, tag);
+        room_ahead(&mut entries, bytes, again, tag)?;
         entries.push(entry).ok()?;
-        match tag_again(bytes, next, tag) {
+        match again {
             Some(behind) => first = behind,
             None => return Some((entries, next)),
         }

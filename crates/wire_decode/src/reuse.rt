@@ -14,12 +14,12 @@ const MAX_ROOM: usize = 256;
 /// For how many bytes a run that is kept has room at most.
 const MAX_RUN_ROOM: usize = 4096;
 
-/// Vectors of trees that are no longer needed, whose memory later trees use again in place of new memory. What is
-/// decoded doesn't depend on it.
+/// Vectors of trees that are no longer needed, which later trees use again in place of new memory. What is decoded
+/// doesn't depend on it.
 ///
-/// It keeps at most 512 vectors of each sort: those of a message's fields, of a list's elements and of a map's entries
-/// with room for 256 of them at most, and those of a run's bytes with room for 4,096. So it holds no more than the
-/// largest messages so far did, and never more than about 20 MiB.
+/// At most 512 vectors of each sort are kept: those of a message's fields, of a list's elements and of a map's entries
+/// with room for 256 of them at most, and those of a run's bytes with room for 4,096. So no more than about 20 MiB are
+/// held, whatever trees are taken back.
 #[derive(Drop)]
 pub struct Spare {
     fields: Vec<Numbered>,
@@ -39,9 +39,9 @@ impl Spare {
         }
     }
 
-    /// Takes a tree that is no longer needed, and keeps its vectors without what they have: those of its fields, lists,
-    /// maps and runs of bytes, and those of the messages in it, as many of each sort and as large as are kept at all.
-    /// It takes time in proportion to the tree's parts. Where no memory is found to note a vector, that one is dropped.
+    /// Takes a tree that is no longer needed, and keeps its vectors, emptied: those of its fields, lists, maps and runs
+    /// of bytes, and those of the messages in it. A vector beyond what is kept at most, or one that no memory is found
+    /// to note, is dropped. It takes time in proportion to the tree's parts.
     #[cycle(take_back)]
     pub fn take_back(&mut self, tree: Tree) {
         let mut fields = tree.fields;
@@ -86,11 +86,16 @@ impl Spare {
         }
     }
 
-    /// An empty vector for the fields of a message.
-    pub(crate) fn fields(&mut self, alloc: Global) -> Numbered
-        ensures { result.items ≡ [] }
+    /// An empty vector for the fields of a message: a new one with room for `most` of them, or one that was kept, which
+    /// grows as it needs to.
+    pub(crate) fn fields(&mut self, alloc: Global, most: usize) -> Option<Numbered>
+        ensures { IfSome result (λ fields. fields.items ≡ []) }
     {
-        empty(alloc, &mut self.fields)
+        let mut fields = empty(alloc, &mut self.fields);
+        if fields.capacity() == 0 {
+            fields.reserve_exact(most).ok()?;
+        }
+        Some(fields)
     }
 
     /// An empty vector for the elements of a list.
