@@ -44,15 +44,29 @@ impl Output {
         })
     }
 
+    /// What was written.
+    pub fn as_slice(&self) -> &[u8]
+        ensures { result.now ≡ self.now }
+    {
+        &self.bytes[self.start..]
+    }
+
+    /// Nothing again. The room is kept.
+    pub(crate) fn clear(&mut self)
+        ensures { self.new ≡ [] }
+    {
+        self.start = self.bytes.len();
+    }
+
     /// How many bytes were written.
-    pub fn len(&self) -> usize
+    pub(crate) fn len(&self) -> usize
         ensures { result ≡ length self.now }
     {
         self.bytes.len() - self.start
     }
 
-    /// What was written.
-    pub fn into_bytes(self) -> Bytes
+    /// What was written, in a list of its own.
+    pub(crate) fn into_bytes(self) -> Bytes
         ensures { result ≡ self }
     {
         let mut bytes = self.bytes;
@@ -63,7 +77,7 @@ impl Output {
     }
 
     /// Writes bytes.
-    pub fn put(&mut self, bytes: &[u8]) -> Result<(), Memory>
+    pub(crate) fn put(&mut self, bytes: &[u8]) -> Result<(), Memory>
         ensures { OnOk result (self.new ≡ bytes.now ++ self.old) }
     {
         if self.start < bytes.len() {
@@ -74,7 +88,7 @@ impl Output {
     }
 
     /// Writes the shortest varint of a number.
-    pub fn put_varint(&mut self, v: u64) -> Result<(), Memory>
+    pub(crate) fn put_varint(&mut self, v: u64) -> Result<(), Memory>
         ensures { OnOk result (self.new ≡ varint v ++ self.old) }
     {
         varint_is_read_back();
