@@ -16,7 +16,7 @@ use frame_transport::{FeedFault, FrameRef, HEADER_LEN, HELLO, REQUEST, frame_at}
 use mrpc_base::{Sink, write_all};
 use mrpc_table::{Bytes, Memory, Table};
 use std::alloc::Global;
-use wire_decode::{DecodeFault, decode};
+use wire_decode::{DecodeFault, Spare, decode_with};
 use wire_encode::{Output, encode_into};
 
 /// Where the method stands in a frame.
@@ -86,12 +86,15 @@ pub(crate) fn decode_stream<K: Sink>(
 struct Room {
     /// The encoding of a message.
     encoded: Output,
+    /// What the trees of earlier messages were made of.
+    spare: Spare,
 }
 
 impl Room {
     fn new(alloc: Global) -> Result<Room, Memory> {
         Ok(Room {
             encoded: Output::new(alloc)?,
+            spare: Spare::new(alloc),
         })
     }
 }
@@ -118,7 +121,7 @@ fn tell_piece(
 {
     frame_law();
     let mut place = from;
-    'frames: loop {
+    loop {
         place = tell_frame(alloc, table, stream, place, room, lines)?;
         if place >= stream.len() || lines.len() >= PIECE {
             return Ok(place);
@@ -232,10 +235,11 @@ fn tell_call(
 {
     let number = if frame.kind == REQUEST { 0 } else { 1 };
     let message = table.message_of(frame.method, number);
-    match decode(alloc, frame.payload, table, message) {
+    match decode_with(alloc, &mut room.spare, frame.payload, table, message) {
         Ok(tree) => {
             encode_into(&mut room.encoded, &tree, table, message)?;
             put_call(alloc, frame, room.encoded.as_slice(), lines)?;
+            room.spare.take_back(tree);
             Ok(())
         }
         Err(DecodeFault::At { reason, place }) => Err(Cut::Fault {
