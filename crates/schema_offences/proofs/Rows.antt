@@ -76,7 +76,7 @@ found_nothing f = elim f [ ]
 
 finds_none : (F : File) (full : List (List ℕ)) → F.messages ≡ [] → Finds (F ∷ []) a_message full → ⊥
 finds_none F full e (in_this f) = no_message F full f.span e f.declared
-finds_none F full e (in_others no f) = found_nothing f
+finds_none F full e (in_others none f) = found_nothing f
 
 -- service S { rpc R (X) returns (X); }
 abbrev an_rpc : RpcDecl

@@ -1,6 +1,6 @@
 -- Numbers, types and labels of fields, as a table has them (Protocol Buffers, proto3 language guide: "Scalar Value
 -- Types", "Specifying Field Labels", "Maps"; the names of labels and kinds are this project's own).
-use Rattle.std.specs.Prelude.{◌≡◌, ℕ, ℤ, pos, neg_ℤ, ◌^◌, ◌&&◌, Bool, true, false, List, [], ◌++◌, codes, Option, Some, None, option_map, IsTrue, if◌then◌else◌}
+use Rattle.std.specs.Prelude.{◌≡◌, ℕ, ℤ, pos, neg_ℤ, ◌^◌, ◌&&◌, Bool, true, false, List, [], ◌∷◌, ◌++◌, codes, Option, Some, None, option_map, IsTrue, if◌then◌else◌}
 use Rattle.std.specs.List.{find}
 use Rattle.std.specs.Str.{bytes_eq}
 use Rattle.mrpc_table.specs.declared.words.Decimal.{Decimal}

@@ -1,7 +1,8 @@
 //! The numbers of fields and of enums' values.
 
-ghost use Rattle.std.specs.Prelude.{◌≡◌, ◌≤◌, ◌<◌, ◌^◌, ◌↔◌, length, AllWithin, ℕ, ℤ, List, pos, neg_ℤ, IfOk, IsTrue, MatchOption, FitsSigned, if◌then◌else◌};
+ghost use Rattle.std.specs.Prelude.{◌≡◌, ◌≤◌, ◌<◌, ◌^◌, ◌↔◌, length, ℕ, ℤ, List, pos, neg_ℤ, IfOk, IsTrue, MatchOption, FitsSigned, if◌then◌else◌};
 ghost use Rattle.std.specs.Int.{w32};
+ghost use Rattle.std.specs.List.{AllWithin};
 ghost use Rattle.std.specs.List.Sorted.{IsNonDecreasingBy};
 ghost use Rattle.mrpc_table.specs.Valid.{IsFieldNumber};
 ghost use Rattle.proto_file.specs.declared.file.Range.{Range};
