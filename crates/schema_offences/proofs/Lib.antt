@@ -1,3 +1,5 @@
+mod EntryLists
+mod EntryStarts
 mod Firsts
 mod Formed
 mod Judging
