@@ -1,3 +1,4 @@
+mod Duplicates
 mod EntryLists
 mod EntryStarts
 mod Firsts
