@@ -9,10 +9,7 @@ use Rattle.std.proofs.lemmas.Bool.{cases_order}
 use Rattle.std.proofs.lemmas.List.{append_assoc, append_cancel_left}
 use Rattle.std.proofs.lemmas.Option.{same_Some, slice_get_within}
 use Rattle.proto_file.specs.declared.file.Span.{Span}
-use Rattle.proto_file.specs.declared.file.Word.{Word}
-use Rattle.proto_file.specs.declared.file.FieldDecl.{FieldDecl}
 use Rattle.proto_file.specs.declared.file.MessageDecl.{MessageDecl}
-use Rattle.proto_file.specs.declared.file.ValueDecl.{ValueDecl}
 use Rattle.proto_file.specs.declared.file.EnumDecl.{EnumDecl}
 use Rattle.proto_file.specs.declared.file.RpcDecl.{RpcDecl}
 use Rattle.proto_file.specs.declared.file.ServiceDecl.{ServiceDecl}
@@ -21,8 +18,7 @@ use Rattle.proto_file.specs.Order
 use Rattle.proto_file.specs.Order.{IsOrdered, message_decl, field_decl, oneof_decl, enum_decl, value_decl, service_decl, rpc_decl, its_name}
 use Rattle.schema_names.specs.Scopes
 use Rattle.schema_names.specs.Scopes.{IsScope, of_file, of_message, package_of, Sort, a_message, an_enum, no_type, is_type, Declares}
-use Rattle.schema_names.specs.Numbers.{StandBehind, IsPlace, IsNumber}
-use Rattle.schema_offences.specs.Members.{Is}
+use Rattle.schema_names.specs.Numbers.{StandBehind, IsNumber}
 use Rattle.schema_offences.specs.Offences
 use Rattle.schema_offences.specs.Offences.{IsTwice, ComesFirst}
 use Rattle.schema_offences.specs.Sources.{alone}
@@ -32,7 +28,7 @@ use Rattle.schema_offences.specs.Entries.{Entry, entry, HasNumber, HasNumbers, O
 use Rattle.schema_offences.specs.declared.reason.ResolveReason.{ResolveReason}
 use Rattle.schema_offences.specs.declared.reason.ResolveReason.TheVariants.{DuplicateName}
 use Rattle.schema_offences.specs.declared.first.First.{First}
-use Rattle.schema_offences.proofs.Meetings.{kept_trans, comes_same}
+use Rattle.schema_offences.proofs.Meetings.{kept_trans}
 use Rattle.schema_offences.proofs.EntryLists.{get_contains, contains_get, message_placed, enum_placed}
 
 -- ---- lists

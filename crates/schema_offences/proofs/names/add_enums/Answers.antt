@@ -4,7 +4,7 @@ use Rattle.proto_file.specs.declared.file.File.{File}
 use Rattle.schema_names.specs.Numbers.{IsPlace}
 use Rattle.schema_offences.specs.Entries.{OfEnum, Adds, entries_of}
 use Rattle.schema_offences.proofs.Meetings.{item_at}
-use Rattle.schema_offences.proofs.EntryLists.{adds_start, adds_next, adds_all, enum_placed}
+use Rattle.schema_offences.proofs.EntryLists.{adds_next, adds_all, enum_placed}
 use Rattle.schema_offences.proofs.names.add_enums.Goals as goal
 
 pub add_enum-requires-clause-parent : goal.add_enum-requires-clause-parent

@@ -1,10 +1,10 @@
-use Rattle.std.proofs.Common.{◌≡◌, ℕ, ◌<◌, ◌+◌, length, sym, ap, subst, arith, below_more}
+use Rattle.std.proofs.Common.{◌≡◌, ℕ, ◌<◌, length, sym, ap, subst, arith, below_more}
 use Rattle.std.specs.Prelude.{Some, slice_get}
 use Rattle.proto_file.specs.declared.file.File.{File}
 use Rattle.schema_names.specs.Numbers.{IsPlace}
 use Rattle.schema_offences.specs.Entries.{OfMessage, Adds, HasNumber, entries_of}
 use Rattle.schema_offences.proofs.Meetings.{item_at}
-use Rattle.schema_offences.proofs.EntryLists.{adds_start, adds_next, adds_all, message_placed, has_numbers}
+use Rattle.schema_offences.proofs.EntryLists.{adds_next, adds_all, message_placed, has_numbers}
 use Rattle.schema_offences.proofs.names.add_messages.Goals as goal
 
 pub add_message-requires-clause-parent : goal.add_message-requires-clause-parent

@@ -3,7 +3,7 @@ use Rattle.std.specs.Prelude.{Some, slice_get}
 use Rattle.proto_file.specs.declared.file.File.{File}
 use Rattle.schema_offences.specs.Entries.{OfService, Adds, entries_of}
 use Rattle.schema_offences.proofs.Meetings.{item_at}
-use Rattle.schema_offences.proofs.EntryLists.{adds_start, adds_next, adds_all}
+use Rattle.schema_offences.proofs.EntryLists.{adds_next, adds_all}
 use Rattle.schema_offences.proofs.names.add_services.Goals as goal
 
 pub loop-i-preserved : goal.loop-i-preserved

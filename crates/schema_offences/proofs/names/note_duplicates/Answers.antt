@@ -1,6 +1,5 @@
-use Rattle.std.proofs.Common.{◌≡◌, ap, subst}
-use Rattle.std.specs.Prelude.{List, []}
-use Rattle.schema_offences.specs.Entries.{Entry, entries_of, IsLater}
+use Rattle.std.proofs.Common.{ap, subst}
+use Rattle.schema_offences.specs.Entries.{entries_of, IsLater}
 use Rattle.schema_offences.specs.Meeting.{Meets, AtSome, OfElement}
 use Rattle.schema_offences.proofs.Formed.{stand_behind}
 use Rattle.schema_offences.proofs.Duplicates.{Laws, keeps, meets_twice}

@@ -1,4 +1,4 @@
-use Rattle.std.proofs.Common.{◌≡◌, ℕ, ◌<◌, ◌⊎◌, List, Bor, subst}
+use Rattle.std.proofs.Common.{ℕ, ◌<◌, ◌⊎◌, List, Bor, subst}
 use Rattle.std.specs.Prelude.{Option, ◌↔◌}
 use Rattle.schema_offences.specs.Entries.{entry_of, IsBefore}
 use Rattle.schema_offences.proofs.EntryStarts.{starts_put}
