@@ -108,8 +108,13 @@ pair_of F span (Offences.in_another G a b full other c d e) =
 pair_of F span (Offences.a_package G sort full rest c e d t) =
     let g = contains_get (F ∷ []) G c in
     let same : F ≡ G = only_one F G g.0 g.1 in
-    absurd (omega (arith, type_longer F sort full span d t, ap (λ (x : File). length (package_of x)) same, ap length e,
-    length-append full rest))
+    absurd (omega (
+      arith,
+      type_longer F sort full span d t,
+      ap (λ (x : File). length (package_of x)) same,
+      ap length e,
+      length-append full rest,
+    ))
 
 -- what holds of numbers
 pub record Laws (F : File) : Type 0 where
@@ -153,7 +158,6 @@ keeps F none a b c empty p q r = record {
 
 module _ (F : File) (es : List Entry) (laws : Laws F) (behind : StandBehind F) (order : IsOrdered F)
     (numbers : HasNumbers F) (kept : Keeps F es) where
-
   -- ---- what is gathered is declared
 
   data IsDeclared (e : Entry) : Type 0 where
@@ -171,7 +175,8 @@ module _ (F : File) (es : List Entry) (laws : Laws F) (behind : StandBehind F) (
       let same : ms.decl ≡ m = same_Some ms.decl m (sym ms.at ∙ at) in
       let up : IsScope F m.parent ms.outer = subst (λ (d : MessageDecl). IsScope F d.parent ms.outer) same ms.up in
       let is : h.full ++ f.name.name ∷ [] ≡ ms.outer ++ m.name.name ∷ f.name.name ∷ [] =
-      ap (λ (s : List (List ℕ)). s ++ f.name.name ∷ []) (ms.is ∙ ap (λ (d : MessageDecl). ms.outer ++ d.name.name ∷ []) same)
+      ap (λ (s : List (List ℕ)). s ++ f.name.name ∷ [])
+      (ms.is ∙ ap (λ (d : MessageDecl). ms.outer ++ d.name.name ∷ []) same)
       ∙ two_last ms.outer m.name.name f.name.name in
       in_scope no_type h.full h.number (subst (λ (s : List (List ℕ)). Declares F no_type s f.name.span) (sym is)
       (Scopes.field m f (get_contains F.messages i m at) c up))
@@ -180,7 +185,8 @@ module _ (F : File) (es : List Entry) (laws : Laws F) (behind : StandBehind F) (
       let same : ms.decl ≡ m = same_Some ms.decl m (sym ms.at ∙ at) in
       let up : IsScope F m.parent ms.outer = subst (λ (d : MessageDecl). IsScope F d.parent ms.outer) same ms.up in
       let is : h.full ++ o.name ∷ [] ≡ ms.outer ++ m.name.name ∷ o.name ∷ [] =
-      ap (λ (s : List (List ℕ)). s ++ o.name ∷ []) (ms.is ∙ ap (λ (d : MessageDecl). ms.outer ++ d.name.name ∷ []) same)
+      ap (λ (s : List (List ℕ)). s ++ o.name ∷ [])
+      (ms.is ∙ ap (λ (d : MessageDecl). ms.outer ++ d.name.name ∷ []) same)
       ∙ two_last ms.outer m.name.name o.name in
       in_scope no_type h.full h.number (subst (λ (s : List (List ℕ)). Declares F no_type s o.span) (sym is)
       (Scopes.oneof m o (get_contains F.messages i m at) c up))
@@ -211,7 +217,8 @@ module _ (F : File) (es : List Entry) (laws : Laws F) (behind : StandBehind F) (
       → Declares F no_type (package_of F ++ s.name.name ∷ r.name.name ∷ []) r.name.span
   rpc_declared i s r at c = Scopes.rpc s r (get_contains F.services i s at) c
 
-  twice : (d e : Entry) → d.scope ≡ e.scope → d.name ≡ e.name → d.span.start < e.span.start → IsDeclared d → IsDeclared e
+  twice : (d e : Entry) → d.scope ≡ e.scope → d.name ≡ e.name → d.span.start < e.span.start
+      → IsDeclared d → IsDeclared e
       → IsTwice (alone F) e.span
   twice d e scope name l (in_scope a s n p) (in_scope b t o q) =
       let same : s ≡ t = laws.scope s t e.scope (subst (IsNumber F s) scope n) o in
@@ -244,9 +251,12 @@ module _ (F : File) (es : List Entry) (laws : Laws F) (behind : StandBehind F) (
   noted_twice : (q : ResolveReason) (s : Span) → Noted q s → TwiceIn F q s
   noted_twice q s n =
       let e = n.is.element in
-      let b = n.is.is.0 in
-      (e.span, twice b.earlier e b.in_scope b.named b.before (declared b.earlier (kept.one b.earlier b.among))
-      (declared e (kept.one e (get_contains es n.place e n.is.at))), n.is.is.1)
+      let b = n.is.is.0 in (
+        e.span,
+        twice b.earlier e b.in_scope b.named b.before (declared b.earlier (kept.one b.earlier b.among))
+            (declared e (kept.one e (get_contains es n.place e n.is.at))),
+        n.is.is.1,
+      )
 
   -- ---- what stands twice is later in its scope, or something that stands before it is
 
@@ -279,7 +289,8 @@ module _ (F : File) (es : List Entry) (laws : Laws F) (behind : StandBehind F) (
   message_number : (i : ℕ) (m : MessageDecl) → slice_get F.messages i ≡ Some m → (k : ℕ) × HasNumber F m.parent k
   message_number i m at = numbers m.parent (message_placed F i m behind at)
 
-  keep_message : (i : ℕ) (m : MessageDecl) (e : Entry) → slice_get F.messages i ≡ Some m → OfMessage F i m e → Contains es e
+  keep_message : (i : ℕ) (m : MessageDecl) (e : Entry) → slice_get F.messages i ≡ Some m → OfMessage F i m e
+      → Contains es e
   keep_message i m e at o =
       kept.each e (inl (inl (record {
         place = i;
@@ -289,7 +300,8 @@ module _ (F : File) (es : List Entry) (laws : Laws F) (behind : StandBehind F) (
         is = o;
       })))
 
-  keep_enum : (i : ℕ) (x : EnumDecl) (e : Entry) → slice_get F.enums i ≡ Some x → OfEnum F i x e → Contains es e
+  keep_enum : (i : ℕ) (x : EnumDecl) (e : Entry) → slice_get F.enums i ≡ Some x → OfEnum F i x e
+      → Contains es e
   keep_enum i x e at o =
       kept.each e (inl (inr (record {
         place = i;
@@ -299,7 +311,8 @@ module _ (F : File) (es : List Entry) (laws : Laws F) (behind : StandBehind F) (
         is = o;
       })))
 
-  keep_service : (i : ℕ) (x : ServiceDecl) (e : Entry) → slice_get F.services i ≡ Some x → OfService F i x e → Contains es e
+  keep_service : (i : ℕ) (x : ServiceDecl) (e : Entry) → slice_get F.services i ≡ Some x → OfService F i x e
+      → Contains es e
   keep_service i x e at o =
       kept.each e (inr (record {
         place = i;
@@ -329,7 +342,8 @@ module _ (F : File) (es : List Entry) (laws : Laws F) (behind : StandBehind F) (
         gathered = keep_message p.0 m (entry k.0 m.name) p.1 (Entries.message k.0 k.1);
         after = if_some _ m.parent (λ i e n at.
             order.ascend (message_decl i) (message_decl p.0) its_name its_name n.name.span m.name.span
-            (Order.messages i p.0 (behind.messages p.0 i m p.1 e)) (Order.message i n at refl) (Order.message p.0 m p.1 refl));
+            (Order.messages i p.0 (behind.messages p.0 i m p.1 e)) (Order.message i n at refl)
+            (Order.message p.0 m p.1 refl));
       })
   where_of sort full span (Scopes.enum x {outer} c is) =
       let p = contains_get F.enums x c in
@@ -373,7 +387,8 @@ module _ (F : File) (es : List Entry) (laws : Laws F) (behind : StandBehind F) (
             let a : n.name.span.start < x.name.span.start = order.enum_behind i p.0 n x at p.1 e in
             let b : x.name.span.start < v.name.span.start =
             order.ascend (enum_decl p.0) (value_decl p.0 o.0) its_name its_name x.name.span v.name.span
-            (Order.in_enum p.0 o.0) (Order.enum p.0 x p.1 refl) (Order.value p.0 o.0 x v p.1 o.1 (Order.value_name refl)) in
+            (Order.in_enum p.0 o.0) (Order.enum p.0 x p.1 refl)
+            (Order.value p.0 o.0 x v p.1 o.1 (Order.value_name refl)) in
             let l : n.name.span.start < v.name.span.start = omega arith in
             l);
       })
@@ -424,7 +439,8 @@ module _ (F : File) (es : List Entry) (laws : Laws F) (behind : StandBehind F) (
         here = refl;
         gathered = keep_service p.0 x (entry (1 + length F.messages + p.0) r.name) p.1 (Entries.rpc r d);
         after = order.ascend (service_decl p.0) (rpc_decl p.0 o.0) its_name its_name x.name.span r.name.span
-            (Order.in_service p.0 o.0) (Order.service p.0 x p.1 refl) (Order.rpc p.0 o.0 x r p.1 o.1 (Order.rpc_name refl));
+            (Order.in_service p.0 o.0) (Order.service p.0 x p.1 refl)
+            (Order.rpc p.0 o.0 x r p.1 o.1 (Order.rpc_name refl));
       })
 
   -- one is noted that doesn't stand behind this place
@@ -458,9 +474,14 @@ module _ (F : File) (es : List Entry) (laws : Laws F) (behind : StandBehind F) (
   both_in_places p q full s t a b l =
       let same = last_same a.scope b.scope a.name b.name (sym a.is ∙ b.is) in
       let number : a.number ≡ b.number =
-      laws.number b.scope a.number b.number (subst (λ (x : List (List ℕ)). IsNumber F x a.number) same.0 a.is_number) b.is_number in
-      (t, noted (record { scope = a.number; name = a.name; span = s }) (record { scope = b.number; name = b.name; span = t })
-      a.gathered b.gathered number same.1 l, (let n : t.start ≤ t.start = omega arith in n))
+      laws.number b.scope a.number b.number
+      (subst (λ (x : List (List ℕ)). IsNumber F x a.number) same.0 a.is_number) b.is_number in (
+        t,
+        noted (record { scope = a.number; name = a.name; span = s })
+            (record { scope = b.number; name = b.name; span = t })
+            a.gathered b.gathered number same.1 l,
+        (let n : t.start ≤ t.start = omega arith in n),
+      )
 
   -- the services themselves, which have one name
   services_noted : (i j : ℕ) (x y : ServiceDecl) (place : ℕ) → slice_get F.services i ≡ Some x
@@ -472,11 +493,11 @@ module _ (F : File) (es : List Entry) (laws : Laws F) (behind : StandBehind F) (
       (keep_service i x (entry n.0 x.name) at (Entries.service n.0 n.1))
       (keep_service j y (entry n.0 y.name) bt (Entries.service n.0 n.1)) refl name
       (λ e.
-          let same = order.apart (service_decl i) (service_decl j) its_name its_name x.name.span y.name.span
-          (Order.service i x at refl) (Order.service j y bt refl) e in
-          let d : service_decl i ≡ service_decl j = same.0 in
-          let z : i ≡ j = cc in
-          apart z) k l
+      let same = order.apart (service_decl i) (service_decl j) its_name its_name x.name.span y.name.span
+      (Order.service i x at refl) (Order.service j y bt refl) e in
+      let d : service_decl i ≡ service_decl j = same.0 in
+      let z : i ≡ j = cc in
+      apart z) k l
 
   both_in_services : (full : List (List ℕ)) (s t : Span) → InService full s → InService full t → s.start < t.start
       → IsNoted t.start
@@ -489,10 +510,13 @@ module _ (F : File) (es : List Entry) (laws : Laws F) (behind : StandBehind F) (
       let k : a.service.name.span.start < s.start = a.after in
       let m : b.service.name.span.start < t.start = b.after in
       elim (cases_order a.place b.place) [
-        | inl e ↦
-            (t, noted (record { scope = 1 + length F.messages + a.place; name = a.rpc.name.name; span = s })
-            (record { scope = 1 + length F.messages + b.place; name = b.rpc.name.name; span = t }) a.gathered b.gathered
-            (ap (λ (i : ℕ). 1 + length F.messages + i) e) rpcs l, (let n : t.start ≤ t.start = omega arith in n))
+        | inl e ↦ (
+          t,
+          noted (record { scope = 1 + length F.messages + a.place; name = a.rpc.name.name; span = s })
+              (record { scope = 1 + length F.messages + b.place; name = b.rpc.name.name; span = t })
+              a.gathered b.gathered (ap (λ (i : ℕ). 1 + length F.messages + i) e) rpcs l,
+          (let n : t.start ≤ t.start = omega arith in n),
+        )
         | inr d ↦
             services_noted a.place b.place a.service b.service t.start a.at b.at services
             (λ e. elim d [ inl w ↦ absurd (omega arith) | inr w ↦ absurd (omega arith) ])
@@ -504,8 +528,13 @@ module _ (F : File) (es : List Entry) (laws : Laws F) (behind : StandBehind F) (
       → s.start ≤ place → t.start ≤ place → IsNoted place
   mixed None full s t place a b k l =
       let same : a.scope ≡ package_of F = laws.place None a.scope (package_of F) a.is_scope of_file in
-      absurd (omega (arith, ap length (sym a.is ∙ b.is), length-append a.scope (a.name ∷ []), ap length same,
-      length-append (package_of F) (b.service.name.name ∷ b.rpc.name.name ∷ [])))
+      absurd (omega (
+        arith,
+        ap length (sym a.is ∙ b.is),
+        length-append a.scope (a.name ∷ []),
+        ap length same,
+        length-append (package_of F) (b.service.name.name ∷ b.rpc.name.name ∷ []),
+      ))
   mixed (Some i) full s t place a b k l =
       let ms = message_scope a.is_scope in
       let x = b.service in
@@ -526,18 +555,21 @@ module _ (F : File) (es : List Entry) (laws : Laws F) (behind : StandBehind F) (
       (keep_message i ms.decl (entry n.0 ms.decl.name) ms.at (Entries.message n.0 n.1))
       (keep_service b.place x (entry o.0 x.name) b.at (Entries.service o.0 o.1)) number both.1
       (λ e.
-          let same = order.apart (message_decl i) (service_decl b.place) its_name its_name ms.decl.name.span x.name.span
-          (Order.message i ms.decl ms.at refl) (Order.service b.place x b.at refl) e in
-          let d : message_decl i ≡ service_decl b.place = same.0 in
-          absurd cc)
-      (let h : ms.decl.name.span.start < place = omega arith in h) (let h : x.name.span.start < place = omega arith in h)
+      let same = order.apart (message_decl i) (service_decl b.place) its_name its_name ms.decl.name.span x.name.span
+      (Order.message i ms.decl ms.at refl) (Order.service b.place x b.at refl) e in
+      let d : message_decl i ≡ service_decl b.place = same.0 in
+      absurd cc)
+      (let h : ms.decl.name.span.start < place = omega arith in h)
+      (let h : x.name.span.start < place = omega arith in h)
 
   pair_noted : (full : List (List ℕ)) (s t : Span) → s.start < t.start → Where full s → Where full t → IsNoted t.start
   pair_noted full s t l (in_place p a) (in_place q b) = both_in_places p q full s t a b l
   pair_noted full s t l (in_place p a) (of_service b) =
-      mixed p full s t t.start a b (let n : s.start ≤ t.start = omega arith in n) (let n : t.start ≤ t.start = omega arith in n)
+      mixed p full s t t.start a b (let n : s.start ≤ t.start = omega arith in n)
+      (let n : t.start ≤ t.start = omega arith in n)
   pair_noted full s t l (of_service a) (in_place q b) =
-      mixed q full t s t.start b a (let n : t.start ≤ t.start = omega arith in n) (let n : s.start ≤ t.start = omega arith in n)
+      mixed q full t s t.start b a (let n : t.start ≤ t.start = omega arith in n)
+      (let n : s.start ≤ t.start = omega arith in n)
   pair_noted full s t l (of_service a) (of_service b) = both_in_services full s t a b l
 
   twice_noted : (span : Span) → IsTwice (alone F) span → IsNoted span.start

@@ -96,7 +96,8 @@ first_from {X} xs of i x at e o =
 pub adds_next : {X : Type 0} (xs : List X) (of : ℕ → X → Entry → Type 0) (i : ℕ) (x : X) (a b c : List Entry)
     → slice_get xs i ≡ Some x → Adds (OfFirst i xs of) a b → Adds (of i x) b c → Adds (OfFirst (i + 1) xs of) a c
 adds_next xs of i x a b c at p q =
-    adds_then (OfFirst i xs of) (of i x) (OfFirst (i + 1) xs of) a b c p q (first_to xs of i x at) (first_from xs of i x at)
+    adds_then (OfFirst i xs of) (of i x) (OfFirst (i + 1) xs of) a b c p q
+    (first_to xs of i x at) (first_from xs of i x at)
 
 pub adds_all : {X : Type 0} (xs : List X) (of : ℕ → X → Entry → Type 0) (i : ℕ) (a b : List Entry) → i ≡ length xs
     → Adds (OfFirst i xs of) a b → Adds (OfSome xs of) a b
@@ -127,7 +128,8 @@ adds_map f xs a b is = record {
   ];
   each = λ e h. subst (λ (l : List Entry). Contains l e) (sym is) (elim h [
     | inl x ↦ Contains-append_left a (map f xs) e x
-    | inr x ↦ subst (Contains (a ++ map f xs)) (sym x.2) (Contains-append_right a (map f xs) (f x.0) (map_contains f xs x.0 x.1))
+    | inr x ↦ subst (Contains (a ++ map f xs)) (sym x.2)
+        (Contains-append_right a (map f xs) (f x.0) (map_contains f xs x.0 x.1))
   ]);
 }
 
@@ -141,7 +143,8 @@ pushed ds es d e is same =
 abbrev IsTheNumber : File → Option ℕ → ℕ → Type 0
 IsTheNumber F place k = HasNumber F place k × ((j : ℕ) → HasNumber F place j → j ≡ k)
 
-module _ (F : File) (i : ℕ) (m : MessageDecl) (k l : ℕ) (outer : IsTheNumber F m.parent k) (inner : IsTheNumber F (Some i) l) where
+module _ (F : File) (i : ℕ) (m : MessageDecl) (k l : ℕ) (outer : IsTheNumber F m.parent k)
+    (inner : IsTheNumber F (Some i) l) where
   abbrev FieldOrName : Entry → Type 0
   FieldOrName e = (e ≡ entry k m.name) ⊎ IsMapped (λ (f : FieldDecl). entry l f.name) m.fields e
 
@@ -215,9 +218,9 @@ pub message_placed : (F : File) (i : ℕ) (m : MessageDecl) → StandBehind F �
     → IsPlace F m.parent
 message_placed F i m behind at =
     placed F m.parent (λ p e.
-        let l : p < i = behind.messages i p m at e in
-        let w : i < length F.messages = slice_get_within F.messages i m at in
-        omega arith)
+    let l : p < i = behind.messages i p m at e in
+    let w : i < length F.messages = slice_get_within F.messages i m at in
+    omega arith)
 
 pub enum_placed : (F : File) (i : ℕ) (x : EnumDecl) → StandBehind F → slice_get F.enums i ≡ Some x → IsPlace F x.parent
 enum_placed F i x behind at = placed F x.parent (λ p e. behind.enums x p (get_contains F.enums i x at) e)

@@ -39,7 +39,8 @@ same_itself k x =
 
 same_from : (a : ℕ) (x : List ℕ) (k : ℕ) (y : List ℕ) → a ≡ k → x ≡ y → same_child a x k y ≡ true
 same_from a x k y e f =
-    subst (λ (b : ℕ). same_child a x b y ≡ true) e (subst (λ (z : List ℕ). same_child a x a z ≡ true) f (same_itself a x))
+    subst (λ (b : ℕ). same_child a x b y ≡ true) e
+    (subst (λ (z : List ℕ). same_child a x a z ≡ true) f (same_itself a x))
 
 starts_wider : (es : List Entry) (d : Entry) (k : ℕ) (name : List ℕ) (place : ℕ) → StartsBefore es k name place
     → StartsBefore (es ++ d ∷ []) k name place
@@ -51,7 +52,8 @@ starts_wider es d k name place s = record {
   before = s.before;
 }
 
-starts_split : (es : List Entry) (d : Entry) (k : ℕ) (name : List ℕ) (place : ℕ) → StartsBefore (es ++ d ∷ []) k name place
+starts_split : (es : List Entry) (d : Entry) (k : ℕ) (name : List ℕ) (place : ℕ)
+    → StartsBefore (es ++ d ∷ []) k name place
     → StartsBefore es k name place ⊎ ((d.scope ≡ k) × (d.name ≡ name) × (d.span.start < place))
 starts_split es d k name place s = elim (Contains-push_cases es d s.earlier s.among) [
   | inl c ↦ inl (record {
@@ -99,7 +101,8 @@ module _ (old new : Starts) (es : List Entry) (d : Entry) (start : ℕ)
     }
   ]
 
-  own_from : (place : ℕ) → StartsBefore (es ++ d ∷ []) d.scope d.name place → IsBefore (start_in new d.scope d.name) place
+  own_from : (place : ℕ) → StartsBefore (es ++ d ∷ []) d.scope d.name place
+      → IsBefore (start_in new d.scope d.name) place
   own_from place s =
       let l : start < place = elim (starts_split es d d.scope d.name place s) [
         | inl p ↦ (lesser place).1 (inl ((known d.scope d.name place).1 p))
@@ -139,7 +142,8 @@ module _ (names : List Declared) (starts : Starts) (known : AreStarts (entries_o
 
   -- the next name was met
   pub meets_later : (i : ℕ) (d : Declared) (later : Bool) (a b c : First) → i < length names
-      → ((later ≡ true) ↔ IsBefore (start_in starts (get_or names i d).scope (get_or names i d).name.now) (get_or names i d).span.start)
+      → ((later ≡ true)
+      ↔ IsBefore (start_in starts (get_or names i d).scope (get_or names i d).name.now) (get_or names i d).span.start)
       → c.found
       ≡ cond later (Some (first_of b.found (record { reason = DuplicateName; span = (get_or names i d).span }))) b.found
       → Meets (OfFirst i (OfElement (entries_of names) Later)) a b

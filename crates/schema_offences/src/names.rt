@@ -9,7 +9,9 @@ ghost use Rattle.schema_offences.specs.Entries.{Entry, entry, entry_of, entries_
 use crate::first::First;
 use crate::reason::ResolveReason;
 use mrpc_table::Memory;
-use proto_file::{EnumDecl, FieldDecl, File, MessageDecl, RpcDecl, ServiceDecl, Span, ValueDecl, Word};
+use proto_file::{
+    EnumDecl, FieldDecl, File, MessageDecl, RpcDecl, ServiceDecl, Span, ValueDecl, Word,
+};
 use schema_names::{Scopes, one_number, one_scope};
 use std::alloc::Global;
 use std::collections::BTreeMap;
@@ -213,10 +215,7 @@ struct Starts<'a> {
 fn lesser(known: Option<usize>, start: usize) -> usize
     ensures { (place : ℕ) → (result < place) ↔ (IsBefore known place ⊎ (start < place)) }
 {
-    match known {
-        Some(first) if first < start => first,
-        _ => start,
-    }
+    known.map_or(start, |first| first.min(start))
 }
 
 impl<'a> Starts<'a> {
@@ -239,7 +238,8 @@ impl<'a> Starts<'a> {
     }
 
     fn add(&mut self, name: &Declared<'a>) -> Result<(), Memory>
-        ensures { OnOk result ((es : List Entry) → AreStarts es self.old → AreStarts (es ++ entry_of name.now ∷ []) self.new) }
+        ensures { OnOk result ((es : List Entry) → AreStarts es self.old
+            → AreStarts (es ++ entry_of name.now ∷ []) self.new) }
     {
         let start = lesser(self.get(name), name.span.start);
         self.by.insert((name.scope, name.name), start)?;

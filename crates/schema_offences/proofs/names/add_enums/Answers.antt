@@ -13,7 +13,8 @@ add_enum-requires-clause-parent c =
     let x = c.index-enums-i.result in
     let l : c.loop-i.i < length F.enums = omega (arith, ap length c.as_slice-enums.ensures, c.loop-i-test.true) in
     let at : slice_get F.enums c.loop-i.i ≡ Some x =
-    item_at c.as_slice-enums.result.now F.enums c.loop-i.i x c.as_slice-enums.ensures l c.index-enums-i.is in
+    item_at c.as_slice-enums.result.now F.enums c.loop-i.i x
+    c.as_slice-enums.ensures l c.index-enums-i.is in
     subst (λ (G : File). IsPlace G x.parent) (sym c.requires.scopes) (enum_placed F c.loop-i.i x c.requires.behind at)
 
 pub loop-i-preserved : goal.loop-i-preserved
@@ -22,9 +23,11 @@ loop-i-preserved c =
     let x = c.index-enums-i.result in
     let l : c.loop-i.i < length F.enums = omega (arith, ap length c.as_slice-enums.ensures, c.loop-i-test.true) in
     let at : slice_get F.enums c.loop-i.i ≡ Some x =
-    item_at c.as_slice-enums.result.now F.enums c.loop-i.i x c.as_slice-enums.ensures l c.index-enums-i.is in
+    item_at c.as_slice-enums.result.now F.enums c.loop-i.i x
+    c.as_slice-enums.ensures l c.index-enums-i.is in
     adds_next F.enums (OfEnum F) c.loop-i.i x _ _ _ at c.loop-i.invariant
-    (subst (λ (G : File). Adds (OfEnum G c.loop-i.i x) (entries_of c.loop-i.names.items) (entries_of c.add_enum.new.names.items))
+    (subst (λ (G : File). Adds (OfEnum G c.loop-i.i x)
+    (entries_of c.loop-i.names.items) (entries_of c.add_enum.new.names.items))
     c.requires.scopes (c.in_ok-add_enum.ensures c.loop-i.i))
 
 pub returns : goal.returns

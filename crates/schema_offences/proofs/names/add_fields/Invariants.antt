@@ -6,4 +6,5 @@ use Rattle.schema_offences.proofs.names.add_fields.Given as goal
 -- the names up to here were added
 abbrev pub invariant-loop-field : goal.invariant-loop-field
 invariant-loop-field l =
-    entries_of l.names.items ≡ entries_of l.initial.names.items ++ map (λ (f : FieldDecl). entry l.scope f.name) (take l.field-index l.fields)
+    entries_of l.names.items
+    ≡ entries_of l.initial.names.items ++ map (λ (f : FieldDecl). entry l.scope f.name) (take l.field-index l.fields)

@@ -10,8 +10,12 @@ returns-clause-names c =
     let m = c.args.message.now in
     let k = c.number_in-outer.result in
     let l = c.number_in-inner.result in
-    let one = pushed c.args.names.now.items c.push.new.self.items c.name_in.result (entry k m.name) c.in_ok-push.ensures.items c.name_in.ensures in
-    let fields = c.in_ok-add_fields.ensures ∙ ap (λ xs. entries_of c.push.new.self.items ++ map (λ f. entry l f.name) xs) c.as_slice.ensures in
+    let one =
+    pushed c.args.names.now.items c.push.new.self.items c.name_in.result (entry k m.name)
+    c.in_ok-push.ensures.items c.name_in.ensures in
+    let fields =
+    c.in_ok-add_fields.ensures
+    ∙ ap (λ xs. entries_of c.push.new.self.items ++ map (λ f. entry l f.name) xs) c.as_slice.ensures in
     on_ok_weaker c.add_oneofs.result
     (λ oneofs. adds_message F c.args.i m k l (c.number_in-outer.ensures.has, c.number_in-outer.ensures.one)
     (c.number_in-inner.ensures.has, c.number_in-inner.ensures.one) _ _ _ _ one fields

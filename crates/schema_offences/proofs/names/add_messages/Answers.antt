@@ -13,8 +13,10 @@ add_message-requires-clause-parent c =
     let m = c.index-messages-i.result in
     let l : c.loop-i.i < length F.messages = omega (arith, ap length c.as_slice-messages.ensures, c.loop-i-test.true) in
     let at : slice_get F.messages c.loop-i.i ≡ Some m =
-    item_at c.as_slice-messages.result.now F.messages c.loop-i.i m c.as_slice-messages.ensures l c.index-messages-i.is in
-    subst (λ (G : File). IsPlace G m.parent) (sym c.requires.scopes) (message_placed F c.loop-i.i m c.requires.behind at)
+    item_at c.as_slice-messages.result.now F.messages c.loop-i.i m
+    c.as_slice-messages.ensures l c.index-messages-i.is in
+    subst (λ (G : File). IsPlace G m.parent) (sym c.requires.scopes)
+    (message_placed F c.loop-i.i m c.requires.behind at)
 
 pub loop-i-preserved : goal.loop-i-preserved
 loop-i-preserved c =
@@ -22,12 +24,15 @@ loop-i-preserved c =
     let m = c.index-messages-i.result in
     let l : c.loop-i.i < length F.messages = omega (arith, ap length c.as_slice-messages.ensures, c.loop-i-test.true) in
     let at : slice_get F.messages c.loop-i.i ≡ Some m =
-    item_at c.as_slice-messages.result.now F.messages c.loop-i.i m c.as_slice-messages.ensures l c.index-messages-i.is in
+    item_at c.as_slice-messages.result.now F.messages c.loop-i.i m
+    c.as_slice-messages.ensures l c.index-messages-i.is in
     record {
       numbers = below_more _ _ c.loop-i.invariant.numbers
-          (subst (λ (G : File). (k : ℕ) × HasNumber G (Some c.loop-i.i) k) c.requires.scopes c.in_ok-add_message.ensures.number);
+          (subst (λ (G : File). (k : ℕ) × HasNumber G (Some c.loop-i.i) k) c.requires.scopes
+          c.in_ok-add_message.ensures.number);
       names = adds_next F.messages (OfMessage F) c.loop-i.i m _ _ _ at c.loop-i.invariant.names
-          (subst (λ (G : File). Adds (OfMessage G c.loop-i.i m) (entries_of c.loop-i.names.items) (entries_of c.add_message.new.names.items))
+          (subst (λ (G : File). Adds (OfMessage G c.loop-i.i m)
+          (entries_of c.loop-i.names.items) (entries_of c.add_message.new.names.items))
           c.requires.scopes c.in_ok-add_message.ensures.names);
     }
 

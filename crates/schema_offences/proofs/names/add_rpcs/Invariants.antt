@@ -6,4 +6,5 @@ use Rattle.schema_offences.proofs.names.add_rpcs.Given as goal
 -- the names up to here were added
 abbrev pub invariant-loop-rpc : goal.invariant-loop-rpc
 invariant-loop-rpc l =
-    entries_of l.names.items ≡ entries_of l.initial.names.items ++ map (λ (r : RpcDecl). entry l.scope r.name) (take l.rpc-index l.rpcs)
+    entries_of l.names.items
+    ≡ entries_of l.initial.names.items ++ map (λ (r : RpcDecl). entry l.scope r.name) (take l.rpc-index l.rpcs)

@@ -12,12 +12,15 @@ loop-i-preserved c =
     let x = c.index-services-i.result in
     let l : c.loop-i.i < length F.services = omega (arith, ap length c.as_slice-services.ensures, c.loop-i-test.true) in
     let at : slice_get F.services c.loop-i.i ≡ Some x =
-    item_at c.as_slice-services.result.now F.services c.loop-i.i x c.as_slice-services.ensures l c.index-services-i.is in
+    item_at c.as_slice-services.result.now F.services c.loop-i.i x
+    c.as_slice-services.ensures l c.index-services-i.is in
     let same : c.args.scopes.now ≡ F = c.requires.scopes in
-    let count : 1 + length c.as_slice-messages.result.now + c.loop-i.i ≡ 1 + length c.args.scopes.now.messages + c.loop-i.i =
+    let count : 1 + length c.as_slice-messages.result.now + c.loop-i.i
+    ≡ 1 + length c.args.scopes.now.messages + c.loop-i.i =
     ap (λ xs. 1 + length xs + c.loop-i.i) (c.as_slice-messages.ensures ∙ sym (ap (λ (G : File). G.messages) same)) in
     adds_next F.services (OfService F) c.loop-i.i x _ _ _ at c.loop-i.invariant
-    (subst (λ (G : File). Adds (OfService G c.loop-i.i x) (entries_of c.loop-i.names.items) (entries_of c.add_service.new.names.items))
+    (subst (λ (G : File). Adds (OfService G c.loop-i.i x)
+    (entries_of c.loop-i.names.items) (entries_of c.add_service.new.names.items))
     same (c.in_ok-add_service.ensures c.loop-i.i count))
 
 pub returns : goal.returns

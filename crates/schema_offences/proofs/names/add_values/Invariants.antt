@@ -6,4 +6,5 @@ use Rattle.schema_offences.proofs.names.add_values.Given as goal
 -- the names up to here were added
 abbrev pub invariant-loop-value : goal.invariant-loop-value
 invariant-loop-value l =
-    entries_of l.names.items ≡ entries_of l.initial.names.items ++ map (λ (v : ValueDecl). entry l.scope v.name) (take l.value-index l.values)
+    entries_of l.names.items
+    ≡ entries_of l.initial.names.items ++ map (λ (v : ValueDecl). entry l.scope v.name) (take l.value-index l.values)

@@ -24,8 +24,12 @@ returns c =
       place = c.one_scope.ensures.one F;
     } in
     let all = entries_of c.add_services.new.names.items in
-    let kept = keeps F _ _ _ all (ap entries_of c.new-names.ensures.items) c.in_ok-add_messages.ensures.names c.in_ok-add_enums.ensures c.in_ok-add_services.ensures in
+    let kept =
+    keeps F _ _ _ all (ap entries_of c.new-names.ensures.items)
+    c.in_ok-add_messages.ensures.names c.in_ok-add_enums.ensures c.in_ok-add_services.ensures in
     let met : Meets (AtSome (OfElement all (IsLater all))) c.args.first.now c.note_later.new.first =
-    subst (λ xs. Meets (AtSome (OfElement (entries_of xs) (IsLater (entries_of xs)))) c.args.first.now c.note_later.new.first)
+    subst (λ xs. Meets (AtSome (OfElement (entries_of xs) (IsLater (entries_of xs))))
+    c.args.first.now c.note_later.new.first)
     c.deref-2.ensures.value c.note_later.ensures in
-    meets_twice F all laws (stand_behind F c.requires.formed) c.requires.ordered c.in_ok-add_messages.ensures.numbers kept _ _ met
+    meets_twice F all laws (stand_behind F c.requires.formed) c.requires.ordered
+    c.in_ok-add_messages.ensures.numbers kept _ _ met

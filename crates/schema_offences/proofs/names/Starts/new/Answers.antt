@@ -13,5 +13,6 @@ loop-i-preserved c =
 
 pub returns : goal.returns
 returns c =
-    let all : take c.loop-i.i c.args.names.now ≡ c.args.names.now = take_all c.loop-i.i c.args.names.now c.loop-i-test.false in
+    let all : take c.loop-i.i c.args.names.now ≡ c.args.names.now =
+    take_all c.loop-i.i c.args.names.now c.loop-i-test.false in
     subst (λ (xs : List Declared). AreStarts (entries_of xs) c.loop-i.starts) all c.loop-i.invariant
