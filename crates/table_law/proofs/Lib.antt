@@ -1,0 +1,2 @@
+mod Ascents
+mod OneForm

@@ -1,0 +1,4 @@
+pub mod Sources
+pub mod Those
+pub mod Types
+pub mod Tables

@@ -1,0 +1,6 @@
+//! Laws of tables.
+#![tactic(auto)]
+
+mod laws;
+
+pub use laws::one_table;
