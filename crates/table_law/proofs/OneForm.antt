@@ -125,11 +125,11 @@ module _ (files : List File) (one : OneName files) (scope : List (List ℕ)) whe
   same_label l k x y e same text = (e, subst (λ (j : Label).
     (T U : Table) (oneofs : List (List ℕ)) → label_text T oneofs l ≡ label_text U oneofs j) same text)
 
-  single_one : {f : FieldDecl} {v w : Word} {x y : List ℕ} {m n p q : Bool} → f.kind ≡ Named v → f.kind ≡ Named w
+  single_one : (f : FieldDecl) {v w : Word} {x y : List ℕ} {m n p q : Bool} → f.kind ≡ Named v → f.kind ≡ Named w
       → HasType files scope v x m p → HasType files scope w y n q
       → SameForm (label_in f.oneof (single_label f.label f.packed m p)) x
       (label_in f.oneof (single_label f.label f.packed n q)) y
-  single_one {f} {v} {w} {x} {y} {m} {n} {p} {q} d e s t =
+  single_one f {v} {w} {x} {y} {m} {n} {p} {q} d e s t =
       let named : Named v ≡ Named w = sym d ∙ e in
       let words : v ≡ w = cc in
       let one_type = type_one (subst (λ (u : Word). HasType files scope u x m p) words s) t in
@@ -141,10 +141,10 @@ module _ (files : List File) (one : OneName files) (scope : List (List ℕ)) whe
       (label_in f.oneof (single_label f.label f.packed n q)) x y one_type.0 one_label
       (in_text f.oneof (single_label f.label f.packed m p) (single_text f.label f.packed m p))
 
-  map_one : {f : FieldDecl} {a b v w : Word} {j k : Kind} {x y : List ℕ} {m n p q : Bool} → f.kind ≡ Map a v
+  map_one : (f : FieldDecl) {a b v w : Word} {j k : Kind} {x y : List ℕ} {m n p q : Bool} → f.kind ≡ Map a v
       → f.kind ≡ Map b w → IsScalar a.name j → IsScalar b.name k → HasType files scope v x m p
       → HasType files scope w y n q → SameForm (labels.Map j) x (labels.Map k) y
-  map_one {f} {a} {b} {v} {w} {j} {k} {x} {y} {m} {n} {p} {q} d e g h s t =
+  map_one f {a} {b} {v} {w} {j} {k} {x} {y} {m} {n} {p} {q} d e g h s t =
       let maps : Map a v ≡ Map b w = sym d ∙ e in
       let keys : a ≡ b = cc in
       let words : v ≡ w = cc in
@@ -152,14 +152,14 @@ module _ (files : List File) (one : OneName files) (scope : List (List ℕ)) whe
       let one_key : j ≡ k = scalar_one (subst (λ (u : Word). IsScalar u.name j) keys g) h in
       same_label (labels.Map j) (labels.Map k) x y one_type.0 (ap labels.Map one_key) (map_text j g.is_one)
 
-  pub form_one : {f : FieldDecl} {l k : Label} {x y : List ℕ} → HasForm files scope f l x → HasForm files scope f k y
+  pub form_one : (f : FieldDecl) {l k : Label} {x y : List ℕ} → HasForm files scope f l x → HasForm files scope f k y
       → SameForm l x k y
-  form_one {f} (single v x m p d s) (single w y n q e t) = single_one {f} d e s t
-  form_one {f} (single v x m p d s) (a_map b w k y n q e plain none h ok t) =
+  form_one f (single v x m p d s) (single w y n q e t) = single_one f d e s t
+  form_one f (single v x m p d s) (a_map b w k y n q e plain none h ok t) =
       let clash : Named v ≡ Map b w = sym d ∙ e in
       absurd cc
-  form_one {f} (a_map a v j x m p d plain none g ok s) (single w y n q e t) =
+  form_one f (a_map a v j x m p d plain none g ok s) (single w y n q e t) =
       let clash : Map a v ≡ Named w = sym d ∙ e in
       absurd cc
-  form_one {f} (a_map a v j x m p d plain none g ok s) (a_map b w k y n q e also nor h can t) =
-      map_one {f} d e g h s t
+  form_one f (a_map a v j x m p d plain none g ok s) (a_map b w k y n q e also nor h can t) =
+      map_one f d e g h s t
