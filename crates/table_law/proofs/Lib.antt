@@ -1,2 +1,3 @@
 mod Ascents
 mod OneForm
+mod OneTable
