@@ -105,9 +105,9 @@ module _ {K : Type 0} (R : K → K → Type 0) (strict : IsStrict R) {X : Type 0
             | inl same ↦ subst (λ (w : X). Match w y) (sym same) b.2
             | inr last ↦
                 let below : R (key y) (key x) =
-                    subst (λ (k : K). R (key y) k) (sym a.2.0) (below_others y ys rise a.0 later) in
+                subst (λ (k : K). R (key y) k) (sym a.2.0) (below_others y ys rise a.0 later) in
                 let above : R (key x) (key y) =
-                    subst (λ (k : K). R (key x) k) b.2.0 (below_others x xs up b.0 last) in
+                subst (λ (k : K). R (key x) k) b.2.0 (below_others x xs up b.0 last) in
                 absurd (strict.apart (key x) (strict.chain (key x) (key y) (key x) above below))
           ]
         ]
@@ -146,8 +146,8 @@ module _ {K : Type 0} (R : K → K → Type 0) (strict : IsStrict R) {X : Type 0
     same_text (x ∷ xs) (y ∷ ys) up rise each alone =
         let m = firsts_match x xs y ys up rise each alone in
         let rest : flat_map left xs ≡ flat_map right ys =
-            same_text xs ys (rises_tail x xs up) (rises_tail y ys rise) (covers_tail x xs y ys up m each)
-            (covered_tail x xs y ys rise m alone) in
+        same_text xs ys (rises_tail x xs up) (rises_tail y ys rise) (covers_tail x xs y ys up m each)
+        (covered_tail x xs y ys rise m alone) in
         ap (λ (t : List ℕ). t ++ flat_map left xs) m.1 ∙ ap (λ (t : List ℕ). right y ++ t) rest
 
     -- two ascending lists of what the same things are
@@ -157,9 +157,9 @@ module _ {K : Type 0} (R : K → K → Type 0) (strict : IsStrict R) {X : Type 0
         → flat_map left xs ≡ flat_map right ys
     those_text {Z} A B zs xs ys up rise those these one =
         same_text xs ys up rise (λ x c.
-          let z = those.alone x c in
-          let y = these.each z.0 z.1 in
-          (y.0, y.1, one z.0 x y.0 z.1 c y.1 z.2 y.2)) (λ y c.
-          let z = these.alone y c in
-          let x = those.each z.0 z.1 in
-          (x.0, x.1, one z.0 x.0 y z.1 x.1 c x.2 z.2))
+        let z = those.alone x c in
+        let y = these.each z.0 z.1 in
+        (y.0, y.1, one z.0 x y.0 z.1 c y.1 z.2 y.2)) (λ y c.
+        let z = these.alone y c in
+        let x = those.each z.0 z.1 in
+        (x.0, x.1, one z.0 x.0 y z.1 x.1 c x.2 z.2))

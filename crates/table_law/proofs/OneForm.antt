@@ -1,5 +1,5 @@
 -- What the form of a field is in a file whose references name one thing each: one word, and one text of the label.
-use Rattle.std.proofs.Common.{◌≡◌, ℕ, ◌&&◌, Bool, true, false, cond, List, [], ◌∷◌, ◌++◌, refl, ap, sym, ◌∙◌, subst}
+use Rattle.std.proofs.Common.{◌≡◌, ℕ, ◌&&◌, Bool, true, false, cond, List, ◌++◌, refl, ap, sym, ◌∙◌, subst}
 use Rattle.std.specs.Prelude.{Option, Some, None, codes}
 use Rattle.std.proofs.lemmas.Bool.{false≢true}
 use Rattle.std.proofs.lemmas.Option.{same_Some}
@@ -13,7 +13,6 @@ use Rattle.mrpc_table.specs.declared.table.Table.{Table}
 use Rattle.proto_file.specs.declared.file.Word.{Word}
 use Rattle.proto_file.specs.declared.file.FieldLabel.{FieldLabel}
 use Rattle.proto_file.specs.declared.file.FieldLabel.TheVariants.{Plain, Optional, Repeated}
-use Rattle.proto_file.specs.declared.file.FieldType.{FieldType}
 use Rattle.proto_file.specs.declared.file.FieldType.TheVariants.{Named, Map}
 use Rattle.proto_file.specs.declared.file.FieldDecl.{FieldDecl}
 use Rattle.proto_file.specs.declared.file.File.{File}
@@ -122,8 +121,11 @@ module _ (files : List File) (one : OneName files) (scope : List (List ℕ)) whe
   SameForm l x k y = (x ≡ y) × ((T U : Table) (oneofs : List (List ℕ)) → label_text T oneofs l ≡ label_text U oneofs k)
 
   same_label : (l k : Label) (x y : List ℕ) → x ≡ y → l ≡ k → HasOneText l → SameForm l x k y
-  same_label l k x y e same text = (e, subst (λ (j : Label).
-    (T U : Table) (oneofs : List (List ℕ)) → label_text T oneofs l ≡ label_text U oneofs j) same text)
+  same_label l k x y e same text = (
+    e,
+    subst (λ (j : Label).
+        (T U : Table) (oneofs : List (List ℕ)) → label_text T oneofs l ≡ label_text U oneofs j) same text,
+  )
 
   single_one : (f : FieldDecl) {v w : Word} {x y : List ℕ} {m n p q : Bool} → f.kind ≡ Named v → f.kind ≡ Named w
       → HasType files scope v x m p → HasType files scope w y n q
@@ -134,9 +136,9 @@ module _ (files : List File) (one : OneName files) (scope : List (List ℕ)) whe
       let words : v ≡ w = cc in
       let one_type = type_one (subst (λ (u : Word). HasType files scope u x m p) words s) t in
       let one_label : label_in f.oneof (single_label f.label f.packed m p)
-          ≡ label_in f.oneof (single_label f.label f.packed n q) =
-          ap (λ (b : Bool). label_in f.oneof (single_label f.label f.packed b p)) one_type.1
-          ∙ ap (λ (b : Bool). label_in f.oneof (single_label f.label f.packed n b)) one_type.2 in
+      ≡ label_in f.oneof (single_label f.label f.packed n q) =
+      ap (λ (b : Bool). label_in f.oneof (single_label f.label f.packed b p)) one_type.1
+      ∙ ap (λ (b : Bool). label_in f.oneof (single_label f.label f.packed n b)) one_type.2 in
       same_label (label_in f.oneof (single_label f.label f.packed m p))
       (label_in f.oneof (single_label f.label f.packed n q)) x y one_type.0 one_label
       (in_text f.oneof (single_label f.label f.packed m p) (single_text f.label f.packed m p))

@@ -1,12 +1,11 @@
 -- A file has one table: two tables of it have one text.
 use Rattle.std.proofs.Common.{◌≡◌, ℕ, ◌+◌, ◌<◌, ℤ, pos, List, [], ◌∷◌, ◌++◌, map, refl, ap, sym, ◌∙◌, subst, inl, inr}
 use Rattle.std.specs.Prelude.{Option, codes}
-use Rattle.std.specs.List.{Contains, All, flat_map, enumerate_from}
+use Rattle.std.specs.List.{Contains, flat_map, enumerate_from}
 use Rattle.std.specs.Fmt.{decimal}
 use Rattle.std.proofs.lemmas.List.Elements.{All-contains}
-use Rattle.mrpc_table.specs.Valid.{IsBelow, IsValueBelow, IsMessage, IsEnum, IsValid, HaveOneTextEach}
+use Rattle.mrpc_table.specs.Valid.{IsBelow, IsValueBelow, IsMessage, IsEnum, HaveOneTextEach}
 use Rattle.mrpc_table.specs.Text.{kind_text, label_text, message_name, line, value_line, enum_lines, field_line, message_lines, method_line, table_text}
-use Rattle.mrpc_table.specs.declared.table.Label.{Label}
 use Rattle.mrpc_table.specs.declared.table.Field.{Field}
 use Rattle.mrpc_table.specs.declared.table.Message.{Message}
 use Rattle.mrpc_table.specs.declared.table.Choices.{Choices}
@@ -27,7 +26,7 @@ use Rattle.schema_names.specs.declared.named.Named.TheVariants as named
 use Rattle.schema_names.specs.Numbers
 use Rattle.schema_names.specs.Numbers.{StartApart}
 use Rattle.schema_names.specs.Scopes.{IsScope, package_of, a_message, text_of}
-use Rattle.table_law.specs.Sources.{Source, alone, rpcs_of, messages_of, enums_of, methods_of}
+use Rattle.table_law.specs.Sources.{Source, alone, rpcs_of, messages_of, enums_of}
 use Rattle.table_law.specs.Those.{AreThose, AreThoseInOrder, none, next}
 use Rattle.table_law.specs.Tables.{IsFieldOf, IsMessageOf, IsValueOf, IsEnumOf, IsMethodOf, IsTableOf}
 use Rattle.table_law.proofs.Ascents.{contains_first, contains_later, contains_nothing, contains_cases, numbers_strict, names_strict, values_strict, those_text}
@@ -83,15 +82,14 @@ enum_one : OneScope → (p : Source × EnumDecl) (c d : Choices) → IsEnum c �
 enum_one scopes p c d ok fine a b =
     let outer : a.outer ≡ b.outer = scopes p.0.file p.1.parent a.outer b.outer a.stands b.stands in
     let name : c.name ≡ d.name =
-        a.name ∙ (ap (λ (o : List (List ℕ)). text_of (o ++ p.1.name.name ∷ [])) outer ∙ sym b.name) in
+    a.name ∙ (ap (λ (o : List (List ℕ)). text_of (o ++ p.1.name.name ∷ [])) outer ∙ sym b.name) in
     let values : flat_map value_line c.values ≡ flat_map value_line d.values =
-        those_text IsValueBelow values_strict (λ (v : ℤ × List ℕ). v) value_line value_line IsValueOf IsValueOf
-        p.1.values c.values d.values ok.ascend fine.ascend a.values b.values (λ v x y in_v in_x in_y h k.
-          (value_one v x y h k, ap value_line (value_one v x y h k))) in
-    (
+    those_text IsValueBelow values_strict (λ (v : ℤ × List ℕ). v) value_line value_line IsValueOf IsValueOf
+    p.1.values c.values d.values ok.ascend fine.ascend a.values b.values (λ v x y in_v in_x in_y h k.
+    (value_one v x y h k, ap value_line (value_one v x y h k))) in (
       name,
       ap (λ (t : List ℕ). line (codes "enum" ∷ t ∷ []) ++ flat_map value_line c.values) name
-      ∙ ap (λ (t : List ℕ). line (codes "enum" ∷ d.name ∷ []) ++ t) values,
+          ∙ ap (λ (t : List ℕ). line (codes "enum" ∷ d.name ∷ []) ++ t) values,
     )
 
 -- ---- messages
@@ -114,12 +112,11 @@ module _ (T U : Table) where
       let whole : pos g.number ≡ pos h.number = a.number ∙ sym b.number in
       let number : g.number ≡ h.number = cc in
       let label : label_text T t.oneofs g.label ≡ label_text U u.oneofs h.label =
-          a.same ∙ (one.1 T U (map (λ o. o.name) m.oneofs) ∙ sym b.same) in
-      let kind : kind_text T g.kind ≡ kind_text U h.kind = a.kind ∙ (one.0 ∙ sym b.kind) in
-      (
+      a.same ∙ (one.1 T U (map (λ o. o.name) m.oneofs) ∙ sym b.same) in
+      let kind : kind_text T g.kind ≡ kind_text U h.kind = a.kind ∙ (one.0 ∙ sym b.kind) in (
         number,
         same_words g.number h.number (label_text T t.oneofs g.label) (label_text U u.oneofs h.label)
-        (kind_text T g.kind) (kind_text U h.kind) g.name h.name number label kind (a.name ∙ sym b.name),
+            (kind_text T g.kind) (kind_text U h.kind) g.name h.name number label kind (a.name ∙ sym b.name),
       )
 
   message_one : OneScope → (p : Source × MessageDecl) (t u : Message) → OneName p.0.seen → IsMessage T t
@@ -128,20 +125,19 @@ module _ (T U : Table) where
   message_one scopes p t u names ok fine a b =
       let outer : a.outer ≡ b.outer = scopes p.0.file p.1.parent a.outer b.outer a.stands b.stands in
       let name : t.name ≡ u.name =
-          a.name ∙ (ap (λ (o : List (List ℕ)). text_of (o ++ p.1.name.name ∷ [])) outer ∙ sym b.name) in
+      a.name ∙ (ap (λ (o : List (List ℕ)). text_of (o ++ p.1.name.name ∷ [])) outer ∙ sym b.name) in
       let scope : List (List ℕ) = a.outer ++ p.1.name.name ∷ [] in
       let others : AreThose (IsFieldOf U p.0 scope p.1 u) p.1.fields u.fields =
-          subst (λ (o : List (List ℕ)). AreThose (IsFieldOf U p.0 (o ++ p.1.name.name ∷ []) p.1 u) p.1.fields u.fields)
-          (sym outer) b.fields in
+      subst (λ (o : List (List ℕ)). AreThose (IsFieldOf U p.0 (o ++ p.1.name.name ∷ []) p.1 u) p.1.fields u.fields)
+      (sym outer) b.fields in
       let fields : flat_map (field_line T t.oneofs) t.fields ≡ flat_map (field_line U u.oneofs) u.fields =
-          those_text (λ m n. m < n) numbers_strict (λ (g : Field). g.number) (field_line T t.oneofs)
-          (field_line U u.oneofs) (IsFieldOf T p.0 scope p.1 t) (IsFieldOf U p.0 scope p.1 u) p.1.fields t.fields
-          u.fields ok.ascend fine.ascend a.fields others (λ f g h in_f in_g in_h x y.
-            field_one p.0 names scope p.1 t u f g h x y) in
-      (
+      those_text (λ m n. m < n) numbers_strict (λ (g : Field). g.number) (field_line T t.oneofs)
+      (field_line U u.oneofs) (IsFieldOf T p.0 scope p.1 t) (IsFieldOf U p.0 scope p.1 u) p.1.fields t.fields
+      u.fields ok.ascend fine.ascend a.fields others (λ f g h in_f in_g in_h x y.
+      field_one p.0 names scope p.1 t u f g h x y) in (
         name,
         ap (λ (n : List ℕ). line (codes "message" ∷ n ∷ []) ++ flat_map (field_line T t.oneofs) t.fields) name
-        ∙ ap (λ (n : List ℕ). line (codes "message" ∷ u.name ∷ []) ++ n) fields,
+            ∙ ap (λ (n : List ℕ). line (codes "message" ∷ u.name ∷ []) ++ n) fields,
       )
 
   -- ---- methods
@@ -162,11 +158,11 @@ module _ (T U : Table) where
   method_one p x y i names a b =
       let scope : List (List ℕ) = package_of p.0.file in
       let input : message_name T x.input ≡ message_name U y.input =
-          a.input_place ∙ (ap text_of (names scope p.1.1.input.name a_message a_message a.input b.input a.takes b.takes).1
-          ∙ sym b.input_place) in
+      a.input_place ∙ (ap text_of (names scope p.1.1.input.name a_message a_message a.input b.input a.takes b.takes).1
+      ∙ sym b.input_place) in
       let output : message_name T x.output ≡ message_name U y.output =
-          a.output_place ∙ (ap text_of (names scope p.1.1.output.name a_message a_message a.output b.output a.gives b.gives).1
-          ∙ sym b.output_place) in
+      a.output_place ∙ (ap text_of (names scope p.1.1.output.name a_message a_message a.output b.output a.gives b.gives).1
+      ∙ sym b.output_place) in
       same_method i x.service y.service x.name y.name (message_name T x.input) (message_name U y.input)
       (message_name T x.output) (message_name U y.output) (a.service ∙ sym b.service) (a.name ∙ sym b.name) input
       output
@@ -179,7 +175,7 @@ in_order A B left right k none none same = refl
 in_order A B left right k (next {x = z} {y = x} {xs = zs} {ys = xs} a those) (next {y = y} {ys = ys} b these) same =
     let first : left (k, x) ≡ right (k, y) = same z x y k (contains_first z zs) a b in
     let rest : flat_map left (enumerate_from (k + 1) xs) ≡ flat_map right (enumerate_from (k + 1) ys) =
-        in_order A B left right (k + 1) those these (λ w v u i c. same w v u i (contains_later z w zs c)) in
+    in_order A B left right (k + 1) those these (λ w v u i c. same w v u i (contains_later z w zs c)) in
     ap (λ (t : List ℕ). t ++ flat_map left (enumerate_from (k + 1) xs)) first
     ∙ ap (λ (t : List ℕ). right (k, y) ++ t) rest
 
@@ -192,22 +188,22 @@ module _ (F : File) (scopes : OneScope) (one : OneName (F ∷ [])) (T U : Table)
   one_text : IsTableOf (alone F ∷ []) T → IsTableOf (alone F ∷ []) U → table_text T ≡ table_text U
   one_text a b =
       let enums : flat_map enum_lines T.enums ≡ flat_map enum_lines U.enums =
-          those_text IsBelow names_strict (λ (c : Choices). c.name) enum_lines enum_lines IsEnumOf IsEnumOf
-          (enums_of (alone F ∷ [])) T.enums U.enums a.valid.enums_ascend b.valid.enums_ascend a.enums b.enums
-          (λ p c d in_p in_c in_d x y.
-            enum_one scopes p c d (All-contains IsEnum T.enums c a.valid.enums in_c)
-            (All-contains IsEnum U.enums d b.valid.enums in_d) x y) in
+      those_text IsBelow names_strict (λ (c : Choices). c.name) enum_lines enum_lines IsEnumOf IsEnumOf
+      (enums_of (alone F ∷ [])) T.enums U.enums a.valid.enums_ascend b.valid.enums_ascend a.enums b.enums
+      (λ p c d in_p in_c in_d x y.
+      enum_one scopes p c d (All-contains IsEnum T.enums c a.valid.enums in_c)
+      (All-contains IsEnum U.enums d b.valid.enums in_d) x y) in
       let messages : flat_map (message_lines T) T.messages ≡ flat_map (message_lines U) U.messages =
-          those_text IsBelow names_strict (λ (m : Message). m.name) (message_lines T) (message_lines U) (IsMessageOf T)
-          (IsMessageOf U) (messages_of (alone F ∷ [])) T.messages U.messages a.valid.messages_ascend
-          b.valid.messages_ascend a.messages b.messages (λ p t u in_p in_t in_u x y.
-            message_one T U scopes p t u (names_at p.0 (from_source (alone F) F.messages p in_p))
-            (All-contains (IsMessage T) T.messages t a.valid.messages in_t)
-            (All-contains (IsMessage U) U.messages u b.valid.messages in_u) x y) in
+      those_text IsBelow names_strict (λ (m : Message). m.name) (message_lines T) (message_lines U) (IsMessageOf T)
+      (IsMessageOf U) (messages_of (alone F ∷ [])) T.messages U.messages a.valid.messages_ascend
+      b.valid.messages_ascend a.messages b.messages (λ p t u in_p in_t in_u x y.
+      message_one T U scopes p t u (names_at p.0 (from_source (alone F) F.messages p in_p))
+      (All-contains (IsMessage T) T.messages t a.valid.messages in_t)
+      (All-contains (IsMessage U) U.messages u b.valid.messages in_u) x y) in
       let methods : flat_map (method_line T) (enumerate_from 0 T.methods)
-          ≡ flat_map (method_line U) (enumerate_from 0 U.methods) =
-          in_order (IsMethodOf T) (IsMethodOf U) (method_line T) (method_line U) 0 a.methods b.methods
-          (λ p x y i in_p h k. method_one T U p x y i (names_at p.0 (from_source (alone F) (rpcs_of F) p in_p)) h k) in
+      ≡ flat_map (method_line U) (enumerate_from 0 U.methods) =
+      in_order (IsMethodOf T) (IsMethodOf U) (method_line T) (method_line U) 0 a.methods b.methods
+      (λ p x y i in_p h k. method_one T U p x y i (names_at p.0 (from_source (alone F) (rpcs_of F) p in_p)) h k) in
       ap (λ (t : List ℕ). t ++ flat_map (message_lines T) T.messages ++ flat_map (method_line T) (enumerate_from 0 T.methods)) enums
       ∙ (ap (λ (t : List ℕ). flat_map enum_lines U.enums ++ t ++ flat_map (method_line T) (enumerate_from 0 T.methods)) messages
       ∙ ap (λ (t : List ℕ). flat_map enum_lines U.enums ++ flat_map (message_lines U) U.messages ++ t) methods)
