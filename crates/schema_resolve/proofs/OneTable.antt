@@ -26,11 +26,11 @@ use Rattle.schema_names.specs.declared.named.Named.TheVariants as named
 use Rattle.schema_names.specs.Numbers
 use Rattle.schema_names.specs.Numbers.{StartApart}
 use Rattle.schema_names.specs.Scopes.{IsScope, package_of, a_message, text_of}
-use Rattle.table_law.specs.Sources.{Source, alone, rpcs_of, messages_of, enums_of}
-use Rattle.table_law.specs.Those.{AreThose, AreThoseInOrder, none, next}
-use Rattle.table_law.specs.Tables.{IsFieldOf, IsMessageOf, IsValueOf, IsEnumOf, IsMethodOf, IsTableOf}
-use Rattle.table_law.proofs.Ascents.{contains_first, contains_later, contains_nothing, contains_cases, numbers_strict, names_strict, values_strict, those_text}
-use Rattle.table_law.proofs.OneForm.{OneName, form_one}
+use Rattle.schema_offences.specs.Sources.{Source, alone, rpcs_of, messages_of, enums_of}
+use Rattle.schema_offences.specs.Those.{AreThose, AreThoseInOrder, none, next}
+use Rattle.schema_resolve.specs.Tables.{IsFieldOf, IsMessageOf, IsValueOf, IsEnumOf, IsMethodOf, IsTableOf}
+use Rattle.schema_resolve.proofs.Ascents.{contains_first, contains_later, contains_nothing, contains_cases, numbers_strict, names_strict, values_strict, those_text}
+use Rattle.schema_resolve.proofs.OneForm.{OneName, form_one}
 
 -- ---- of an ordered file, the names of messages and enums start apart
 

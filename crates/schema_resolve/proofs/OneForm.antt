@@ -17,7 +17,7 @@ use Rattle.proto_file.specs.declared.file.FieldType.TheVariants.{Named, Map}
 use Rattle.proto_file.specs.declared.file.FieldDecl.{FieldDecl}
 use Rattle.proto_file.specs.declared.file.File.{File}
 use Rattle.schema_names.specs.Scopes.{Sort, a_message, an_enum, Names, text_of}
-use Rattle.table_law.specs.Types.{no_table, is_scalar, IsScalar, scalar_of, isnt_false, single_label, label_in, HasType, scalar, message, enum, HasForm, single, a_map}
+use Rattle.schema_offences.specs.Types.{no_table, is_scalar, IsScalar, scalar_of, isnt_false, single_label, label_in, HasType, scalar, message, enum, HasForm, single, a_map}
 
 -- ---- scalars
 

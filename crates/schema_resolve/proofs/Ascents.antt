@@ -7,7 +7,7 @@ use Rattle.std.specs.declared.cmp.Ordering.TheVariants.{Less}
 use Rattle.std.specs.Cmp.Lexicographic.{slice_cmp}
 use Rattle.std.proofs.lemmas.Cmp.{int_cmp_total, nat_list_cmp_total}
 use Rattle.mrpc_table.specs.Valid.{Ascends, IsBelow, IsValueBelow}
-use Rattle.table_law.specs.Those.{AreThose}
+use Rattle.schema_offences.specs.Those.{AreThose}
 
 -- ---- elements
 

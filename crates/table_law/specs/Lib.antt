@@ -1,4 +1,0 @@
-pub mod Sources
-pub mod Those
-pub mod Types
-pub mod Tables

@@ -1,6 +1,0 @@
-//! Laws of tables.
-#![tactic(auto)]
-
-mod laws;
-
-pub use laws::one_table;
