@@ -2,7 +2,12 @@ mod Firsts
 mod Formed
 mod Judging
 mod Meetings
+mod NameSets
+mod Numbering
 mod Places
 mod Rows
 mod Scalars
+mod Serving
 mod Standing
+mod Typed
+mod Unless

@@ -3,7 +3,7 @@ use Rattle.std.proofs.Common.{◌≡◌, ℕ, ◌+◌, ◌<◌, ◌≤◌, ◌�
 use Rattle.std.specs.Prelude.{Option, Some, None, slice_get}
 use Rattle.std.proofs.lemmas.Bool.{cases_lt, false≢true}
 use Rattle.std.proofs.lemmas.Bool.Decides.{nat_tests}
-use Rattle.std.proofs.lemmas.Option.{same_Some, slice_get_within, slice_get_read}
+use Rattle.std.proofs.lemmas.Option.{same_Some, slice_get_within, slice_get_read, slice_get-get_or}
 use Rattle.proto_file.specs.declared.file.Span.{Span}
 use Rattle.schema_offences.specs.Offences.{ComesFirst, rank_of}
 use Rattle.schema_offences.specs.Members.{Is}
@@ -227,6 +227,10 @@ meets_element xs R i x a b at m =
 pub item_at : {X : Type 0} (xs ys : List X) (i : ℕ) (x : X) → xs ≡ ys → i < length ys → x ≡ get_or xs i x
     → slice_get ys i ≡ Some x
 item_at xs ys i x e l is = slice_get_read ys (length ys) i x refl l (is ∙ ap (λ zs. get_or zs i x) e)
+
+pub got_at : {X : Type 0} (xs ys : List X) (i : ℕ) (d : X) → xs ≡ ys → i < length ys
+    → slice_get ys i ≡ Some (get_or xs i d)
+got_at xs ys i d e l = slice_get-get_or ys i d l ∙ ap (λ zs. Some (get_or zs i d)) (sym e)
 
 pub meets_all : (P : ℕ → ResolveReason → Span → Type 0) (n : ℕ) (a b : First)
     → ((i : ℕ) (q : ResolveReason) (s : Span) → P i q s → i < n) → Meets (OfFirst n P) a b → Meets (AtSome P) a b
