@@ -1,3 +1,4 @@
+mod FieldForms
 mod Firsts
 mod Formed
 mod Judging
