@@ -56,8 +56,8 @@ push_from words w name false o e old r = elim (Contains-push_cases words w r.0 r
 -- one more name
 pub keeps_push : (words : List Word) (w : Word) (old new : NameSet)
     → ((name : List ℕ) → get_by (λ (key : Bor (List ℕ)). slice_cmp nat_cmp name key.now) new.names
-        ≡ cond (is_eq (slice_cmp nat_cmp w.name name)) (Some tt)
-          (get_by (λ (key : Bor (List ℕ)). slice_cmp nat_cmp name key.now) old.names))
+    ≡ cond (is_eq (slice_cmp nat_cmp w.name name)) (Some tt)
+    (get_by (λ (key : Bor (List ℕ)). slice_cmp nat_cmp name key.now) old.names))
     → KeepsNames words old → KeepsNames (words ++ w ∷ []) new
 keeps_push words w old new changed known name =
     let b : Bool = is_eq (slice_cmp nat_cmp w.name name) in
@@ -69,8 +69,8 @@ keeps_push words w old new changed known name =
 
 pub keeps_next : (words : List Word) (i : ℕ) (d : Word) (old new : NameSet) → i < length words
     → ((name : List ℕ) → get_by (λ (key : Bor (List ℕ)). slice_cmp nat_cmp name key.now) new.names
-        ≡ cond (is_eq (slice_cmp nat_cmp (get_or words i d).name name)) (Some tt)
-          (get_by (λ (key : Bor (List ℕ)). slice_cmp nat_cmp name key.now) old.names))
+    ≡ cond (is_eq (slice_cmp nat_cmp (get_or words i d).name name)) (Some tt)
+    (get_by (λ (key : Bor (List ℕ)). slice_cmp nat_cmp name key.now) old.names))
     → KeepsNames (take i words) old → KeepsNames (take (i + 1) words) new
 keeps_next words i d old new l changed known =
     subst (λ (xs : List Word). KeepsNames xs new) (sym (take_more words i d l))

@@ -217,7 +217,7 @@ in_some ends low place some inside before reaches = record {
 module _ (ranges : List Range) (kept : Reserved) (ends : List (ℕ × ℕ)) (low place : ℕ) (n : ℤ)
     (keeps : KeepsRanges ranges kept) (same : ends ≡ kept.ranges.items) (is : IsPlaceOf place n) (within : low ≤ length ends)
     (parts : IsNonDecreasingBy {X = ℕ × ℕ} (λ e. e.0) ends
-        → AllWithin (λ (e : ℕ × ℕ). e.0 ≤ place) ends 0 low × AllWithin (λ (e : ℕ × ℕ). place < e.0) ends low (length ends)) where
+    → AllWithin (λ (e : ℕ × ℕ). e.0 ≤ place) ends 0 low × AllWithin (λ (e : ℕ × ℕ). place < e.0) ends low (length ends)) where
   search_parts : AllWithin (λ (e : ℕ × ℕ). e.0 ≤ place) ends 0 low
       × AllWithin (λ (e : ℕ × ℕ). place < e.0) ends low (length ends)
   search_parts = parts (subst (λ (es : List (ℕ × ℕ)). IsNonDecreasingBy {X = ℕ × ℕ} (λ e. e.0) es) (sym same) keeps.firsts)

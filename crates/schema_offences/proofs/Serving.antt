@@ -67,10 +67,10 @@ meets_package F w a b at is =
     (meets_where (not (is_short_full w.name)) Limit w.span a b is)
     (λ q s p. (w, at, not_true (is_short_full w.name) p.0, p.1))
     (λ q s p.
-        let same : p.0 ≡ w = same_Some p.0 w (sym p.1 ∙ at) in (
-          true_not (is_short_full w.name) (subst (λ (v : Word). is_short_full v.name ≡ false) same p.2),
-          subst (λ (v : Word). Is Limit v.span q s) same p.3,
-        ))
+    let same : p.0 ≡ w = same_Some p.0 w (sym p.1 ∙ at) in (
+      true_not (is_short_full w.name) (subst (λ (v : Word). is_short_full v.name ≡ false) same p.2),
+      subst (λ (v : Word). Is Limit v.span q s) same p.3,
+    ))
 
 pub meets_no_package : (F : File) (a b : First) → F.package ≡ None → b.found ≡ a.found → Meets (PackageOffends F) a b
 meets_no_package F a b none is =
@@ -95,7 +95,7 @@ rpc_at services i j x r at rat =
     let room : methods_of services i + length (service_rpcs (get_or services i x)) ≤ length (flat_map service_rpcs services) =
     length-flat_map-take service_rpcs services i x within in
     let found : get_or (flat_map service_rpcs services) (methods_of services i + j) (x, r)
-        ≡ get_or (service_rpcs (get_or services i x)) j (x, r) =
+    ≡ get_or (service_rpcs (get_or services i x)) j (x, r) =
     get_or-flat_map service_rpcs services i j x (x, r) within one in
     let element : get_or (service_rpcs x) j (x, r) ≡ (x, r) = get_or_from_slice_get (service_rpcs x) j (x, r) (x, r) here in
     slice_get-get_or (flat_map service_rpcs services) (methods_of services i + j) (x, r) (omega arith)
@@ -114,7 +114,7 @@ methods_more services i x at =
     let last : length (service_rpcs x ++ []) ≡ length x.rpcs =
     ap length (append-nil (service_rpcs x)) ∙ length-map x.rpcs (λ (y : RpcDecl). (x, y)) in
     let sum : length (flat_map service_rpcs (take i services) ++ (service_rpcs x ++ []))
-        ≡ methods_of services i + length (service_rpcs x ++ []) =
+    ≡ methods_of services i + length (service_rpcs x ++ []) =
     length-append (flat_map service_rpcs (take i services)) (service_rpcs x ++ []) in
     omega arith
 

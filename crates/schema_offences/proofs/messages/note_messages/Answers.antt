@@ -22,7 +22,7 @@ loop-i-preserved c =
     item_at c.as_slice-messages.result.now F.messages i m c.as_slice-messages.ensures l c.index-messages-i.is in
     let one = c.one_scope.ensures.exists F (Some i) (stand_behind F c.requires.formed) l in
     let step : (scope : List (List ℕ)) → IsScope F (Some i) scope
-        → Meets (MessageOffends (F ∷ []) scope i m) c.loop-i.first c.note_message.new.first =
+    → Meets (MessageOffends (F ∷ []) scope i m) c.loop-i.first c.note_message.new.first =
     subst (λ (G : File). (scope : List (List ℕ)) → IsScope G (Some i) scope
     → Meets (MessageOffends (G ∷ []) scope i m) c.loop-i.first c.note_message.new.first) c.requires.scopes
     c.in_ok-note_message.ensures in

@@ -27,11 +27,11 @@ returns-in-Some-package c =
     ] in
     let w = c.in-Some-package.package in
     let found : c.note_if.new.self.found
-        ≡ cond (not (is_short_full w.name))
-          (Some (first_of c.match-first.first.found (record { reason = Limit; span = w.span }))) c.match-first.first.found =
+    ≡ cond (not (is_short_full w.name))
+    (Some (first_of c.match-first.first.found (record { reason = Limit; span = w.span }))) c.match-first.first.found =
     subst (λ (b : Bool). c.note_if.new.self.found
-        ≡ cond (not b) (Some (first_of c.match-first.first.found (record { reason = Limit; span = w.span })))
-          c.match-first.first.found)
+    ≡ cond (not b) (Some (first_of c.match-first.first.found (record { reason = Limit; span = w.span })))
+    c.match-first.first.found)
     (c.is_short_full-long.ensures ∙ ap is_short_full c.as_slice-in-Some-package.ensures) c.note_if.ensures in
     meets_as _ (HeadOffends F) c.args.first.now c.note_if.new.self
     (meets_then (ImportOffends F) (PackageOffends F) c.args.first.now c.match-first.first c.note_if.new.self imports

@@ -19,10 +19,10 @@ loop-i-preserved c =
     let old : NameSet = record { names = c.loop-i.names } in
     let new : NameSet = record { names = c.insert.new.self } in
     let changed = λ (name : List ℕ).
-        let key : Bor (List ℕ) = record { ref_ptr = (0, 0); now = name } in
-        c.in_ok-insert.ensures.updates.0 key
-        ∙ ap (λ (own : List ℕ). cond (is_eq (slice_cmp nat_cmp own name)) (Some tt)
-        (get_by (λ (k : Bor (List ℕ)). slice_cmp nat_cmp name k.now) c.loop-i.names)) c.as_slice.ensures in
+    let key : Bor (List ℕ) = record { ref_ptr = (0, 0); now = name } in
+    c.in_ok-insert.ensures.updates.0 key
+    ∙ ap (λ (own : List ℕ). cond (is_eq (slice_cmp nat_cmp own name)) (Some tt)
+    (get_by (λ (k : Bor (List ℕ)). slice_cmp nat_cmp name k.now) c.loop-i.names)) c.as_slice.ensures in
     subst (λ (xs : List Word). KeepsNames (take (c.loop-i.i + 1) xs) new) c.as_slice-all.ensures
     (keeps_next all c.loop-i.i c.index-all-i.result old new c.loop-i-test.true changed
     (subst (λ (xs : List Word). KeepsNames (take c.loop-i.i xs) old) (sym c.as_slice-all.ensures) c.loop-i.invariant))
