@@ -34,7 +34,8 @@ one_message i j e = cc
 one_enum : (i j : ℕ) → enum_decl i ≡ enum_decl j → i ≡ j
 one_enum i j e = cc
 
-apart_types : (F : File) → IsOrdered F → (a b : Named) (f g : List (List ℕ)) (s t : Span) → StandsAt F a f s → StandsAt F b g t
+apart_types : (F : File) → IsOrdered F → (a b : Named) (f g : List (List ℕ)) (s t : Span) → StandsAt F a f s
+    → StandsAt F b g t
     → s.start ≡ t.start → a ≡ b
 apart_types F order a b f g s t (Numbers.message i m at h) (Numbers.message j n bt k) e =
     ap Message (one_message i j (order.apart (message_decl i) (message_decl j) its_name its_name s t

@@ -69,7 +69,8 @@ met_more fields i place f old new at is changed known = record {
         let e : j ≡ i = omega arith in
         let same : g ≡ f = same_Some g f (sym gat ∙ (ap (slice_get fields) e ∙ at)) in
         let one : value_of g.number ≡ value_of f.number = ap (λ (x : FieldDecl). value_of x.number) same in
-        changed p ∙ met_now p place (has_met old p) (place_same p place (value_of g.number) (value_of f.number) gis is one)
+        changed p ∙ met_now p place (has_met old p) (place_same p place (value_of g.number) (value_of f.number) gis is
+        one)
   ];
 }
 
@@ -96,7 +97,8 @@ module _ (m : MessageDecl) (i place : ℕ) (f : FieldDecl) (met : BTreeMap ℕ (
       → (q : ResolveReason) (s : Span) → NumberOffends m i q s → NumberParts f is_met is_reserved q s
   number_from reserved q s (Members.number_out_of_range g gat p here) =
       let one : g ≡ f = same_Some g f (sym gat ∙ at) in
-      inl (inl (subst (λ (x : FieldDecl). (IsFieldNumberOf (value_of x.number) → ⊥) × Is NumberRange x.number.span q s) one
+      inl (inl (subst (λ (x : FieldDecl). (IsFieldNumberOf (value_of x.number) → ⊥) × Is NumberRange x.number.span q s)
+      one
       (p, here)))
   number_from reserved q s (Members.number_met_before g h j gat l hat e here) =
       let one : g ≡ f = same_Some g f (sym gat ∙ at) in
@@ -147,7 +149,8 @@ module _ (e : EnumDecl) (i : ℕ) (v : ValueDecl) (is_reserved is_first : Bool) 
       → (q : ResolveReason) (s : Span) → ValueOffends e i q s → ValueParts v is_reserved is_first q s
   value_from reserved first q s (Members.value_out_of_range w wat p here) =
       let one : w ≡ v = same_Some w v (sym wat ∙ at) in
-      inl (inl (subst (λ (x : ValueDecl). (FitsSigned w32 (value_of x.number) → ⊥) × Is NumberRange x.number.span q s) one
+      inl (inl (subst (λ (x : ValueDecl). (FitsSigned w32 (value_of x.number) → ⊥) × Is NumberRange x.number.span q s)
+      one
       (p, here)))
   value_from reserved first q s (Members.value_reserved w wat p here) =
       let one : w ≡ v = same_Some w v (sym wat ∙ at) in
@@ -157,12 +160,14 @@ module _ (e : EnumDecl) (i : ℕ) (v : ValueDecl) (is_reserved is_first : Bool) 
       ))
   value_from reserved first q s (Members.first_not_zero w wat z p here) =
       let one : w ≡ v = same_Some w v (sym wat ∙ at) in
-      inr (subst (λ (x : ValueDecl). (is_first ≡ true) × (value_of x.number ≢ pos 0) × Is FirstEnum x.number.span q s) one
+      inr (subst (λ (x : ValueDecl). (is_first ≡ true) × (value_of x.number ≢ pos 0) × Is FirstEnum x.number.span q s)
+      one
       (first z, p, here))
 
 -- ---- places within their lists
 
-pub number_within : (m : MessageDecl) (i : ℕ) (q : ResolveReason) (s : Span) → NumberOffends m i q s → i < length m.fields
+pub number_within : (m : MessageDecl) (i : ℕ) (q : ResolveReason) (s : Span) → NumberOffends m i q s
+    → i < length m.fields
 number_within m i q s (Members.number_out_of_range f at o is) = slice_get_within m.fields i f at
 number_within m i q s (Members.number_met_before f g j at l gat e is) = slice_get_within m.fields i f at
 number_within m i q s (Members.number_reserved f at o is) = slice_get_within m.fields i f at

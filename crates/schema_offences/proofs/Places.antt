@@ -60,7 +60,8 @@ all_above : (least : ℕ) (old : List (ℕ × ℕ)) (j : ℕ) (d : ℕ × ℕ) �
 all_above least [] j d l = absurd (omega arith)
 all_above least (e ∷ es) zero d l = omega arith
 all_above least (e ∷ es) (suc j) d l =
-    let k : max least e.1 ≤ (get_or (reach_from (max least e.1) es) j d).1 = all_above (max least e.1) es j d (omega arith) in
+    let k : max least e.1 ≤ (get_or (reach_from (max least e.1) es) j d).1 =
+    all_above (max least e.1) es j d (omega arith) in
     omega arith
 
 all_covered : (least : ℕ) (old : List (ℕ × ℕ)) (i j : ℕ) (d : ℕ × ℕ) → i ≤ j → j < length old
@@ -68,7 +69,8 @@ all_covered : (least : ℕ) (old : List (ℕ × ℕ)) (i j : ℕ) (d : ℕ × �
 all_covered least [] i j d h l = absurd (omega arith)
 all_covered least (e ∷ es) zero zero d h l = omega arith
 all_covered least (e ∷ es) zero (suc j) d h l =
-    let k : max least e.1 ≤ (get_or (reach_from (max least e.1) es) j d).1 = all_above (max least e.1) es j d (omega arith) in
+    let k : max least e.1 ≤ (get_or (reach_from (max least e.1) es) j d).1 =
+    all_above (max least e.1) es j d (omega arith) in
     omega arith
 all_covered least (e ∷ es) (suc i) zero d h l = absurd (omega arith)
 all_covered least (e ∷ es) (suc i) (suc j) d h l = all_covered (max least e.1) es i j d (omega arith) (omega arith)
@@ -177,7 +179,8 @@ module _ (ranges : List Range) (old : List (ℕ × ℕ)) (kept : Reserved) (s : 
   keeps_ranges = record {
     firsts = subst (λ (es : List (ℕ × ℕ)). IsNonDecreasingBy {X = ℕ × ℕ} (λ e. e.0) es) (sym r) keeps_firsts;
     lasts = subst (λ (es : List (ℕ × ℕ)). IsNonDecreasingBy {X = ℕ × ℕ} (λ e. e.1) es) (sym r) keeps_lasts;
-    all_in = λ place n p small h. subst (λ (es : List (ℕ × ℕ)). IsInSome es place) (sym r) (keeps_all place n p small h);
+    all_in = λ place n p small h.
+        subst (λ (es : List (ℕ × ℕ)). IsInSome es place) (sym r) (keeps_all place n p small h);
     none_else = λ place n p h. keeps_no_other place n p (subst (λ (es : List (ℕ × ℕ)). IsInSome es place) r h);
   }
 
@@ -215,28 +218,32 @@ in_some ends low place some inside before reaches = record {
 }
 
 module _ (ranges : List Range) (kept : Reserved) (ends : List (ℕ × ℕ)) (low place : ℕ) (n : ℤ)
-    (keeps : KeepsRanges ranges kept) (same : ends ≡ kept.ranges.items) (is : IsPlaceOf place n) (within : low ≤ length ends)
+    (keeps : KeepsRanges ranges kept) (same : ends ≡ kept.ranges.items) (is : IsPlaceOf place n)
+    (within : low ≤ length ends)
     (parts : IsNonDecreasingBy {X = ℕ × ℕ} (λ e. e.0) ends
-    → AllWithin (λ (e : ℕ × ℕ). e.0 ≤ place) ends 0 low × AllWithin (λ (e : ℕ × ℕ). place < e.0) ends low (length ends)) where
-  search_parts : AllWithin (λ (e : ℕ × ℕ). e.0 ≤ place) ends 0 low
-      × AllWithin (λ (e : ℕ × ℕ). place < e.0) ends low (length ends)
-  search_parts = parts (subst (λ (es : List (ℕ × ℕ)). IsNonDecreasingBy {X = ℕ × ℕ} (λ e. e.0) es) (sym same) keeps.firsts)
+    → AllWithin (λ (e : ℕ × ℕ). e.0 ≤ place) ends 0 low × AllWithin (λ (e : ℕ × ℕ). place < e.0) ends low (length ends))
+  where
+    search_parts : AllWithin (λ (e : ℕ × ℕ). e.0 ≤ place) ends 0 low
+        × AllWithin (λ (e : ℕ × ℕ). place < e.0) ends low (length ends)
+    search_parts =
+        parts
+        (subst (λ (es : List (ℕ × ℕ)). IsNonDecreasingBy {X = ℕ × ℕ} (λ e. e.0) es) (sym same) keeps.firsts)
 
-  -- a reserved number is found by the search
-  pub search_finds : place ≤ 2 ^ 65 → IsReserved ranges n → (0 < low) × (place ≤ (get_or ends (low - 1) (0, 0)).1)
-  search_finds small reserved =
-      let lasts : IsNonDecreasingBy {X = ℕ × ℕ} (λ e. e.1) ends =
-      subst (λ (es : List (ℕ × ℕ)). IsNonDecreasingBy {X = ℕ × ℕ} (λ e. e.1) es) (sym same) keeps.lasts in
-      let some : IsInSome ends place =
-      subst (λ (es : List (ℕ × ℕ)). IsInSome es place) (sym same) (keeps.all_in place n is small reserved) in
-      found_in ends low place lasts within (λ k d l h. search_parts.1 k d l h) some
+    -- a reserved number is found by the search
+    pub search_finds : place ≤ 2 ^ 65 → IsReserved ranges n → (0 < low) × (place ≤ (get_or ends (low - 1) (0, 0)).1)
+    search_finds small reserved =
+        let lasts : IsNonDecreasingBy {X = ℕ × ℕ} (λ e. e.1) ends =
+        subst (λ (es : List (ℕ × ℕ)). IsNonDecreasingBy {X = ℕ × ℕ} (λ e. e.1) es) (sym same) keeps.lasts in
+        let some : IsInSome ends place =
+        subst (λ (es : List (ℕ × ℕ)). IsInSome es place) (sym same) (keeps.all_in place n is small reserved) in
+        found_in ends low place lasts within (λ k d l h. search_parts.1 k d l h) some
 
-  -- what is found is reserved
-  pub search_found : 0 < low → place ≤ (get_or ends (low - 1) (0, 0)).1 → IsReserved ranges n
-  search_found some reaches =
-      keeps.none_else place n is
-      (subst (λ (es : List (ℕ × ℕ)). IsInSome es place) same
-      (in_some ends low place some within (λ k d h. search_parts.0 k d (omega arith) h) reaches))
+    -- what is found is reserved
+    pub search_found : 0 < low → place ≤ (get_or ends (low - 1) (0, 0)).1 → IsReserved ranges n
+    search_found some reaches =
+        keeps.none_else place n is
+        (subst (λ (es : List (ℕ × ℕ)). IsInSome es place) same
+        (in_some ends low place some within (λ k d h. search_parts.0 k d (omega arith) h) reaches))
 
 -- ---- ends as they are reached
 

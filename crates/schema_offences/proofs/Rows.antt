@@ -61,7 +61,8 @@ of_one m = file_of (m ∷ []) [] [] []
 in_one : (m : MessageDecl) (q : ResolveReason) (s : Span) → m.parent ≡ None
     → MessageOffends (of_one m ∷ []) (m.name.name ∷ []) 0 m q s → IsOffence (of_one m) q s
 in_one m q s e o =
-    offends (Offences.of_message 0 m refl (in_message 0 m refl (subst (λ (p : Option ℕ). IsScope (of_one m) p []) (sym e) of_file)) o)
+    offends (Offences.of_message 0 m refl (in_message 0 m refl (subst (λ (p : Option ℕ). IsScope (of_one m) p [])
+    (sym e) of_file)) o)
 
 -- ---- one offence of each reason
 
@@ -87,7 +88,8 @@ a_service = record { name = word (codes "S") 1; rpcs = an_rpc ∷ [] }
 
 unknown_row : IsOffence (file_of [] [] (a_service ∷ []) []) UnknownName (at 3)
 unknown_row =
-    offends (Offences.of_method 0 a_service an_rpc refl (no_input (λ full names. finds_none _ full refl names.finds) (refl, refl)))
+    offends (Offences.of_method 0 a_service an_rpc refl (no_input (λ full names. finds_none _ full refl names.finds)
+    (refl, refl)))
 
 -- message M { int32 a = 0; }
 abbrev zero_field : FieldDecl

@@ -32,11 +32,13 @@ abbrev pub PackageOffends : File → ResolveReason → Span → Type 0
 PackageOffends F q s =
     (w : Word) × (F.package ≡ Some w) × (is_short_full w.name ≡ false) × Is Limit w.span q s
 
-pub head_to : (F : File) (q : ResolveReason) (s : Span) → (ImportOffends F q s ⊎ PackageOffends F q s) → HeadOffends F q s
+pub head_to : (F : File) (q : ResolveReason) (s : Span) → (ImportOffends F q s ⊎ PackageOffends F q s)
+    → HeadOffends F q s
 head_to F q s (inl p) = an_import p.0 p.1 p.2
 head_to F q s (inr p) = a_long_package p.0 p.1 p.2 p.3
 
-pub head_from : (F : File) (q : ResolveReason) (s : Span) → HeadOffends F q s → ImportOffends F q s ⊎ PackageOffends F q s
+pub head_from : (F : File) (q : ResolveReason) (s : Span) → HeadOffends F q s
+    → ImportOffends F q s ⊎ PackageOffends F q s
 head_from F q s (an_import x at is) = inl (x, at, is)
 head_from F q s (a_long_package w at long is) = inr (w, at, long, is)
 
@@ -60,7 +62,8 @@ true_not true e = absurd cc
 true_not false e = refl
 
 pub meets_package : (F : File) (w : Word) (a b : First) → F.package ≡ Some w
-    → b.found ≡ cond (not (is_short_full w.name)) (Some (first_of a.found (record { reason = Limit; span = w.span }))) a.found
+    → b.found ≡ cond (not (is_short_full w.name))
+    (Some (first_of a.found (record { reason = Limit; span = w.span }))) a.found
     → Meets (PackageOffends F) a b
 meets_package F w a b at is =
     meets_as (IsWhere (not (is_short_full w.name)) Limit w.span) (PackageOffends F) a b
@@ -92,12 +95,14 @@ rpc_at services i j x r at rat =
     let short : j < length (service_rpcs x) = slice_get_within (service_rpcs x) j (x, r) here in
     let one : j < length (service_rpcs (get_or services i x)) =
     subst (λ (y : ServiceDecl). j < length (service_rpcs y)) (sym same) short in
-    let room : methods_of services i + length (service_rpcs (get_or services i x)) ≤ length (flat_map service_rpcs services) =
+    let room : methods_of services i + length (service_rpcs (get_or services i x))
+    ≤ length (flat_map service_rpcs services) =
     length-flat_map-take service_rpcs services i x within in
     let found : get_or (flat_map service_rpcs services) (methods_of services i + j) (x, r)
     ≡ get_or (service_rpcs (get_or services i x)) j (x, r) =
     get_or-flat_map service_rpcs services i j x (x, r) within one in
-    let element : get_or (service_rpcs x) j (x, r) ≡ (x, r) = get_or_from_slice_get (service_rpcs x) j (x, r) (x, r) here in
+    let element : get_or (service_rpcs x) j (x, r) ≡ (x, r) = get_or_from_slice_get (service_rpcs x) j (x, r) (x, r)
+    here in
     slice_get-get_or (flat_map service_rpcs services) (methods_of services i + j) (x, r) (omega arith)
     ∙ ap Some (found ∙ (ap (λ (y : ServiceDecl). get_or (service_rpcs y) j (x, r)) same ∙ element))
 
@@ -134,7 +139,8 @@ counted_from files scope n place r e q s (Members.no_input p is) = Members.no_in
 counted_from files scope n place r e q s (Members.no_output p is) = Members.no_output p is
 
 pub meets_counted : (files : List File) (scope : List (List ℕ)) (n place : ℕ) (r : RpcDecl) (a b : First)
-    → n ≡ min place (2 ^ 64 - 1) → Meets (MethodOffends files scope n r) a b → Meets (MethodOffends files scope place r) a b
+    → n ≡ min place (2 ^ 64 - 1) → Meets (MethodOffends files scope n r) a b
+    → Meets (MethodOffends files scope place r) a b
 meets_counted files scope n place r a b e m =
-    meets_as (MethodOffends files scope n r) (MethodOffends files scope place r) a b m (counted_to files scope n place r e)
-    (counted_from files scope n place r e)
+    meets_as (MethodOffends files scope n r) (MethodOffends files scope place r) a b m
+    (counted_to files scope n place r e) (counted_from files scope n place r e)

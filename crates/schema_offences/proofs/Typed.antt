@@ -56,12 +56,14 @@ true_not true e = absurd cc
 true_not false e = refl
 
 key_to : (F : File) (scope : List (List ℕ)) (key : Word) (t : TypeOf) → IsType F scope key.name t
-    → (q : ResolveReason) (s : Span) → IsWhere (not (may_be_key t)) MapKey key.span q s → KeyOffends (F ∷ []) scope key q s
+    → (q : ResolveReason) (s : Span) → IsWhere (not (may_be_key t)) MapKey key.span q s
+    → KeyOffends (F ∷ []) scope key q s
 key_to F scope key (Scalar k) is q s p = Members.scalar_key k is (not_true (is_key k) p.0) p.1
 key_to F scope key (OfName n) is q s p = Members.type_key (sort_of n) is.1.0 is.0 is.1.1 p.1
 
 key_from : (F : File) (scope : List (List ℕ)) (key : Word) (t : TypeOf) → IsType F scope key.name t
-    → (q : ResolveReason) (s : Span) → KeyOffends (F ∷ []) scope key q s → IsWhere (not (may_be_key t)) MapKey key.span q s
+    → (q : ResolveReason) (s : Span) → KeyOffends (F ∷ []) scope key q s
+    → IsWhere (not (may_be_key t)) MapKey key.span q s
 key_from F scope key t is q s (Members.unknown_key p) =
     absurd (known_type F scope key t is (p.no_scalar, p.unknown))
 key_from F scope key (Scalar k) is q s (Members.scalar_key j named bad here) =
@@ -77,7 +79,8 @@ pub meets_key : (F : File) (scope : List (List ℕ)) (key : Word) (t : TypeOf) (
 meets_key F scope key t bad a b is e noted =
     meets_as (IsWhere (not (may_be_key t)) MapKey key.span) (KeyOffends (F ∷ []) scope key) a b
     (meets_where (not (may_be_key t)) MapKey key.span a b
-    (subst (λ (x : Bool). b.found ≡ cond x (Some (first_of a.found (record { reason = MapKey; span = key.span }))) a.found)
+    (subst (λ (x : Bool). b.found ≡ cond x (Some (first_of a.found (record { reason = MapKey; span = key.span })))
+    a.found)
     e noted))
     (key_to F scope key t is) (key_from F scope key t is)
 
@@ -111,7 +114,8 @@ kind_to files scope f (Map k v) e q s (inr p) = Members.unknown_value k v e p
 kind_to files scope f NestedMap e q s p = absurd p
 
 pub type_to : (files : List File) (scope : List (List ℕ)) (f : FieldDecl) (q : ResolveReason) (s : Span)
-    → (KindOffends files scope f.kind q s ⊎ (IsMisplaced f × Is MapPlace f.name.span q s)) → TypeOffends files scope f q s
+    → (KindOffends files scope f.kind q s ⊎ (IsMisplaced f × Is MapPlace f.name.span q s))
+    → TypeOffends files scope f q s
 type_to files scope f q s (inl p) = kind_to files scope f f.kind refl q s p
 type_to files scope f q s (inr p) = Members.misplaced p.0 p.1
 

@@ -26,7 +26,8 @@ loop-i-preserved c =
     let reserved = c.has-is_reserved.result in
     let decides = c.has-is_reserved.ensures e.ranges (value_of v.number) keeps is c.place_of.ensures.small in
     meets_more (ValueOffends e) i c.args.first.now c.loop-i.first c.note_number.new.first c.loop-i.invariant
-    (meets_as (ValueParts v reserved (i == 0)) (ValueOffends e i) c.loop-i.first c.note_number.new.first c.note_number.ensures
+    (meets_as (ValueParts v reserved (i == 0)) (ValueOffends e i) c.loop-i.first c.note_number.new.first
+    c.note_number.ensures
     (value_to e i v reserved (i == 0) at decides.0 (λ t. eqb-true i 0 t))
     (value_from e i v reserved (i == 0) at decides.1 (λ z. eq-eqb i 0 z)))
 

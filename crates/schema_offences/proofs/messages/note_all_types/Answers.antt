@@ -12,7 +12,8 @@ loop-i-preserved c scope h =
     let xs = c.args.fields.now in
     let at : slice_get xs c.loop-i.i ≡ Some c.index-fields-i.result =
     item_at xs xs c.loop-i.i c.index-fields-i.result refl c.loop-i-test.true c.index-fields-i.is in
-    meets_next xs (λ i. TypeOffends (c.args.scopes.now ∷ []) scope) c.loop-i.i c.index-fields-i.result _ _ c.note_types.new.first at
+    meets_next xs (λ i. TypeOffends (c.args.scopes.now ∷ []) scope) c.loop-i.i c.index-fields-i.result _ _
+    c.note_types.new.first at
     (c.loop-i.invariant scope h) (c.note_types.ensures scope h)
 
 pub returns : goal.returns

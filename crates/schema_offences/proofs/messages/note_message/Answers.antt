@@ -12,14 +12,17 @@ pub returns : goal.returns
 returns c scope h =
     let m = c.args.message.now in
     let files = c.args.scopes.now ∷ [] in
-    meets_as (MessageParts files scope c.args.i m) (MessageOffends files scope c.args.i m) c.args.first.now c.note_oneofs.new.first
+    meets_as (MessageParts files scope c.args.i m) (MessageOffends files scope c.args.i m) c.args.first.now
+    c.note_oneofs.new.first
     (meets_then _ _ _ _ _
     (meets_then _ _ _ _ _
     (meets_then _ _ _ _ _
     (meets_then _ _ _ _ _
     (meets_then _ _ _ _ _
-    (meets_least MAX_MESSAGES c.args.i Limit m.name.span c.args.first.now c.note_if.new.self c.note_if.ensures) c.note_long.ensures)
-    (subst (λ (fields : List FieldDecl). Meets (AtSome (OfElement fields (λ i. TypeOffends files scope))) c.note_long.new.first
+    (meets_least MAX_MESSAGES c.args.i Limit m.name.span c.args.first.now c.note_if.new.self c.note_if.ensures)
+    c.note_long.ensures)
+    (subst (λ (fields : List FieldDecl). Meets (AtSome (OfElement fields (λ i. TypeOffends files scope)))
+    c.note_long.new.first
     c.note_all_types.new.first) c.as_slice.ensures (c.note_all_types.ensures scope h)))
     c.in_ok-note_numbers.ensures)
     c.in_ok-note_names.ensures)

@@ -26,7 +26,8 @@ loop-i-preserved c =
     subst (λ (G : File). (scope : List (List ℕ)) → IsScope G (Some i) scope
     → Meets (MessageOffends (G ∷ []) scope i m) c.loop-i.first c.note_message.new.first) c.requires.scopes
     c.in_ok-note_message.ensures in
-    meets_next F.messages (MessageIn F) i m c.args.first.now c.loop-i.first c.note_message.new.first at c.loop-i.invariant
+    meets_next F.messages (MessageIn F) i m c.args.first.now c.loop-i.first c.note_message.new.first at
+    c.loop-i.invariant
     (meets_message_in F i m one.0 c.loop-i.first c.note_message.new.first one.1
     (λ t h. c.one_scope.ensures.one F (Some i) t one.0 h one.1) (step one.0 one.1))
 

@@ -9,7 +9,11 @@ use Rattle.schema_offences.proofs.Numbering.{NumberParts, met_none, met_more, nu
 use Rattle.schema_offences.proofs.messages.note_numbers.Goals as goal
 
 pub loop-i-init : goal.loop-i-init
-loop-i-init c = record { meets = meets_start _ _; met = met_none c.args.message.now.fields c.new-met.result c.new-met.ensures.empty }
+loop-i-init c = record {
+  meets = meets_start _ _;
+  met = met_none c.args.message.now.fields c.new-met.result
+      c.new-met.ensures.empty;
+}
 
 pub loop-i-preserved : goal.loop-i-preserved
 loop-i-preserved c =
@@ -28,11 +32,16 @@ loop-i-preserved c =
     let reserved = c.has-is_reserved.result in
     let decides = c.has-is_reserved.ensures m.ranges (value_of f.number) keeps is c.place_of-place.ensures.small in
     record {
-      meets = meets_more (NumberOffends m) i c.args.first.now c.loop-i.first c.note_number.new.first c.loop-i.invariant.meets
-          (meets_as (NumberParts f met reserved) (NumberOffends m i) c.loop-i.first c.note_number.new.first c.note_number.ensures
-          (number_to m i place f c.loop-i.met met reserved at is c.loop-i.invariant.met c.in_ok-is_met.ensures.was_met decides.0)
-          (number_from m i place f c.loop-i.met met reserved at is c.loop-i.invariant.met c.in_ok-is_met.ensures.was_met decides.1));
-      met = met_more m.fields i place f c.loop-i.met c.meet.new.met at is c.in_ok-is_met.ensures.meets c.loop-i.invariant.met;
+      meets = meets_more (NumberOffends m) i c.args.first.now c.loop-i.first c.note_number.new.first
+          c.loop-i.invariant.meets
+          (meets_as (NumberParts f met reserved) (NumberOffends m i) c.loop-i.first c.note_number.new.first
+          c.note_number.ensures
+          (number_to m i place f c.loop-i.met met reserved at is c.loop-i.invariant.met c.in_ok-is_met.ensures.was_met
+          decides.0)
+          (number_from m i place f c.loop-i.met met reserved at is c.loop-i.invariant.met c.in_ok-is_met.ensures.was_met
+          decides.1));
+      met = met_more m.fields i place f c.loop-i.met c.meet.new.met at is c.in_ok-is_met.ensures.meets
+          c.loop-i.invariant.met;
     }
 
 pub returns : goal.returns

@@ -17,16 +17,20 @@ returns c scope h =
     let kind : Meets (KindOffends files scope f.kind) c.args.first.now c.match-field.first = elim c.match-field.branch [
       | in-Named w ↦
           subst (λ (b : First). Meets (KindOffends files scope f.kind) c.args.first.now b) (sym w.first-is)
-          (subst (λ (k : FieldType). Meets (KindOffends files scope k) c.args.first.now w.note_type.new.first) (sym w.in-Named.is)
+          (subst (λ (k : FieldType). Meets (KindOffends files scope k) c.args.first.now w.note_type.new.first)
+          (sym w.in-Named.is)
           (w.note_type.ensures scope h))
       | in-Map w ↦
           subst (λ (b : First). Meets (KindOffends files scope f.kind) c.args.first.now b) (sym w.first-is)
-          (subst (λ (k : FieldType). Meets (KindOffends files scope k) c.args.first.now w.note_type-in-Map.new.first) (sym w.in-Map.is)
-          (meets_then (KeyOffends files scope w.in-Map.key) (IsNoType files scope w.in-Map.value) c.args.first.now w.note_key.new.first
+          (subst (λ (k : FieldType). Meets (KindOffends files scope k) c.args.first.now w.note_type-in-Map.new.first)
+          (sym w.in-Map.is)
+          (meets_then (KeyOffends files scope w.in-Map.key) (IsNoType files scope w.in-Map.value) c.args.first.now
+          w.note_key.new.first
           w.note_type-in-Map.new.first (w.note_key.ensures scope h) (w.note_type-in-Map.ensures scope h)))
       | in-NestedMap w ↦
           subst (λ (b : First). Meets (KindOffends files scope f.kind) c.args.first.now b) (sym w.first-is)
-          (subst (λ (k : FieldType). Meets (KindOffends files scope k) c.args.first.now c.args.first.now) (sym w.in-NestedMap.is)
+          (subst (λ (k : FieldType). Meets (KindOffends files scope k) c.args.first.now c.args.first.now)
+          (sym w.in-NestedMap.is)
           (meets_none (KindOffends files scope NestedMap) c.args.first.now (λ q s p. p)))
     ] in
     meets_as _ (TypeOffends files scope f) c.args.first.now c.note_if.new.self

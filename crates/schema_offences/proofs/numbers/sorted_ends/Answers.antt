@@ -7,5 +7,6 @@ use Rattle.schema_offences.proofs.numbers.sorted_ends.Goals as goal
 pub returns : goal.returns
 returns c = record {
   those = those_moved IsEndsOf c.args.ranges.now _ _ c.in_ok-sort_by_key.ensures.permutation c.in_ok-sorted.ensures;
-  ascend = IsNonDecreasingBy-from_sort_by_key (λ (e : ℕ × ℕ). e.0) _ c.in_ok-sort_by_key.ensures.sorted (λ a r q k. search rules);
+  ascend = IsNonDecreasingBy-from_sort_by_key (λ (e : ℕ × ℕ). e.0) _ c.in_ok-sort_by_key.ensures.sorted
+      (λ a r q k. search rules);
 }

@@ -15,5 +15,6 @@ returns c =
     let Q = λ (i : ℕ). (full : List (List ℕ)) × Names (F ∷ []) (package_of F) w.name a_message full
     × IsFirstAt F (Message i) full in
     meets_unless P Q c.message_of.result c.is_none-unknown.result UnknownName w.span c.args.first.now c.note_if.new.self
-    c.is_none-unknown.ensures (of_both P Q c.message_of.result c.message_of.ensures.some (c.message_of.ensures.none c.requires))
+    c.is_none-unknown.ensures (of_both P Q c.message_of.result c.message_of.ensures.some (c.message_of.ensures.none
+    c.requires))
     (λ i e q p. p q.0 q.1) c.note_if.ensures

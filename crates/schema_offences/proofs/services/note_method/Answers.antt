@@ -11,12 +11,14 @@ pub returns : goal.returns
 returns c =
     let F = c.args.scopes.now in
     let r = c.args.rpc.now in
-    meets_as (MethodParts (F ∷ []) (package_of F) c.args.i r) (MethodOffends (F ∷ []) (package_of F) c.args.i r) c.args.first.now
+    meets_as (MethodParts (F ∷ []) (package_of F) c.args.i r) (MethodOffends (F ∷ []) (package_of F) c.args.i r)
+    c.args.first.now
     c.note_message-2.new.first
     (meets_then _ _ _ _ _
     (meets_then _ _ _ _ _
     (meets_then _ _ _ _ _
-    (meets_least MAX_METHODS c.args.i Limit r.name.span c.args.first.now c.note_if.new.self c.note_if.ensures) c.note_long.ensures)
+    (meets_least MAX_METHODS c.args.i Limit r.name.span c.args.first.now c.note_if.new.self c.note_if.ensures)
+    c.note_long.ensures)
     c.note_message.ensures)
     c.note_message-2.ensures)
     (method_to (F ∷ []) (package_of F) c.args.i r) (method_from (F ∷ []) (package_of F) c.args.i r)

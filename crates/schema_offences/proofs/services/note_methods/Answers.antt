@@ -30,7 +30,8 @@ loop-service-preserved c =
     let more : methods_of services (i + 1) ≡ n + length x.rpcs = methods_more services i x at in
     let same : n + c.loop-rpc.rpc-index ≡ methods_of services (i + 1) = omega arith in
     record {
-      meets = subst (λ (k : ℕ). Meets (OfFirst k (OfElement (rpcs_of c.args.file.now) (MethodIn c.args.file.now))) c.args.first.now
+      meets = subst (λ (k : ℕ). Meets (OfFirst k (OfElement (rpcs_of c.args.file.now) (MethodIn c.args.file.now)))
+          c.args.first.now
           c.loop-rpc.first) same c.loop-rpc.invariant.meets;
       count = c.loop-rpc.invariant.count ∙ ap (λ (k : ℕ). min k (2 ^ 64 - 1)) same;
     }
@@ -40,7 +41,8 @@ loop-rpc-init c =
     let n : ℕ = methods_of c.args.file.now.services c.loop-service.service-index in
     let same : n ≡ n + 0 = omega arith in
     record {
-      meets = subst (λ (k : ℕ). Meets (OfFirst k (OfElement (rpcs_of c.args.file.now) (MethodIn c.args.file.now))) c.args.first.now
+      meets = subst (λ (k : ℕ). Meets (OfFirst k (OfElement (rpcs_of c.args.file.now) (MethodIn c.args.file.now)))
+          c.args.first.now
           c.loop-service.first) same c.loop-service.invariant.meets;
       count = c.loop-service.invariant.count ∙ ap (λ (k : ℕ). min k (2 ^ 64 - 1)) same;
     }
@@ -61,18 +63,23 @@ loop-rpc-preserved c =
     item_at c.as_slice-rpc-items.result.now x.rpcs j r c.as_slice-rpc-items.ensures k c.rpc-item.is in
     let n : ℕ = methods_of services i + j in
     let next : methods_of services i + (j + 1) ≡ n + 1 = omega arith in
-    let step : Meets (MethodOffends (F ∷ []) (package_of F) c.loop-rpc.methods r) c.loop-rpc.first c.note_method.new.first =
-    subst (λ (G : File). Meets (MethodOffends (G ∷ []) (package_of G) c.loop-rpc.methods r) c.loop-rpc.first c.note_method.new.first)
+    let step : Meets (MethodOffends (F ∷ []) (package_of F) c.loop-rpc.methods r) c.loop-rpc.first
+    c.note_method.new.first =
+    subst (λ (G : File). Meets (MethodOffends (G ∷ []) (package_of G) c.loop-rpc.methods r) c.loop-rpc.first
+    c.note_method.new.first)
     c.requires.scopes c.note_method.ensures in
     let more : Meets (OfFirst (n + 1) (OfElement (rpcs_of F) (MethodIn F))) c.args.first.now c.note_method.new.first =
     meets_next (rpcs_of F) (MethodIn F) n (x, r) c.args.first.now c.loop-rpc.first c.note_method.new.first
     (rpc_at services i j x r at rat) c.loop-rpc.invariant.meets
-    (meets_counted (F ∷ []) (package_of F) c.loop-rpc.methods n r c.loop-rpc.first c.note_method.new.first c.loop-rpc.invariant.count step) in
+    (meets_counted (F ∷ []) (package_of F) c.loop-rpc.methods n r c.loop-rpc.first c.note_method.new.first
+    c.loop-rpc.invariant.count step) in
     let before : c.loop-rpc.methods ≡ min n (2 ^ 64 - 1) = c.loop-rpc.invariant.count in
-    let after : c.saturating_add-methods.result ≡ min (c.loop-rpc.methods + 1) (2 ^ 64 - 1) = c.saturating_add-methods.ensures in
+    let after : c.saturating_add-methods.result ≡ min (c.loop-rpc.methods + 1) (2 ^ 64 - 1) =
+    c.saturating_add-methods.ensures in
     let counted : c.saturating_add-methods.result ≡ min (n + 1) (2 ^ 64 - 1) = omega arith in
     record {
-      meets = subst (λ (k : ℕ). Meets (OfFirst k (OfElement (rpcs_of F) (MethodIn F))) c.args.first.now c.note_method.new.first)
+      meets = subst (λ (k : ℕ). Meets (OfFirst k (OfElement (rpcs_of F) (MethodIn F))) c.args.first.now
+          c.note_method.new.first)
           (sym next) more;
       count = counted ∙ ap (λ (k : ℕ). min k (2 ^ 64 - 1)) (sym next);
     }

@@ -8,7 +8,8 @@ use Rattle.schema_offences.proofs.services.note_methods.Given as goal
 -- what stands against the methods up to here was met, and how many these are
 abbrev pub invariant-loop-service : goal.invariant-loop-service
 invariant-loop-service l = record {
-  meets : Meets (OfFirst (methods_of l.fn.file.services l.service-index) (OfElement (rpcs_of l.fn.file) (MethodIn l.fn.file)))
+  meets : Meets (OfFirst (methods_of l.fn.file.services l.service-index) (OfElement (rpcs_of l.fn.file)
+      (MethodIn l.fn.file)))
       l.fn.first l.first;
   count : l.methods ≡ min (methods_of l.fn.file.services l.service-index) (2 ^ 64 - 1);
 }

@@ -29,6 +29,7 @@ loop-i-preserved c =
 
 pub returns : goal.returns
 returns c =
-    let l : length c.args.words.now ≤ c.loop-i.i = omega (arith, ap length c.as_slice-all.ensures, c.loop-i-test.false) in
+    let l : length c.args.words.now ≤ c.loop-i.i =
+    omega (arith, ap length c.as_slice-all.ensures, c.loop-i-test.false) in
     let kept : NameSet = record { names = c.loop-i.names } in
     subst (λ (xs : List Word). KeepsNames xs kept) (take_all c.loop-i.i c.args.words.now l) c.loop-i.invariant

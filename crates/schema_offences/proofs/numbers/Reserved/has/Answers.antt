@@ -9,8 +9,8 @@ returns-then-low-gt0 c ranges n keeps is small =
     let low = c.begin_by-low.result in (
       λ t. search_found ranges c.args.self.now ends low c.args.place n keeps c.as_slice-ranges.ensures.value is
           c.begin_by-low.ensures.within c.begin_by-low.ensures.parts c.if-low-gt0.true (leb-true _ _ t),
-      λ r. le-leb _ _ (search_finds ranges c.args.self.now ends low c.args.place n keeps c.as_slice-ranges.ensures.value is
-          c.begin_by-low.ensures.within c.begin_by-low.ensures.parts small r).1,
+      λ r. le-leb _ _ (search_finds ranges c.args.self.now ends low c.args.place n keeps c.as_slice-ranges.ensures.value
+          is c.begin_by-low.ensures.within c.begin_by-low.ensures.parts small r).1,
     )
 
 pub returns-else-low-gt0 : goal.returns-else-low-gt0
