@@ -1,15 +1,14 @@
 -- What holds of a file that was read gives what its names want.
 use Rattle.std.proofs.Common.{◌≡◌, ℕ, ◌<◌, List, [], ◌∷◌, length, refl, ap, subst}
-use Rattle.std.specs.Prelude.{Option, Some, None, slice_get, IfSome, Contains}
+use Rattle.std.specs.Prelude.{Option, Some, None}
 use Rattle.std.proofs.lemmas.List.Elements.{All-contains}
 use Rattle.proto_file.specs.declared.file.Span.{Span}
-use Rattle.proto_file.specs.declared.file.MessageDecl.{MessageDecl}
 use Rattle.proto_file.specs.declared.file.EnumDecl.{EnumDecl}
 use Rattle.proto_file.specs.declared.file.File.{File}
 use Rattle.proto_file.specs.Order.{IsPlaceBelow, IsFormed}
 use Rattle.proto_file.specs.Order
 use Rattle.proto_file.specs.Order.{IsOrdered, Declaration, message_decl, enum_decl, its_name}
-use Rattle.schema_names.specs.Scopes.{IsScope, of_file, a_message, an_enum, Sort, Names, package_of}
+use Rattle.schema_names.specs.Scopes.{a_message, an_enum, Sort, Names, package_of}
 use Rattle.schema_names.specs.Numbers
 use Rattle.schema_names.specs.Numbers.{StandBehind, StandsAt, StartApart, IsFirstAt}
 use Rattle.schema_names.specs.Finding.{IsAnswer}

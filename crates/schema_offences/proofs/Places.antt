@@ -1,6 +1,6 @@
 -- Ranges of numbers by the places of their ends.
-use Rattle.std.proofs.Common.{◌≡◌, ℕ, ◌+◌, ◌-◌, ◌^◌, ◌<◌, ◌≤◌, ◌⊎◌, inl, inr, Bool, true, false, List, [], ◌∷◌, ◌++◌, zero, suc, length, get_or, take, drop, append_assoc, append-nil, refl, sym, ap, ◌∙◌, subst, arith}
-use Rattle.std.specs.Prelude.{max, ℤ, pos, neg_ℤ, ◌+ℤ◌, ◌≤ℤ◌, Option, Some, None, IfSome, Contains}
+use Rattle.std.proofs.Common.{◌≡◌, ℕ, ◌+◌, ◌-◌, ◌^◌, ◌<◌, ◌≤◌, ◌⊎◌, inl, inr, List, [], ◌∷◌, ◌++◌, zero, suc, length, get_or, take, drop, append_assoc, append-nil, refl, sym, ap, ◌∙◌, subst, arith}
+use Rattle.std.specs.Prelude.{max, ℤ, ◌≤ℤ◌, Option, Some, None, IfSome, Contains}
 use Rattle.std.specs.List.{AllWithin}
 use Rattle.std.specs.List.Sorted.{IsNonDecreasingBy, IsPermutation}
 use Rattle.std.proofs.lemmas.Bool.{cases_lt}
@@ -12,8 +12,8 @@ use Rattle.proto_file.specs.declared.file.Number.{Number}
 use Rattle.proto_file.specs.declared.file.Range.{Range}
 use Rattle.schema_offences.specs.Types.{value_of}
 use Rattle.schema_offences.specs.Those.{AreThose}
-use Rattle.schema_offences.specs.Members.{IsIn, IsReserved}
-use Rattle.schema_offences.specs.Ranges.{IsPlaceOf, IsLastPlace, IsEndsOf, IsInSome, reach_from, AreSortedEnds, KeepsRanges}
+use Rattle.schema_offences.specs.Members.{IsReserved}
+use Rattle.schema_offences.specs.Ranges.{IsPlaceOf, IsLastPlace, IsInSome, reach_from, AreSortedEnds, KeepsRanges}
 use Rattle.schema_offences.specs.declared.numbers.Reserved.{Reserved}
 
 -- ---- places and numbers

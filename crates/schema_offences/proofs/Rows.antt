@@ -1,6 +1,6 @@
 -- Small files with an offence of each reason, and one that has a table.
-use Rattle.std.proofs.Common.{◌≡◌, ℕ, ◌<◌, ◌++◌, false, true, List, [], ◌∷◌, codes, ◌⊎◌, inl, inr, refl, sym, subst, arith}
-use Rattle.std.specs.Prelude.{Option, Some, None, Contains, ℤ, pos}
+use Rattle.std.proofs.Common.{◌≡◌, ℕ, ◌<◌, false, List, [], ◌∷◌, codes, inr, refl, sym, subst, arith}
+use Rattle.std.specs.Prelude.{Option, None, Contains, pos}
 use Rattle.std.proofs.lemmas.Option.{same_Some, none-some}
 use Rattle.mrpc_table.specs.declared.words.Decimal.TheVariants.{Small}
 use Rattle.mrpc_table.specs.declared.table.Kind.TheVariants.{Float as AFloat}
@@ -20,7 +20,6 @@ use Rattle.proto_file.specs.declared.file.File.{File}
 use Rattle.schema_names.specs.Scopes
 use Rattle.schema_names.specs.Scopes.{IsScope, of_file, of_message as in_message, Sort, a_message, message, Declares, Finds, in_this, in_others}
 use Rattle.schema_offences.specs.Sources.{alone}
-use Rattle.schema_offences.specs.Types.{no_table}
 use Rattle.schema_offences.specs.Members.{MessageOffends, of_type, of_number, of_name, number_out_of_range, number_met_before, name_reserved, first_not_zero, bad_key, scalar_key, misplaced, nested, long_message, no_input, of_value}
 use Rattle.schema_offences.specs.Lines
 use Rattle.schema_offences.specs.Lines.{HasLine, PassesAt}

@@ -1,6 +1,6 @@
 -- What stands against the types of a field is what its judges meet.
-use Rattle.std.proofs.Common.{◌≡◌, ℕ, ◌⊎◌, inl, inr, Bool, true, false, cond, not, List, [], ◌∷◌, refl, sym, ap, ◌∙◌, subst}
-use Rattle.std.specs.Prelude.{Option, Some, None, is_some, MatchOption}
+use Rattle.std.proofs.Common.{◌≡◌, ℕ, ◌⊎◌, inl, inr, Bool, true, false, cond, not, List, [], ◌∷◌, refl, sym, subst}
+use Rattle.std.specs.Prelude.{Option, Some, is_some, MatchOption}
 use Rattle.mrpc_table.specs.Words.{is_key}
 use Rattle.mrpc_table.specs.declared.table.Kind.{Kind}
 use Rattle.proto_file.specs.declared.file.Word.{Word}
@@ -10,7 +10,7 @@ use Rattle.proto_file.specs.declared.file.FieldType.TheVariants.{Named, Map, Nes
 use Rattle.proto_file.specs.declared.file.FieldDecl.{FieldDecl}
 use Rattle.proto_file.specs.declared.file.File.{File}
 use Rattle.schema_names.specs.Numbers.{sort_of}
-use Rattle.schema_offences.specs.Types.{IsScalar, IsNoScalar}
+use Rattle.schema_offences.specs.Types.{IsNoScalar}
 use Rattle.schema_offences.specs.Members
 use Rattle.schema_offences.specs.Members.{Is, IsUnknown, IsNoType, KeyOffends, IsMisplaced, TypeOffends}
 use Rattle.schema_offences.specs.Forms.{IsType, may_be_key}

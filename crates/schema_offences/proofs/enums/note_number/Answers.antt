@@ -39,6 +39,7 @@ returns c =
     c.note_if.ensures)
     (meets_where c.args.is_reserved Reserved number.span c.note_if.new.self c.note_if-2.new.self c.note_if-2.ensures))
     (meets_as (λ q s. P × Is FirstEnum number.span q s)
-    (λ q s. (c.args.is_first ≡ true) × (v ≢ pos 0) × Is FirstEnum number.span q s) c.note_if-2.new.self c.note_if-3.new.self
+    (λ q s. (c.args.is_first ≡ true) × (v ≢ pos 0) × Is FirstEnum number.span q s)
+    c.note_if-2.new.self c.note_if-3.new.self
     (meets_when P holds FirstEnum number.span c.note_if-2.new.self c.note_if-3.new.self to from c.note_if-3.ensures)
     (λ q s p. (p.0.0, p.0.1, p.1)) (λ q s p. ((p.0, p.1), p.2)))

@@ -1,4 +1,4 @@
-use Rattle.std.proofs.Common.{◌≡◌, List, [], ◌∷◌, sym, subst}
+use Rattle.std.proofs.Common.{[], ◌∷◌, sym, subst}
 use Rattle.proto_file.specs.declared.file.FieldType.{FieldType}
 use Rattle.proto_file.specs.declared.file.FieldType.TheVariants.{NestedMap}
 use Rattle.schema_offences.specs.declared.first.First.{First}

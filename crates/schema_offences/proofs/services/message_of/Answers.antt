@@ -1,4 +1,4 @@
-use Rattle.std.proofs.Common.{◌≡◌, ℕ, List, Some, subst, ap, ◌∙◌}
+use Rattle.std.proofs.Common.{ℕ, List, Some, subst, ap, ◌∙◌}
 use Rattle.schema_names.specs.Scopes.{of_file, package_of}
 use Rattle.schema_names.specs.Finding.{IsAnswer}
 use Rattle.schema_offences.proofs.Formed.{start_apart, message_some, message_none, message_enum}

@@ -1,5 +1,5 @@
 use Rattle.std.proofs.Common.{◌≡◌, Bool, cond, List, refl, subst, sym, ap, ◌∙◌}
-use Rattle.std.specs.Prelude.{Option, Some, None, not, slice_get}
+use Rattle.std.specs.Prelude.{Some, None, not, slice_get}
 use Rattle.mrpc_table.specs.Names.{is_short_full}
 use Rattle.proto_file.specs.declared.file.Import.{Import}
 use Rattle.schema_offences.specs.Meeting.{first_of, Meets, HeadOffends}

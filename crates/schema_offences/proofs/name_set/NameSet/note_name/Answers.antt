@@ -1,5 +1,4 @@
-use Rattle.std.proofs.Common.{◌≡◌, sym, ap, ◌∙◌}
-use Rattle.mrpc_table.specs.declared.limits.TheConstants.{MAX_FIELDS}
+use Rattle.std.proofs.Common.{sym, ap, ◌∙◌}
 use Rattle.schema_offences.specs.Members.{IsReservedName, NameOffends}
 use Rattle.schema_offences.specs.ReservedNames.{has_name}
 use Rattle.schema_offences.specs.declared.reason.ResolveReason.TheVariants.{Reserved, Limit}

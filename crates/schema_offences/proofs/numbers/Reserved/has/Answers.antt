@@ -1,4 +1,4 @@
-use Rattle.std.proofs.Common.{ℕ, ◌-◌, ◌<◌, ◌≤◌, get_or, ltb, leb, leb-true, le-leb, arith}
+use Rattle.std.proofs.Common.{◌<◌, leb-true, le-leb, arith}
 use Rattle.std.proofs.lemmas.Bool.Decides.{nat_tests}
 use Rattle.schema_offences.proofs.Places.{search_finds, search_found}
 use Rattle.schema_offences.proofs.numbers.Reserved.has.Goals as goal
