@@ -1,11 +1,17 @@
 mod Duplicates
 mod EntryLists
 mod EntryStarts
+mod FieldForms
 mod Firsts
 mod Formed
 mod Judging
 mod Meetings
+mod NameSets
+mod Numbering
 mod Places
 mod Rows
 mod Scalars
+mod Serving
 mod Standing
+mod Typed
+mod Unless
