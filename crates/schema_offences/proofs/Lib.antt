@@ -1,7 +1,9 @@
 mod FieldForms
 mod Firsts
+mod FullLengths
 mod Formed
 mod Judging
+mod LongNames
 mod Meetings
 mod Places
 mod Rows
