@@ -3,6 +3,8 @@ mod Firsts
 mod FullLengths
 mod Formed
 mod Judging
+mod LineLengths
+mod LinesAdded
 mod LongNames
 mod Meetings
 mod Places
