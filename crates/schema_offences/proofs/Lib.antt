@@ -5,6 +5,8 @@ mod Formed
 mod Judging
 mod LineLengths
 mod LinesAdded
+mod LinesOne
+mod LinesPassing
 mod LongNames
 mod Meetings
 mod Places
