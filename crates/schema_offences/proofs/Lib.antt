@@ -1,7 +1,10 @@
+mod Duplicates
+mod EntryLists
+mod EntryStarts
 mod FieldForms
 mod Firsts
-mod FullLengths
 mod Formed
+mod FullLengths
 mod Judging
 mod LineLengths
 mod LinesAdded

@@ -9,3 +9,4 @@ pub mod Meeting
 pub mod Forms
 pub mod ReservedNames
 pub mod Lengths
+pub mod Entries

@@ -12,7 +12,7 @@ mod resolve;
 mod table;
 
 pub use fault::ResolveFault;
-pub use laws::{one_offence, table_or_offence};
+pub use laws::{one_offence, one_table, table_or_offence};
 pub use resolve::resolve;
 
 #[cfg(test)]

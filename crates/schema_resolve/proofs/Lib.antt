@@ -1,0 +1,3 @@
+mod Ascents
+mod OneForm
+mod OneTable
