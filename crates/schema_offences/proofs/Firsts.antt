@@ -1,9 +1,8 @@
 -- What is kept after all was met is the first offence of the file.
 use Rattle.std.proofs.Common.{◌≡◌, refl}
 use Rattle.std.specs.Prelude.{Option, Some, None}
-use Rattle.proto_file.specs.declared.file.Span.{Span}
 use Rattle.proto_file.specs.declared.file.File.{File}
-use Rattle.schema_offences.specs.Offences.{IsOffence, HasOffence}
+use Rattle.schema_offences.specs.Offences.{IsOffence}
 use Rattle.schema_offences.specs.Meeting.{Meets, FirstIs}
 use Rattle.schema_offences.specs.declared.first.Offence.{Offence}
 use Rattle.schema_offences.specs.declared.first.First.{First}

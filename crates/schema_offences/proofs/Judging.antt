@@ -1,23 +1,24 @@
 -- What stands against a message, an enum or a method is what its judges meet one behind another.
 use Rattle.std.proofs.Common.{◌≡◌, ℕ, ◌+◌, ◌≤◌, ◌⊎◌, inl, inr, List, [], ◌∷◌, sym, subst, arith}
-use Rattle.std.specs.Prelude.{Some, slice_get}
+use Rattle.std.specs.Prelude.{Some}
 use Rattle.mrpc_table.specs.declared.limits.TheConstants.{MAX_MESSAGES, MAX_ENUMS, MAX_METHODS, MAX_FIELDS, MAX_VALUES}
 use Rattle.proto_file.specs.declared.file.Span.{Span}
 use Rattle.proto_file.specs.declared.file.Word.{Word}
-use Rattle.proto_file.specs.declared.file.FieldDecl.{FieldDecl}
 use Rattle.proto_file.specs.declared.file.MessageDecl.{MessageDecl}
 use Rattle.proto_file.specs.declared.file.EnumDecl.{EnumDecl}
 use Rattle.proto_file.specs.declared.file.RpcDecl.{RpcDecl}
 use Rattle.proto_file.specs.declared.file.File.{File}
 use Rattle.schema_offences.specs.Members
 use Rattle.schema_offences.specs.Members.{Is, IsLong, IsReservedName, TypeOffends, NumberOffends, ValueOffends, NameOffends, MessageOffends, EnumOffends, MethodOffends, IsNoMessage}
-use Rattle.schema_names.specs.Scopes.{package_of}
+use Rattle.schema_names.specs.Scopes.{IsScope, package_of}
 use Rattle.schema_offences.specs.Sources.{alone, rpcs_of}
 use Rattle.schema_offences.specs.Offences
 use Rattle.schema_offences.specs.Offences.{Offends, IsOffence}
-use Rattle.schema_offences.specs.Meeting.{AtSome, OfElement, MessageIn, MethodIn, IsLongService, HeadOffends, an_import, a_long_package, TwiceIn, LongIn, PassesIn}
+use Rattle.schema_offences.specs.Meeting.{Meets, AtSome, OfElement, MessageIn, MethodIn, IsLongService, HeadOffends, an_import, a_long_package, TwiceIn, LongIn, PassesIn}
 use Rattle.schema_offences.specs.declared.reason.ResolveReason.{ResolveReason}
 use Rattle.schema_offences.specs.declared.reason.ResolveReason.TheVariants.{UnknownName, Reserved, Limit}
+use Rattle.schema_offences.specs.declared.first.First.{First}
+use Rattle.schema_offences.proofs.Meetings.{meets_as}
 
 -- ---- names
 
@@ -87,6 +88,13 @@ message_from files scope n m q s (Members.of_name i f at p) =
     inl (inr (record { place = i; is = record { element = f; at = at; is = p } }))
 message_from files scope n m q s (Members.of_oneof i o at p) =
     inr (record { place = i; is = record { element = o; at = at; is = p } })
+
+pub meets_message_in : (F : File) (i : ℕ) (m : MessageDecl) (scope : List (List ℕ)) (a b : First)
+    → IsScope F (Some i) scope → ((t : List (List ℕ)) → IsScope F (Some i) t → t ≡ scope)
+    → Meets (MessageOffends (F ∷ []) scope i m) a b → Meets (MessageIn F i m) a b
+meets_message_in F i m scope a b h one met =
+    meets_as (MessageOffends (F ∷ []) scope i m) (MessageIn F i m) a b met (λ q s p. (scope, h, p))
+    (λ q s p. subst (λ (t : List (List ℕ)). MessageOffends (F ∷ []) t i m q s) (one p.0 p.1) p.2)
 
 -- ---- methods
 

@@ -12,7 +12,12 @@ mod LinesOne
 mod LinesPassing
 mod LongNames
 mod Meetings
+mod NameSets
+mod Numbering
 mod Places
 mod Rows
 mod Scalars
+mod Serving
 mod Standing
+mod Typed
+mod Unless

@@ -3,7 +3,7 @@ use Rattle.std.proofs.Common.{◌≡◌, ℕ, ◌+◌, ◌<◌, ◌≤◌, ◌�
 use Rattle.std.specs.Prelude.{Option, Some, None, slice_get}
 use Rattle.std.proofs.lemmas.Bool.{cases_lt, false≢true}
 use Rattle.std.proofs.lemmas.Bool.Decides.{nat_tests}
-use Rattle.std.proofs.lemmas.Option.{same_Some, slice_get_within, slice_get_read}
+use Rattle.std.proofs.lemmas.Option.{same_Some, slice_get_within, slice_get_read, slice_get-get_or}
 use Rattle.proto_file.specs.declared.file.Span.{Span}
 use Rattle.schema_offences.specs.Offences.{ComesFirst, rank_of}
 use Rattle.schema_offences.specs.Members.{Is}
@@ -48,15 +48,18 @@ at_false false x y z e h = h
 
 -- ---- what is kept
 
-pub kept_trans : (found : Option Offence) (q r : ResolveReason) (s t : Span) → IsKeptBefore found q s → ComesFirst q s r t
+pub kept_trans : (found : Option Offence) (q r : ResolveReason) (s t : Span) → IsKeptBefore found q s
+    → ComesFirst q s r t
     → IsKeptBefore found r t
 kept_trans None q r s t k c = k
 kept_trans (Some o) q r s t k c = comes_trans o.reason q r o.span s t k c
 
 pub kept_itself : (found : Option Offence) (o : Offence) → found ≡ Some o → IsKeptBefore found o.reason o.span
-kept_itself found o e = subst (λ (f : Option Offence). IsKeptBefore f o.reason o.span) (sym e) (comes_same o.reason o.span)
+kept_itself found o e = subst (λ (f : Option Offence). IsKeptBefore f o.reason o.span) (sym e)
+    (comes_same o.reason o.span)
 
-kept_later_at : (P : ResolveReason → Span → Type 0) (a b : First) (q : ResolveReason) (s : Span) (found : Option Offence)
+kept_later_at : (P : ResolveReason → Span → Type 0) (a b : First) (q : ResolveReason) (s : Span)
+    (found : Option Offence)
     → a.found ≡ found → Meets P a b → IsKeptBefore found q s → IsKeptBefore b.found q s
 kept_later_at P a b q s None e m k = absurd k
 kept_later_at P a b q s (Some o) e m k = kept_trans b.found o.reason q o.span s (m.before o e) k
@@ -163,7 +166,8 @@ where_at : (holds h : Bool) (reason : ResolveReason) (span : Span) (a b : First)
     → b.found ≡ cond h (Some (first_of a.found (record { reason = reason; span = span }))) a.found
     → Meets (IsWhere holds reason span) a b
 where_at holds true reason span a b e is =
-    meets_as (Is reason span) (IsWhere holds reason span) a b (meets_noted reason span a b is) (λ q s p. (e, p)) (λ q s p. p.1)
+    meets_as (Is reason span) (IsWhere holds reason span) a b (meets_noted reason span a b is) (λ q s p. (e, p))
+    (λ q s p. p.1)
 where_at holds false reason span a b e is =
     meets_kept (IsWhere holds reason span) a b (λ q s p. absurd (false≢true (sym e ∙ p.0))) is
 
@@ -227,6 +231,10 @@ meets_element xs R i x a b at m =
 pub item_at : {X : Type 0} (xs ys : List X) (i : ℕ) (x : X) → xs ≡ ys → i < length ys → x ≡ get_or xs i x
     → slice_get ys i ≡ Some x
 item_at xs ys i x e l is = slice_get_read ys (length ys) i x refl l (is ∙ ap (λ zs. get_or zs i x) e)
+
+pub got_at : {X : Type 0} (xs ys : List X) (i : ℕ) (d : X) → xs ≡ ys → i < length ys
+    → slice_get ys i ≡ Some (get_or xs i d)
+got_at xs ys i d e l = slice_get-get_or ys i d l ∙ ap (λ zs. Some (get_or zs i d)) (sym e)
 
 pub meets_all : (P : ℕ → ResolveReason → Span → Type 0) (n : ℕ) (a b : First)
     → ((i : ℕ) (q : ResolveReason) (s : Span) → P i q s → i < n) → Meets (OfFirst n P) a b → Meets (AtSome P) a b

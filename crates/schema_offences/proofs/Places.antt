@@ -1,18 +1,19 @@
 -- Ranges of numbers by the places of their ends.
-use Rattle.std.proofs.Common.{◌≡◌, ℕ, ◌+◌, ◌-◌, ◌^◌, ◌<◌, ◌≤◌, ◌⊎◌, inl, inr, Bool, true, false, List, [], ◌∷◌, ◌++◌, zero, suc, length, get_or, take, refl, sym, ap, ◌∙◌, subst, arith}
-use Rattle.std.specs.Prelude.{max, ℤ, pos, neg_ℤ, ◌+ℤ◌, ◌≤ℤ◌, Option, Some, None, IfSome, Contains}
+use Rattle.std.proofs.Common.{◌≡◌, ℕ, ◌+◌, ◌-◌, ◌^◌, ◌<◌, ◌≤◌, ◌⊎◌, inl, inr, List, [], ◌∷◌, ◌++◌, zero, suc, length, get_or, take, drop, append_assoc, append-nil, refl, sym, ap, ◌∙◌, subst, arith}
+use Rattle.std.specs.Prelude.{max, ℤ, ◌≤ℤ◌, Option, Some, None, IfSome, Contains}
+use Rattle.std.specs.List.{AllWithin}
 use Rattle.std.specs.List.Sorted.{IsNonDecreasingBy, IsPermutation}
 use Rattle.std.proofs.lemmas.Bool.{cases_lt}
 use Rattle.std.proofs.lemmas.Int.{ints}
-use Rattle.std.proofs.lemmas.List.{get_or_default, take_more}
+use Rattle.std.proofs.lemmas.List.{get_or_default, take_more, drop_more, drop_all}
 use Rattle.std.proofs.lemmas.List.Elements.{Contains-get_or, Contains-append_left, Contains-push, Contains-push_cases}
 use Rattle.std.proofs.lemmas.List.Sorted.{IsPermutation-sym, Contains-permutation}
 use Rattle.proto_file.specs.declared.file.Number.{Number}
 use Rattle.proto_file.specs.declared.file.Range.{Range}
 use Rattle.schema_offences.specs.Types.{value_of}
 use Rattle.schema_offences.specs.Those.{AreThose}
-use Rattle.schema_offences.specs.Members.{IsIn, IsReserved}
-use Rattle.schema_offences.specs.Ranges.{IsPlaceOf, IsLastPlace, IsEndsOf, IsInSome, reach_from, AreSortedEnds, KeepsRanges}
+use Rattle.schema_offences.specs.Members.{IsReserved}
+use Rattle.schema_offences.specs.Ranges.{IsPlaceOf, IsLastPlace, IsInSome, reach_from, AreSortedEnds, KeepsRanges}
 use Rattle.schema_offences.specs.declared.numbers.Reserved.{Reserved}
 
 -- ---- places and numbers
@@ -59,7 +60,8 @@ all_above : (least : ℕ) (old : List (ℕ × ℕ)) (j : ℕ) (d : ℕ × ℕ) �
 all_above least [] j d l = absurd (omega arith)
 all_above least (e ∷ es) zero d l = omega arith
 all_above least (e ∷ es) (suc j) d l =
-    let k : max least e.1 ≤ (get_or (reach_from (max least e.1) es) j d).1 = all_above (max least e.1) es j d (omega arith) in
+    let k : max least e.1 ≤ (get_or (reach_from (max least e.1) es) j d).1 =
+    all_above (max least e.1) es j d (omega arith) in
     omega arith
 
 all_covered : (least : ℕ) (old : List (ℕ × ℕ)) (i j : ℕ) (d : ℕ × ℕ) → i ≤ j → j < length old
@@ -67,7 +69,8 @@ all_covered : (least : ℕ) (old : List (ℕ × ℕ)) (i j : ℕ) (d : ℕ × �
 all_covered least [] i j d h l = absurd (omega arith)
 all_covered least (e ∷ es) zero zero d h l = omega arith
 all_covered least (e ∷ es) zero (suc j) d h l =
-    let k : max least e.1 ≤ (get_or (reach_from (max least e.1) es) j d).1 = all_above (max least e.1) es j d (omega arith) in
+    let k : max least e.1 ≤ (get_or (reach_from (max least e.1) es) j d).1 =
+    all_above (max least e.1) es j d (omega arith) in
     omega arith
 all_covered least (e ∷ es) (suc i) zero d h l = absurd (omega arith)
 all_covered least (e ∷ es) (suc i) (suc j) d h l = all_covered (max least e.1) es i j d (omega arith) (omega arith)
@@ -176,7 +179,8 @@ module _ (ranges : List Range) (old : List (ℕ × ℕ)) (kept : Reserved) (s : 
   keeps_ranges = record {
     firsts = subst (λ (es : List (ℕ × ℕ)). IsNonDecreasingBy {X = ℕ × ℕ} (λ e. e.0) es) (sym r) keeps_firsts;
     lasts = subst (λ (es : List (ℕ × ℕ)). IsNonDecreasingBy {X = ℕ × ℕ} (λ e. e.1) es) (sym r) keeps_lasts;
-    all_in = λ place n p small h. subst (λ (es : List (ℕ × ℕ)). IsInSome es place) (sym r) (keeps_all place n p small h);
+    all_in = λ place n p small h.
+        subst (λ (es : List (ℕ × ℕ)). IsInSome es place) (sym r) (keeps_all place n p small h);
     none_else = λ place n p h. keeps_no_other place n p (subst (λ (es : List (ℕ × ℕ)). IsInSome es place) r h);
   }
 
@@ -213,6 +217,58 @@ in_some ends low place some inside before reaches = record {
   at_most = reaches;
 }
 
+module _ (ranges : List Range) (kept : Reserved) (ends : List (ℕ × ℕ)) (low place : ℕ) (n : ℤ)
+    (keeps : KeepsRanges ranges kept) (same : ends ≡ kept.ranges.items) (is : IsPlaceOf place n)
+    (within : low ≤ length ends)
+    (parts : IsNonDecreasingBy {X = ℕ × ℕ} (λ e. e.0) ends
+    → AllWithin (λ (e : ℕ × ℕ). e.0 ≤ place) ends 0 low × AllWithin (λ (e : ℕ × ℕ). place < e.0) ends low (length ends))
+  where
+    search_parts : AllWithin (λ (e : ℕ × ℕ). e.0 ≤ place) ends 0 low
+        × AllWithin (λ (e : ℕ × ℕ). place < e.0) ends low (length ends)
+    search_parts =
+        parts
+        (subst (λ (es : List (ℕ × ℕ)). IsNonDecreasingBy {X = ℕ × ℕ} (λ e. e.0) es) (sym same) keeps.firsts)
+
+    -- a reserved number is found by the search
+    pub search_finds : place ≤ 2 ^ 65 → IsReserved ranges n → (0 < low) × (place ≤ (get_or ends (low - 1) (0, 0)).1)
+    search_finds small reserved =
+        let lasts : IsNonDecreasingBy {X = ℕ × ℕ} (λ e. e.1) ends =
+        subst (λ (es : List (ℕ × ℕ)). IsNonDecreasingBy {X = ℕ × ℕ} (λ e. e.1) es) (sym same) keeps.lasts in
+        let some : IsInSome ends place =
+        subst (λ (es : List (ℕ × ℕ)). IsInSome es place) (sym same) (keeps.all_in place n is small reserved) in
+        found_in ends low place lasts within (λ k d l h. search_parts.1 k d l h) some
+
+    -- what is found is reserved
+    pub search_found : 0 < low → place ≤ (get_or ends (low - 1) (0, 0)).1 → IsReserved ranges n
+    search_found some reaches =
+        keeps.none_else place n is
+        (subst (λ (es : List (ℕ × ℕ)). IsInSome es place) same
+        (in_some ends low place some within (λ k d h. search_parts.0 k d (omega arith) h) reaches))
+
+-- ---- ends as they are reached
+
+pub reach_more : (sorted out new : List (ℕ × ℕ)) (i least high : ℕ) (d : ℕ × ℕ) → i < length sorted
+    → high ≡ max least (get_or sorted i d).1 → new ≡ out ++ ((get_or sorted i d).0, high) ∷ []
+    → out ++ reach_from least (drop i sorted) ≡ reach_from 0 sorted
+    → new ++ reach_from high (drop (i + 1) sorted) ≡ reach_from 0 sorted
+reach_more sorted out new i least high d l e is known =
+    let x : ℕ × ℕ = get_or sorted i d in
+    let rest : List (ℕ × ℕ) = drop (i + 1) sorted in
+    let more : reach_from least (drop i sorted) ≡ (x.0, max least x.1) ∷ reach_from (max least x.1) rest =
+    ap (reach_from least) (drop_more sorted i d l) in
+    let same : (x.0, max least x.1) ∷ reach_from (max least x.1) rest ≡ (x.0, high) ∷ reach_from high rest =
+    ap (λ (h : ℕ). (x.0, h) ∷ reach_from h rest) (sym e) in
+    ap (λ (ys : List (ℕ × ℕ)). ys ++ reach_from high rest) is
+    ∙ (append_assoc out ((x.0, high) ∷ []) (reach_from high rest)
+    ∙ (ap (λ (ys : List (ℕ × ℕ)). out ++ ys) (sym (more ∙ same)) ∙ known))
+
+pub reach_all : (sorted out : List (ℕ × ℕ)) (i least : ℕ) → length sorted ≤ i
+    → out ++ reach_from least (drop i sorted) ≡ reach_from 0 sorted → out ≡ reach_from 0 sorted
+reach_all sorted out i least l known =
+    let none : out ++ reach_from least (drop i sorted) ≡ out ++ [] =
+    ap (λ (ys : List (ℕ × ℕ)). out ++ reach_from least ys) (drop_all i sorted l) in
+    sym (append-nil out) ∙ (sym none ∙ known)
+
 -- ---- lists of ends
 
 pub those_more : {X Y : Type 0} (R : X → Y → Type 0) (xs : List X) (ys : List Y) (i : ℕ) (x : X) (y : Y)
@@ -235,6 +291,13 @@ those_more R xs ys i x y l e r those =
         | inr k ↦ (x, Contains-push (take i xs) x, subst (λ w. R x w) k r)
       ];
     })
+
+-- the same, for the element itself
+pub those_next : {X Y : Type 0} (R : X → Y → Type 0) (xs : List X) (ys : List Y) (i : ℕ) (d : X) (y : Y)
+    → i < length xs → R (get_or xs i d) y → AreThose R (take i xs) ys
+    → AreThose R (take (i + 1) xs) (ys ++ y ∷ [])
+those_next R xs ys i d y l r those =
+    those_more R xs ys i (get_or xs i d) y l (get_or_default xs i d (get_or xs i d) l) r those
 
 pub those_none : {X Y : Type 0} (R : X → Y → Type 0) → AreThose R [] []
 those_none R = record {

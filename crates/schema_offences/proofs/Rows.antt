@@ -1,6 +1,6 @@
 -- Small files with an offence of each reason, and one that has a table.
-use Rattle.std.proofs.Common.{◌≡◌, ℕ, ◌<◌, ◌++◌, false, true, List, [], ◌∷◌, codes, ◌⊎◌, inl, inr, refl, sym, subst, arith}
-use Rattle.std.specs.Prelude.{Option, Some, None, Contains, ℤ, pos}
+use Rattle.std.proofs.Common.{◌≡◌, ℕ, ◌<◌, false, List, [], ◌∷◌, codes, inr, refl, sym, subst, arith}
+use Rattle.std.specs.Prelude.{Option, None, Contains, pos}
 use Rattle.std.proofs.lemmas.Option.{same_Some, none-some}
 use Rattle.mrpc_table.specs.declared.words.Decimal.TheVariants.{Small}
 use Rattle.mrpc_table.specs.declared.table.Kind.TheVariants.{Float as AFloat}
@@ -20,7 +20,6 @@ use Rattle.proto_file.specs.declared.file.File.{File}
 use Rattle.schema_names.specs.Scopes
 use Rattle.schema_names.specs.Scopes.{IsScope, of_file, of_message as in_message, Sort, a_message, message, Declares, Finds, in_this, in_others}
 use Rattle.schema_offences.specs.Sources.{alone}
-use Rattle.schema_offences.specs.Types.{no_table}
 use Rattle.schema_offences.specs.Members.{MessageOffends, of_type, of_number, of_name, number_out_of_range, number_met_before, name_reserved, first_not_zero, bad_key, scalar_key, misplaced, nested, long_message, no_input, of_value}
 use Rattle.schema_offences.specs.Lines
 use Rattle.schema_offences.specs.Lines.{HasLine, PassesAt}
@@ -61,7 +60,8 @@ of_one m = file_of (m ∷ []) [] [] []
 in_one : (m : MessageDecl) (q : ResolveReason) (s : Span) → m.parent ≡ None
     → MessageOffends (of_one m ∷ []) (m.name.name ∷ []) 0 m q s → IsOffence (of_one m) q s
 in_one m q s e o =
-    offends (Offences.of_message 0 m refl (in_message 0 m refl (subst (λ (p : Option ℕ). IsScope (of_one m) p []) (sym e) of_file)) o)
+    offends (Offences.of_message 0 m refl (in_message 0 m refl (subst (λ (p : Option ℕ). IsScope (of_one m) p [])
+    (sym e) of_file)) o)
 
 -- ---- one offence of each reason
 
@@ -87,7 +87,8 @@ a_service = record { name = word (codes "S") 1; rpcs = an_rpc ∷ [] }
 
 unknown_row : IsOffence (file_of [] [] (a_service ∷ []) []) UnknownName (at 3)
 unknown_row =
-    offends (Offences.of_method 0 a_service an_rpc refl (no_input (λ full names. finds_none _ full refl names.finds) (refl, refl)))
+    offends (Offences.of_method 0 a_service an_rpc refl (no_input (λ full names. finds_none _ full refl names.finds)
+    (refl, refl)))
 
 -- message M { int32 a = 0; }
 abbrev zero_field : FieldDecl

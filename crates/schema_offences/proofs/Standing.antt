@@ -1,6 +1,6 @@
 -- Each offence stands at a name or a number of its file, so that of one file there is one first offence.
-use Rattle.std.proofs.Common.{◌≡◌, ℕ, zero, suc, ◌+◌, ◌<◌, ◌≤◌, ◌⊎◌, inl, inr, List, [], ◌∷◌, ◌++◌, length, map, refl, sym, ap, ◌∙◌, subst, arith}
-use Rattle.std.specs.Prelude.{Option, Some, None, slice_get, Contains}
+use Rattle.std.proofs.Common.{◌≡◌, ℕ, zero, suc, ◌≤◌, ◌⊎◌, inl, inr, List, [], ◌∷◌, ◌++◌, length, map, refl, sym, ap, ◌∙◌, subst, arith}
+use Rattle.std.specs.Prelude.{Some, slice_get, Contains}
 use Rattle.std.specs.List.{flat_map}
 use Rattle.std.proofs.lemmas.Option.{same_Some, none-some, slice_get_read}
 use Rattle.proto_file.specs.declared.file.Span.{Span}
@@ -16,7 +16,7 @@ use Rattle.proto_file.specs.Order
 use Rattle.proto_file.specs.Order.{Declaration, Part, StandsAt, IsOrdered, message_decl, field_decl, oneof_decl, enum_decl, value_decl, service_decl, rpc_decl, package_decl, import_decl, its_type, its_key, its_value, its_name, its_number, its_input, its_output}
 use Rattle.schema_names.specs.Scopes
 use Rattle.schema_names.specs.Scopes.{Sort, Declares}
-use Rattle.schema_offences.specs.Sources.{alone, rpcs_of, service_rpcs}
+use Rattle.schema_offences.specs.Sources.{alone, service_rpcs}
 use Rattle.schema_offences.specs.Members
 use Rattle.schema_offences.specs.Members.{KeyOffends, TypeOffends, NumberOffends, ValueOffends, NameOffends, MessageOffends, EnumOffends, MethodOffends}
 use Rattle.schema_offences.specs.Lines

@@ -2,6 +2,7 @@
 
 ghost use Rattle.std.specs.Prelude.{◌≡◌, ◌<◌, ◌⊎◌, ℕ, true, List, [], ◌∷◌, length, ◌==◌, ◌||◌, Some, IfOk, OnOk};
 ghost use Rattle.mrpc_table.specs.declared.limits.TheConstants.{MAX_FIELDS as FIELDS};
+ghost use Rattle.proto_file.specs.Order.{IsFormed};
 ghost use Rattle.schema_names.specs.Scopes.{IsScope};
 ghost use Rattle.schema_offences.specs.Types.{value_of};
 ghost use Rattle.schema_offences.specs.Members.{Is, IsNoType, KeyOffends, TypeOffends, IsFieldNumberOf, NumberOffends, NameOffends, IsLong, MessageOffends};
@@ -15,7 +16,7 @@ use crate::reason::ResolveReason;
 use crate::types::{is_misplaced_map, may_be_key, type_of};
 use mrpc_table::{MAX_FIELDS, MAX_MESSAGES, Memory};
 use proto_file::{FieldDecl, FieldType, File, MessageDecl, Number, Word};
-use schema_names::Scopes;
+use schema_names::{Scopes, one_scope};
 use std::alloc::Global;
 use std::collections::BTreeMap;
 
@@ -158,9 +159,11 @@ pub fn note_messages<'a>(
     scopes: &Scopes<'a>,
     first: &mut First,
 ) -> Result<(), Memory>
-    requires { scopes.now ≡ file.now }
+    requires formed { IsFormed file.now }
+    requires scopes { scopes.now ≡ file.now }
     ensures { OnOk result (Meets (AtSome (OfElement file.now.messages (MessageIn file.now))) first.old first.new) }
 {
+    one_scope();
     let messages = file.messages.as_slice();
     for i in 0..messages.len() {
         note_message(alloc, scopes, i, &messages[i], first)?;

@@ -1,6 +1,7 @@
 //! What stands against services and their methods, the package, and imports.
 
-ghost use Rattle.std.specs.Prelude.{◌≡◌, ℕ, List, [], ◌∷◌, Some, IfSome, MatchOption, length};
+ghost use Rattle.std.specs.Prelude.{◌≡◌, ℕ, List, [], ◌∷◌, IfSome, IfNone};
+ghost use Rattle.proto_file.specs.Order.{IsOrdered};
 ghost use Rattle.schema_names.specs.Scopes.{a_message, Names, package_of};
 ghost use Rattle.schema_names.specs.Numbers.{IsFirstAt};
 ghost use Rattle.schema_names.specs.declared.named.Named.TheVariants as named;
@@ -13,21 +14,26 @@ use crate::name_set::note_long;
 use crate::reason::ResolveReason;
 use mrpc_table::{MAX_METHODS, is_short_full};
 use proto_file::{File, RpcDecl, Word};
-use schema_names::{Named, Scopes};
+use schema_names::{Named, Scopes, one_name};
 
 /// The message that an rpc's type names: no scalar and no enum.
 pub fn message_of<'a>(scopes: &Scopes<'a>, word: &'a Word) -> Option<usize>
-    ensures { MatchOption result (IsNoMessage (scopes.now ∷ []) (package_of scopes.now) word.now.name)
-        (λ i. (full : List (List ℕ)) × Names (scopes.now ∷ []) (package_of scopes.now) word.now.name a_message full
+    ensures some { IfSome result (λ i. (full : List (List ℕ))
+        × Names (scopes.now ∷ []) (package_of scopes.now) word.now.name a_message full
         × IsFirstAt scopes.now (named.Message i) full) }
+    ensures none { IsOrdered scopes.now
+        → IfNone result (IsNoMessage (scopes.now ∷ []) (package_of scopes.now) word.now.name) }
 {
-    match scopes.find(None, word.name.as_slice())? {
-        Named::Message(place) => Some(place),
-        Named::Enum(_) => None,
+    one_name();
+    match scopes.find(None, word.name.as_slice()) {
+        Some(Named::Message(place)) => Some(place),
+        Some(Named::Enum(_)) => None,
+        None => None,
     }
 }
 
 fn note_message<'a>(scopes: &Scopes<'a>, word: &'a Word, first: &mut First)
+    requires { IsOrdered scopes.now }
     ensures { Meets (IsBadMessage scopes.now word.now) first.old first.new }
 {
     let unknown = message_of(scopes, word).is_none();
@@ -35,6 +41,7 @@ fn note_message<'a>(scopes: &Scopes<'a>, word: &'a Word, first: &mut First)
 }
 
 fn note_method<'a>(scopes: &Scopes<'a>, i: usize, rpc: &'a RpcDecl, first: &mut First)
+    requires { IsOrdered scopes.now }
     ensures { Meets (MethodOffends (scopes.now ∷ []) (package_of scopes.now) i rpc.now) first.old first.new }
 {
     first.note_if(i >= MAX_METHODS, ResolveReason::Limit, rpc.name.span);
@@ -55,7 +62,8 @@ pub fn note_services<'a>(file: &'a File, first: &mut First)
 
 /// Meets what stands against the methods of all services.
 pub fn note_methods<'a>(file: &'a File, scopes: &Scopes<'a>, first: &mut First)
-    requires { scopes.now ≡ file.now }
+    requires ordered { IsOrdered file.now }
+    requires scopes { scopes.now ≡ file.now }
     ensures { Meets (AtSome (OfElement (rpcs_of file.now) (MethodIn file.now))) first.old first.new }
 {
     let mut methods: usize = 0;

@@ -1,5 +1,3 @@
-use Rattle.std.proofs.Common.{◌≡◌, ◌⊎◌, inl, inr, arith}
-use Rattle.schema_offences.specs.Members.{too_many_enums, long_enum, of_value, of_value_name}
 use Rattle.schema_offences.proofs.Meetings.{meets_then, meets_as, meets_least}
 use Rattle.schema_offences.proofs.Judging.{enum_to, enum_from}
 use Rattle.schema_offences.proofs.enums.note_enum.Goals as goal

@@ -12,7 +12,8 @@ loop-i-preserved c =
     let xs = c.args.file.now.enums in
     let l : c.loop-i.i < length xs = omega (arith, ap length c.as_slice-enums.ensures, c.loop-i-test.true) in
     let at : slice_get xs c.loop-i.i ≡ Some c.index-enums-i.result =
-    item_at c.as_slice-enums.result.now xs c.loop-i.i c.index-enums-i.result c.as_slice-enums.ensures l c.index-enums-i.is in
+    item_at c.as_slice-enums.result.now xs c.loop-i.i c.index-enums-i.result c.as_slice-enums.ensures l
+    c.index-enums-i.is in
     meets_next xs EnumOffends c.loop-i.i c.index-enums-i.result _ _ _ at c.loop-i.invariant c.in_ok-note_enum.ensures
 
 pub returns : goal.returns

@@ -12,7 +12,8 @@ loop-i-preserved c =
     let xs = c.args.message.now.oneofs in
     let l : c.loop-i.i < length xs = omega (arith, ap length c.as_slice-oneofs.ensures, c.loop-i-test.true) in
     let at : slice_get xs c.loop-i.i ≡ Some c.index-oneofs-i.result =
-    item_at c.as_slice-oneofs.result.now xs c.loop-i.i c.index-oneofs-i.result c.as_slice-oneofs.ensures l c.index-oneofs-i.is in
+    item_at c.as_slice-oneofs.result.now xs c.loop-i.i c.index-oneofs-i.result c.as_slice-oneofs.ensures l
+    c.index-oneofs-i.is in
     meets_next xs (λ i. IsLong) c.loop-i.i c.index-oneofs-i.result _ _ _ at c.loop-i.invariant c.note_long.ensures
 
 pub returns : goal.returns
