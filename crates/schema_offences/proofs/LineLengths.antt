@@ -49,14 +49,27 @@ two_words a b = omega (arith, joined a b [], length-append (join_with_byte 32 (a
 five_words : (a b c d e : List ℕ) → length (line (a ∷ b ∷ c ∷ d ∷ e ∷ []))
     ≡ length a + length b + length c + length d + length e + 5
 five_words a b c d e =
-    omega (arith, joined a b (c ∷ d ∷ e ∷ []), joined b c (d ∷ e ∷ []), joined c d (e ∷ []), joined d e [],
-    length-append (join_with_byte 32 (a ∷ b ∷ c ∷ d ∷ e ∷ [])) (10 ∷ []))
+    omega (
+      arith,
+      joined a b (c ∷ d ∷ e ∷ []),
+      joined b c (d ∷ e ∷ []),
+      joined c d (e ∷ []),
+      joined d e [],
+      length-append (join_with_byte 32 (a ∷ b ∷ c ∷ d ∷ e ∷ [])) (10 ∷ []),
+    )
 
 six_words : (a b c d e f : List ℕ) → length (line (a ∷ b ∷ c ∷ d ∷ e ∷ f ∷ []))
     ≡ length a + length b + length c + length d + length e + length f + 6
 six_words a b c d e f =
-    omega (arith, joined a b (c ∷ d ∷ e ∷ f ∷ []), joined b c (d ∷ e ∷ f ∷ []), joined c d (e ∷ f ∷ []), joined d e (f ∷ []),
-    joined e f [], length-append (join_with_byte 32 (a ∷ b ∷ c ∷ d ∷ e ∷ f ∷ [])) (10 ∷ []))
+    omega (
+      arith,
+      joined a b (c ∷ d ∷ e ∷ f ∷ []),
+      joined b c (d ∷ e ∷ f ∷ []),
+      joined c d (e ∷ f ∷ []),
+      joined d e (f ∷ []),
+      joined e f [],
+      length-append (join_with_byte 32 (a ∷ b ∷ c ∷ d ∷ e ∷ f ∷ [])) (10 ∷ []),
+    )
 
 -- ---- cut sums
 

@@ -229,11 +229,11 @@ module _ (F : File) (c i j : ℕ) (lines : List (Span × ℕ)) where
           (x, Contains-push lines x, subst (λ (z : Declaration). IsLineOf F z x) (sym same) line)
     ];
     once = apart_push lines x v.once (λ y k h.
-    let o = v.sound y k in
-    let same : o.0 ≡ d =
-    (order.apart o.0 d its_name its_name y.0 x.0 (line_stands F o.0 y.0 o.2.text o.2.at)
-    (line_stands F d x.0 line.text line.at) h).0 in
-    isnt_before c i j d a b e (subst (IsBefore c i j) same o.1));
+        let o = v.sound y k in
+        let same : o.0 ≡ d =
+        (order.apart o.0 d its_name its_name y.0 x.0 (line_stands F o.0 y.0 o.2.text o.2.at)
+        (line_stands F d x.0 line.text line.at) h).0 in
+        isnt_before c i j d a b e (subst (IsBefore c i j) same o.1));
   }
 
   -- the next declaration, with a line or without one

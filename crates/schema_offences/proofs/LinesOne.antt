@@ -97,7 +97,7 @@ module _ (F : File) (apart : StartApart F)
       let one = type_one scope w word text m n p q has
       (subst (λ (y : Word). HasType (F ∷ []) scope y text n q) same also) in (
         ap (λ (b : Bool). label_in f.oneof (single_label f.label f.packed b p)) one.messages
-        ∙ ap (λ (b : Bool). label_in f.oneof (single_label f.label f.packed n b)) one.packables,
+            ∙ ap (λ (b : Bool). label_in f.oneof (single_label f.label f.packed n b)) one.packables,
         one.words,
       )
   form_one scope f label other word text (Types.single w v m p e has) (Types.a_map a b k u n q kind plain out scalar key also) =
@@ -130,11 +130,10 @@ module _ (F : File) (apart : StartApart F)
   line_one d s t text other (Lengths.of_message i m {outer = outer} at up) (Lengths.of_message j n {outer = more} nat nup) =
       let same : n ≡ m = same_Some n m (sym nat ∙ at) in
       let one : outer ≡ more =
-      scopes F m.parent outer more up (subst (λ (x : MessageDecl). IsScope F x.parent more) same nup) in
-      (
+      scopes F m.parent outer more up (subst (λ (x : MessageDecl). IsScope F x.parent more) same nup) in (
         ap (λ (x : MessageDecl). x.name.span) (sym same),
         ap (λ (x : List (List ℕ)). line (codes "message" ∷ text_of (x ++ m.name.name ∷ []) ∷ [])) one
-        ∙ ap (λ (x : MessageDecl). line (codes "message" ∷ text_of (more ++ x.name.name ∷ []) ∷ [])) (sym same),
+            ∙ ap (λ (x : MessageDecl). line (codes "message" ∷ text_of (more ++ x.name.name ∷ []) ∷ [])) (sym same),
       )
   line_one d s t text other (Lengths.of_field i j m f n {scope = scope} {label = label} {word = word} at fat is e num form)
       (Lengths.of_field x y o g v {scope = more} {label = tag} {word = noun} oat gat also k inside has) =
@@ -148,23 +147,21 @@ module _ (F : File) (apart : StartApart F)
       (subst (λ (z : FieldDecl). HasForm (F ∷ []) scope z tag noun) field
       (subst (λ (z : List (List ℕ)). HasForm (F ∷ []) z g tag noun) one has)) in
       let tags : label ≡ tag = forms.0 in
-      let words : word ≡ noun = forms.1 in
-      (
+      let words : word ≡ noun = forms.1 in (
         ap (λ (z : FieldDecl). z.name.span) (sym field),
         ap (λ (z : ℕ). field_text m f z label word) (sym number)
-        ∙ ap (λ (z : MessageDecl). field_text z f v label word) (sym same)
-        ∙ ap (λ (z : FieldDecl). field_text o z v label word) (sym field)
-        ∙ ap (λ (z : Label). field_text o g v z word) tags
-        ∙ ap (λ (z : List ℕ). field_text o g v tag z) words,
+            ∙ ap (λ (z : MessageDecl). field_text z f v label word) (sym same)
+            ∙ ap (λ (z : FieldDecl). field_text o z v label word) (sym field)
+            ∙ ap (λ (z : Label). field_text o g v z word) tags
+            ∙ ap (λ (z : List ℕ). field_text o g v tag z) words,
       )
   line_one d s t text other (Lengths.of_enum i x {outer = outer} at up) (Lengths.of_enum j y {outer = more} nat nup) =
       let same : y ≡ x = same_Some y x (sym nat ∙ at) in
       let one : outer ≡ more =
-      scopes F x.parent outer more up (subst (λ (z : EnumDecl). IsScope F z.parent more) same nup) in
-      (
+      scopes F x.parent outer more up (subst (λ (z : EnumDecl). IsScope F z.parent more) same nup) in (
         ap (λ (z : EnumDecl). z.name.span) (sym same),
         ap (λ (z : List (List ℕ)). line (codes "enum" ∷ text_of (z ++ x.name.name ∷ []) ∷ [])) one
-        ∙ ap (λ (z : EnumDecl). line (codes "enum" ∷ text_of (more ++ z.name.name ∷ []) ∷ [])) (sym same),
+            ∙ ap (λ (z : EnumDecl). line (codes "enum" ∷ text_of (more ++ z.name.name ∷ []) ∷ [])) (sym same),
       )
   line_one d s t text other (Lengths.of_value i j x v at vat fits) (Lengths.of_value k l y u yat uat also) =
       let same : y ≡ x = same_Some y x (sym yat ∙ at) in
@@ -180,12 +177,11 @@ module _ (F : File) (apart : StartApart F)
       let inputs : input ≡ first = (names F (package_of F) r.input.name a_message a_message input first apart a
       (subst (λ (z : RpcDecl). Names (F ∷ []) (package_of F) z.input.name a_message first) rpc a2)).1 in
       let outputs : output ≡ last = (names F (package_of F) r.output.name a_message a_message output last apart b
-      (subst (λ (z : RpcDecl). Names (F ∷ []) (package_of F) z.output.name a_message last) rpc b2)).1 in
-      (
+      (subst (λ (z : RpcDecl). Names (F ∷ []) (package_of F) z.output.name a_message last) rpc b2)).1 in (
         ap (λ (z : RpcDecl). z.name.span) (sym rpc),
         ap (λ (z : ℕ). method_text z x r input output) (sym number)
-        ∙ ap (λ (z : ServiceDecl). method_text m z r input output) (sym same)
-        ∙ ap (λ (z : RpcDecl). method_text m y z input output) (sym rpc)
-        ∙ ap (λ (z : List (List ℕ)). method_text m y q z output) inputs
-        ∙ ap (λ (z : List (List ℕ)). method_text m y q first z) outputs,
+            ∙ ap (λ (z : ServiceDecl). method_text m z r input output) (sym same)
+            ∙ ap (λ (z : RpcDecl). method_text m y z input output) (sym rpc)
+            ∙ ap (λ (z : List (List ℕ)). method_text m y q z output) inputs
+            ∙ ap (λ (z : List (List ℕ)). method_text m y q first z) outputs,
       )

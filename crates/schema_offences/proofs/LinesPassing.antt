@@ -65,11 +65,17 @@ rpc_placed (s ∷ ss) i x r e = elim (mapped_or_later s s.rpcs (flat_map service
   | inr p ↦
       let o = rpc_placed ss p.0 x r p.1 in
       let k : p.0 ≡ length (flat_map service_rpcs (take o.0 ss)) + o.1 = o.4 in
-      let n : i ≡ length s.rpcs + p.0 = p.2 in
-      (
-        suc o.0, o.1, o.2, o.3,
-        omega (arith, ap length (flat_map-cons service_rpcs s (take o.0 ss)),
-        length-append (service_rpcs s) (flat_map service_rpcs (take o.0 ss)), service_length s),
+      let n : i ≡ length s.rpcs + p.0 = p.2 in (
+        suc o.0,
+        o.1,
+        o.2,
+        o.3,
+        omega (
+          arith,
+          ap length (flat_map-cons service_rpcs s (take o.0 ss)),
+          length-append (service_rpcs s) (flat_map service_rpcs (take o.0 ss)),
+          service_length s,
+        ),
       )
 ]
 
@@ -155,7 +161,7 @@ unfolding IsDistinct
 distinct [] a = tt
 distinct (x ∷ xs) a = (
   recursion_from_All (λ (y : Span × ℕ). same_start x y ≡ false) xs
-  (λ k d l. ne_eqb x.0.start (get_or xs k d).0.start (a.0 (get_or xs k d) (Contains-get_or xs k d l))),
+      (λ k d l. ne_eqb x.0.start (get_or xs k d).0.start (a.0 (get_or xs k d) (Contains-get_or xs k d l))),
   distinct xs a.1,
 )
 
@@ -225,8 +231,13 @@ module _ (F : File) where
       let flat : flat_map (λ (l : Span × List ℕ). l.1) ((x.0, text) ∷ rest) ≡ text ++ flat_map (λ (l : Span × List ℕ). l.1) rest =
       flat_map-cons (λ (l : Span × List ℕ). l.1) (x.0, text) rest in
       let own : x.1 ≤ length text = (has x (here x xs)).2 in
-      omega (arith, sum_by-cons (λ (y : Span × ℕ). y.1) x xs, lines_enough xs (λ y c. has y (later x y xs c)), ap length flat,
-      length-append text (flat_map (λ (l : Span × List ℕ). l.1) rest))
+      omega (
+        arith,
+        sum_by-cons (λ (y : Span × ℕ). y.1) x xs,
+        lines_enough xs (λ y c. has y (later x y xs c)),
+        ap length flat,
+        length-append text (flat_map (λ (l : Span × List ℕ). l.1) rest),
+      )
 
   lines_last : (xs : List (Span × ℕ)) (has : HaveLines F xs) (k : ℕ) (d : Span × ℕ) → k < length xs
       → (own : List ℕ) × Contains (lines_of xs has) ((get_or xs k d).0, own)
@@ -316,9 +327,13 @@ all_covered (x ∷ xs) (l ∷ ls) r a among =
           ≡ length l.1 + length (flat_map (λ (m : Span × List ℕ). m.1) ls) =
           ap length (flat_map-cons (λ (m : Span × List ℕ). m.1) l ls)
           ∙ length-append l.1 (flat_map (λ (m : Span × List ℕ). m.1) ls) in
-          omega (arith, sum, rest,
-          cut_le (length l.1) (length (flat_map (λ (m : Span × List ℕ). m.1) ls)) x.1
-          (sum_by (λ (y : Span × ℕ). y.1) xs) (omega arith) rest)
+          omega (
+            arith,
+            sum,
+            rest,
+            cut_le (length l.1) (length (flat_map (λ (m : Span × List ℕ). m.1) ls)) x.1
+                (sum_by (λ (y : Span × ℕ). y.1) xs) (omega arith) rest,
+          )
       | inr c ↦
           let behind : x.0.start < l.0.start = first_below x xs (cut l) r c in
           let rest = all_covered xs (l ∷ ls) (rise_tail x xs r) a (λ m k. elim (first_or_rest_line l ls m k) [
@@ -382,11 +397,11 @@ module _ (F : File) (lines ys : List (Span × ℕ)) (v : CoversAll F lines) (p :
           own = own.0;
           last = subst (λ (y : Span × ℕ). Contains (lines_of F (take n ys) has) (y.0, own.0)) this own.1;
           none_behind = lines_behind F (take n ys) has x.0.start (λ y c.
-          let j : c.0 < length (take n ys) = c.1 in
-          let le : (get_or ys c.0 y).0.start ≤ (get_or ys i y).0.start = up c.0 i y (omega arith) l in
-          let a : get_or ys c.0 y ≡ y = sym (get_or-take n ys c.0 y (omega arith)) ∙ c.2 in
-          let b : get_or ys i y ≡ x = get_or_from_slice_get ys i x y k.is.at in
-          omega (arith, ap (λ (z : Span × ℕ). z.0.start) a, ap (λ (z : Span × ℕ). z.0.start) b));
+              let j : c.0 < length (take n ys) = c.1 in
+              let le : (get_or ys c.0 y).0.start ≤ (get_or ys i y).0.start = up c.0 i y (omega arith) l in
+              let a : get_or ys c.0 y ≡ y = sym (get_or-take n ys c.0 y (omega arith)) ∙ c.2 in
+              let b : get_or ys i y ≡ x = get_or_from_slice_get ys i x y k.is.at in
+              omega (arith, ap (λ (z : Span × ℕ). z.0.start) a, ap (λ (z : Span × ℕ). z.0.start) b));
           pass = omega (arith, lines_enough F (take n ys) has);
         },
         k.is.is.1,

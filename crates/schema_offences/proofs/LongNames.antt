@@ -67,8 +67,8 @@ module _ (F : File) (kept : Lengths) (formed : IsFormed F) (k : AreLengths F kep
       let scope = scope_of m.parent below in (
         m.name.span,
         Offences.a_type a_message (scope.0 ++ m.name.name ∷ [])
-        (Scopes.message m (contains_at F.messages p.place m p.is.at) scope.1) refl
-        (is_long m.parent m.name scope.0 below scope.1 p.is.is.0),
+            (Scopes.message m (contains_at F.messages p.place m p.is.at) scope.1) refl
+            (is_long m.parent m.name scope.0 below scope.1 p.is.is.0),
         p.is.is.1,
       )
   long_to q s (inl (inr p)) =
@@ -77,15 +77,15 @@ module _ (F : File) (kept : Lengths) (formed : IsFormed F) (k : AreLengths F kep
       let scope = scope_of e.parent below in (
         e.name.span,
         Offences.a_type an_enum (scope.0 ++ e.name.name ∷ [])
-        (Scopes.enum e (contains_at F.enums p.place e p.is.at) scope.1) refl
-        (is_long e.parent e.name scope.0 below scope.1 p.is.is.0),
+            (Scopes.enum e (contains_at F.enums p.place e p.is.at) scope.1) refl
+            (is_long e.parent e.name scope.0 below scope.1 p.is.is.0),
         p.is.is.1,
       )
   long_to q s (inr p) =
       let x : ServiceDecl = p.is.element in (
         x.name.span,
         Offences.a_service x (contains_at F.services p.place x p.is.at)
-        (is_long None x.name (package_of F) tt Scopes.of_file p.is.is.0) refl,
+            (is_long None x.name (package_of F) tt Scopes.of_file p.is.is.0) refl,
         p.is.is.1,
       )
 

@@ -268,6 +268,7 @@ fn method_length<'a>(
     service: &ServiceDecl,
     rpc: &'a RpcDecl,
 ) -> Option<usize>
+    requires ordered { IsOrdered scopes.now }
     requires lengths { AreLengths scopes.now lengths.now }
     ensures { (i j : ℕ) → slice_get scopes.now.services i ≡ Some service.now
         → slice_get service.now.rpcs j ≡ Some rpc.now → index ≡ rpcs_before scopes.now i + j

@@ -9,18 +9,18 @@ pub returns-in_err-output : goal.returns-in_err-output
 returns-in_err-output c = λ i j at rat count.
     let F = c.args.scopes.now in
     subst (IsLengthAt F (rpc_decl i j) c.args.rpc.now.name.span) (sym c.from_residual-in_err-output.ensures)
-    (no_output F i j c.args.service.now c.args.rpc.now at rat c.in_err-output.ensures)
+    (no_output F i j c.args.service.now c.args.rpc.now at rat (c.in_err-output.ensures.none c.requires.ordered))
 
 pub index-requires : goal.index-requires
 index-requires c =
-    let e = c.in_ok-input.ensures in
+    let e = c.in_ok-input.ensures.some in
     let l : c.in_ok-input.input < length c.args.lengths.now.messages.items =
     message_in c.args.scopes.now c.args.lengths.now c.requires.lengths c.in_ok-input.input e.0 e.2.span e.2.stands in
     search rules
 
 pub index-requires-2 : goal.index-requires-2
 index-requires-2 c =
-    let e = c.in_ok-output.ensures in
+    let e = c.in_ok-output.ensures.some in
     let l : c.in_ok-output.output < length c.args.lengths.now.messages.items =
     message_in c.args.scopes.now c.args.lengths.now c.requires.lengths c.in_ok-output.output e.0 e.2.span e.2.stands in
     search rules
@@ -29,8 +29,8 @@ pub returns : goal.returns
 returns c = λ i j at rat count.
     let F = c.args.scopes.now in
     let kept = c.args.lengths.now in
-    let a = c.in_ok-input.ensures in
-    let b = c.in_ok-output.ensures in
+    let a = c.in_ok-input.ensures.some in
+    let b = c.in_ok-output.ensures.some in
     let in_a = message_in F kept c.requires.lengths c.in_ok-input.input a.0 a.2.span a.2.stands in
     let in_b = message_in F kept c.requires.lengths c.in_ok-output.output b.0 b.2.span b.2.stands in
     let input = c.index.ensures ∙ get_or_default_zero kept.messages.items c.in_ok-input.input c.index.result.now in_a in
