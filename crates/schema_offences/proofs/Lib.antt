@@ -4,7 +4,13 @@ mod EntryStarts
 mod FieldForms
 mod Firsts
 mod Formed
+mod FullLengths
 mod Judging
+mod LineLengths
+mod LinesAdded
+mod LinesOne
+mod LinesPassing
+mod LongNames
 mod Meetings
 mod NameSets
 mod Numbering
