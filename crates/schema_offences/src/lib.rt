@@ -11,6 +11,7 @@
 mod enums;
 mod first;
 mod judge;
+mod laws;
 mod lines;
 mod messages;
 mod name_set;
@@ -22,6 +23,7 @@ mod types;
 
 pub use first::Offence;
 pub use judge::first_offence;
+pub use laws::one_offence;
 pub use numbers::{enum_number, field_number};
 pub use reason::ResolveReason;
 pub use services::message_of;

@@ -32,6 +32,7 @@ pub fn one_offence()
         → HasOffence F r t → (q ≡ r) × (s ≡ t) }
 {
     file_is_ordered();
+    schema_offences::one_offence();
 }
 
 /// No file has both a table and a first offence.
