@@ -1,6 +1,6 @@
 -- How long full names are.
-use Rattle.std.proofs.Common.{◌≡◌, ◌≢◌, ℕ, ◌+◌, ◌-◌, ◌^◌, ◌<◌, ◌≤◌, ◌⊎◌, inl, inr, List, [], ◌∷◌, ◌++◌, zero, suc, length, get_or, refl, sym, ap, ◌∙◌, subst, arith, length-append}
-use Rattle.std.specs.Prelude.{◌==◌, min, Option, Some, None, slice_get, Contains}
+use Rattle.std.proofs.Common.{◌≡◌, ℕ, ◌+◌, ◌<◌, ◌≤◌, inl, inr, List, [], ◌∷◌, ◌++◌, length, get_or, refl, sym, ap, ◌∙◌, arith, length-append}
+use Rattle.std.specs.Prelude.{◌==◌, Option, Some, None, slice_get, Contains}
 use Rattle.std.proofs.lemmas.Bool.{cases_lt}
 use Rattle.std.proofs.Math.ListN.{get_or-append}
 use Rattle.std.proofs.Math.Seq.{get_or-append_seam}
@@ -19,7 +19,7 @@ use Rattle.schema_names.specs.Scopes.{IsScope, text_of, package_parts, package_o
 use Rattle.schema_names.specs.Numbers
 use Rattle.schema_names.specs.Numbers.{StandsAt, IsPlace, StandBehind}
 use Rattle.schema_names.specs.declared.named.Named.TheVariants.{Message, Enum}
-use Rattle.schema_offences.specs.Lengths.{at_most_64_bits, front_length, KeepsLengths, kept_front, full_length}
+use Rattle.schema_offences.specs.Lengths.{at_most_64_bits, front_length, KeepsLengths, full_length}
 use Rattle.schema_offences.specs.declared.lines.Lengths.{Lengths}
 
 -- ---- numbers

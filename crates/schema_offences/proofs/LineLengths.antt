@@ -1,13 +1,10 @@
 -- How long the lines of names are.
-use Rattle.std.proofs.Common.{◌≡◌, ℕ, ◌+◌, ◌-◌, ◌^◌, ◌<◌, ◌≤◌, List, [], ◌∷◌, ◌++◌, length, get_or, refl, sym, ap, ◌∙◌, subst, arith, length-append}
-use Rattle.std.specs.Prelude.{min, pos, codes, map, take, Option, Some, None, slice_get, MatchOption, FitsSigned}
+use Rattle.std.proofs.Common.{◌≡◌, ℕ, ◌+◌, ◌-◌, ◌^◌, ◌<◌, List, [], ◌∷◌, ◌++◌, length, get_or, sym, ap, ◌∙◌, subst, arith, length-append}
+use Rattle.std.specs.Prelude.{min, pos, codes, map, Option, Some, None, slice_get, MatchOption, FitsSigned}
 use Rattle.std.specs.Int.{w32}
-use Rattle.std.proofs.lemmas.List.{take_more, length-map}
-use Rattle.std.proofs.lemmas.List.Concat.{flat_map-cons}
-use Rattle.std.proofs.lemmas.Grind.{flat_map-append}
-use Rattle.std.specs.List.{join_with_byte, flat_map}
+use Rattle.std.specs.List.{join_with_byte}
 use Rattle.std.specs.Fmt.{decimal}
-use Rattle.std.proofs.lemmas.Option.{same_Some, slice_get_within, get_or_from_slice_get}
+use Rattle.std.proofs.lemmas.Option.{same_Some, slice_get_within}
 use Rattle.mrpc_table.specs.Valid.{IsFieldNumber}
 use Rattle.mrpc_table.specs.Text.{label_text, line, value_line}
 use Rattle.mrpc_table.specs.declared.table.Label.{Label}
@@ -25,7 +22,6 @@ use Rattle.schema_names.specs.Scopes.{a_message, text_of, package_of, IsScope, N
 use Rattle.schema_names.specs.Numbers
 use Rattle.schema_names.specs.Numbers.{StandsAt, IsFirstAt}
 use Rattle.schema_names.specs.declared.named.Named.TheVariants.{Message, Enum}
-use Rattle.schema_offences.specs.Sources.{service_rpcs}
 use Rattle.schema_offences.specs.Types.{value_of, no_table, label_in, HasForm}
 use Rattle.schema_offences.specs.Members.{IsNoMessage, IsFieldNumberOf}
 use Rattle.schema_offences.specs.Forms.{IsWordOf, IsForm}

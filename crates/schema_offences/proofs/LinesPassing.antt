@@ -1,7 +1,7 @@
 -- The lines of an ordered file that pass the limit of a table's text.
-use Rattle.std.proofs.Common.{◌≡◌, ◌≢◌, ℕ, ◌+◌, ◌-◌, ◌^◌, ◌<◌, ◌≤◌, ◌⊎◌, inl, inr, Bool, true, false, eqb, List, [], ◌∷◌, ◌++◌, zero, suc, length, get_or, take, refl, sym, ap, ◌∙◌, subst, arith, length-append}
-use Rattle.std.specs.Prelude.{Option, Some, None, option_map, pos, codes, map, sum_by, slice_get, All, Contains, min}
-use Rattle.std.specs.List.{flat_map, IsDistinct, AllByRecursion}
+use Rattle.std.proofs.Common.{◌≡◌, ◌≢◌, ℕ, ◌+◌, ◌-◌, ◌^◌, ◌<◌, ◌≤◌, ◌⊎◌, inl, inr, Bool, false, eqb, List, [], ◌∷◌, ◌++◌, zero, suc, length, get_or, take, refl, sym, ap, ◌∙◌, subst, arith, length-append}
+use Rattle.std.specs.Prelude.{Option, Some, option_map, codes, map, sum_by, slice_get, All, Contains, min}
+use Rattle.std.specs.List.{flat_map, IsDistinct}
 use Rattle.std.specs.List.Sorted.{IsNonDecreasingBy, IsPermutation}
 use Rattle.std.specs.Fmt.{decimal}
 use Rattle.std.proofs.lemmas.Bool.{cases_lt, ne_eqb, eqb-false}
@@ -12,7 +12,7 @@ use Rattle.std.proofs.lemmas.List.Folds.{length-flat_map-take}
 use Rattle.std.proofs.lemmas.List.Sums.{sum_by-cons}
 use Rattle.std.proofs.lemmas.List.Sorted.{IsPermutation-sym, Contains-permutation}
 use Rattle.std.proofs.lemmas.List.Elements.{All-cons, All-nil, All-contains, Contains-get_or, recursion_from_All}
-use Rattle.std.proofs.lemmas.Map.Keys.{IsDistinct-cons, IsDistinct-IsPermutation, apart_from_distinct}
+use Rattle.std.proofs.lemmas.Map.Keys.{IsDistinct-IsPermutation, apart_from_distinct}
 use Rattle.std.proofs.lemmas.Option.{same_Some, none-some, slice_get_within, slice_get_read, slice_get-get_or, get_or_from_slice_get, slice_get-map}
 use Rattle.mrpc_table.specs.Valid.{Ascends}
 use Rattle.mrpc_table.specs.Text.{line}
@@ -26,12 +26,10 @@ use Rattle.schema_names.specs.Scopes.{text_of, package_of}
 use Rattle.schema_offences.specs.Sources.{alone, service_rpcs, rpcs_of}
 use Rattle.schema_offences.specs.Lines
 use Rattle.schema_offences.specs.Lines.{HasLine, PassesAt}
-use Rattle.schema_offences.specs.Members.{Is}
 use Rattle.schema_offences.specs.Meeting.{AtSome, OfElement, PassesIn}
 use Rattle.schema_offences.specs.Lengths
 use Rattle.schema_offences.specs.Lengths.{at_most_64_bits, LineAt, IsLineOf, AreApart, Covers, CoversAll, IsPast, IsBefore, class_of, place_of, part_of, rpcs_before}
 use Rattle.schema_offences.specs.declared.reason.ResolveReason.{ResolveReason}
-use Rattle.schema_offences.specs.declared.reason.ResolveReason.TheVariants.{Limit}
 use Rattle.schema_offences.proofs.FullLengths.{contains_at}
 use Rattle.schema_offences.proofs.LongNames.{placed}
 

@@ -1,5 +1,5 @@
-use Rattle.std.proofs.Common.{◌≡◌, ◌∙◌, ◌+◌, ◌*◌, ◌^◌, ◌<◌, ◌≤◌, ℕ, length, get_or, refl, sym, ap, subst, arith}
-use Rattle.std.specs.Prelude.{Option, Some, None, slice_get}
+use Rattle.std.proofs.Common.{◌≡◌, ◌∙◌, ◌+◌, ◌<◌, ◌≤◌, ℕ, length, get_or, refl, sym, ap, subst, arith}
+use Rattle.std.specs.Prelude.{Some, slice_get}
 use Rattle.proto_file.specs.Order.{enum_decl}
 use Rattle.schema_offences.specs.Lengths.{at_most_64_bits, Covers}
 use Rattle.schema_offences.proofs.Meetings.{item_at}

@@ -1,8 +1,8 @@
-use Rattle.std.proofs.Common.{◌≡◌, ◌∙◌, ◌+◌, ◌<◌, rules, length, ℕ, Option, None, sym, ap, subst}
+use Rattle.std.proofs.Common.{◌≡◌, ◌∙◌, ◌+◌, ◌<◌, rules, length, ℕ, sym, subst}
 use Rattle.std.proofs.lemmas.Grind.{get_or_default_zero}
 use Rattle.proto_file.specs.Order.{rpc_decl}
 use Rattle.schema_offences.specs.Lengths.{at_most_64_bits, IsLengthAt}
-use Rattle.schema_offences.proofs.LineLengths.{message_in, sums_four, method_line, no_input, no_output}
+use Rattle.schema_offences.proofs.LineLengths.{message_in, sums_four, method_line, no_output}
 use Rattle.schema_offences.proofs.lines.method_length.Goals as goal
 
 pub returns-in_err-output : goal.returns-in_err-output
