@@ -79,7 +79,8 @@ pub record HasWord (F : File) (scope : List (List ℕ)) (w : Word) (t : TypeOf) 
   pub of_type : IsWordOf F t word
   pub has : HasType (F ∷ []) scope w word (is_message t) (is_packable t)
 
-pub has_word : (F : File) (scope : List (List ℕ)) (w : Word) (t : TypeOf) → IsType F scope w.name t → HasWord F scope w t
+pub has_word : (F : File) (scope : List (List ℕ)) (w : Word) (t : TypeOf) → IsType F scope w.name t
+    → HasWord F scope w t
 has_word F scope w (Scalar k) is = record { word = w.name; of_type = sym is.named; has = Types.scalar k is }
 has_word F scope w (OfName (Message i)) is = record {
   word = codes "message:" ++ text_of is.1.0;

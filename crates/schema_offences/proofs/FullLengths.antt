@@ -135,7 +135,11 @@ module _ (F : File) (old new : Lengths) where
       let many : length old.messages.items ≡ i = k.all_messages in
       record {
         front = front ∙ k.front;
-        all_messages = omega (arith, ap length ms, length-append old.messages.items (full_length old m.parent m.name ∷ []));
+        all_messages = omega (
+          arith,
+          ap length ms,
+          length-append old.messages.items (full_length old m.parent m.name ∷ []),
+        );
         all_enums = ap length es ∙ k.all_enums;
         of_message = λ j full s l st. elim (cases_lt j i) [
           | inl h ↦ ap (λ (xs : List ℕ). get_or xs j 0) ms

@@ -138,7 +138,8 @@ module _ (F : File) (kept : Lengths) (k : AreLengths F kept) where
       let full = outer ++ m.name.name ∷ [] in
       let known : get_or kept.messages.items i 0 ≡ at_most_64_bits (length (text_of full)) =
       message_kept i full m.name.span (Numbers.message i m at up) in
-      let whole : length (line (codes "message" ∷ text_of full ∷ [])) ≡ length (codes "message") + length (text_of full) + 2 =
+      let whole : length (line (codes "message" ∷ text_of full ∷ []))
+      ≡ length (codes "message") + length (text_of full) + 2 =
       two_words (codes "message") (text_of full) in
       record {
         text = line (codes "message" ∷ text_of full ∷ []);
@@ -166,7 +167,8 @@ module _ (F : File) (kept : Lengths) (k : AreLengths F kept) where
       → IsForm F scope f form → value_of f.number ≡ pos n → IsFieldNumber n
       → l ≡ at_most_64_bits (length (label_text no_table (map (λ o. o.name) m.oneofs) (label_in form.oneof form.label)))
       → r ≡ at_most_64_bits
-      (at_most_64_bits (at_most_64_bits ((10 + length (decimal n)) + l) + type_length kept form.type_of) + length f.name.name)
+      (at_most_64_bits (at_most_64_bits ((10 + length (decimal n)) + l) + type_length kept form.type_of)
+      + length f.name.name)
       → IsLineOf F (field_decl i j) (f.name.span, r)
   field_line i j m f scope form n l r at fat is has number inside label e =
       let text = label_text no_table (map (λ o. o.name) m.oneofs) (label_in form.oneof form.label) in
@@ -223,7 +225,8 @@ module _ (F : File) (i j : ℕ) where
       → ((scope : List (List ℕ)) → IsScope F (Some i) scope → (label : Label) (word : List ℕ)
       → HasForm (F ∷ []) scope f label word → ⊥)
       → (s : Span) (text : List ℕ) → LineAt F (field_decl i j) s text → ⊥
-  no_form m f at fat none s text (Lengths.of_field x y n g v {scope = scope} {label = label} {word = word} nat gat is e inside form) =
+  no_form m f at fat none s text
+      (Lengths.of_field x y n g v {scope = scope} {label = label} {word = word} nat gat is e inside form) =
       none scope is label word
       (subst (λ (h : FieldDecl). HasForm (F ∷ []) scope h label word) (same_field m n f g at fat nat gat) form)
 

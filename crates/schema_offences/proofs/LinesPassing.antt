@@ -93,7 +93,8 @@ rpc_at services a b x r at rat =
     let pair : RpcDecl → ServiceDecl × RpcDecl = λ (y : RpcDecl). (x, y) in
     let mapped : slice_get (service_rpcs x) b ≡ Some d =
     slice_get-map pair x.rpcs b ∙ ap (λ (o : Option RpcDecl). option_map pair o) rat in
-    slice_get-get_or (flat_map service_rpcs services) (length (flat_map service_rpcs (take a services)) + b) d (omega arith)
+    slice_get-get_or (flat_map service_rpcs services) (length (flat_map service_rpcs (take a services)) + b) d
+    (omega arith)
     ∙ ap Some (there ∙ ap (λ (y : ServiceDecl). get_or (service_rpcs y) b d) this
     ∙ get_or_from_slice_get (service_rpcs x) b d d mapped)
 
@@ -127,11 +128,14 @@ has_line F d s text (Lengths.of_enum i e at is) = Lines.of_enum e (contains_at F
 has_line F d s text (Lengths.of_value i j e v at vat fits) =
     Lines.of_value e v (record { enum = contains_at F.enums i e at; value = contains_at e.values j v vat }) fits
 has_line F d s text (Lengths.of_field i j m f n at fat is e k form) =
-    Lines.of_field m f n (record { place = i; message = at; is_scope = is; field = contains_at m.fields j f fat }) e k form
+    Lines.of_field m f n
+    (record { place = i; message = at; is_scope = is; field = contains_at m.fields j f fat }) e k form
 has_line F d s text (Lengths.of_method i j n x r {input = input} {output = output} at rat e a b) =
     let there : slice_get (rpcs_of F) n ≡ Some (x, r) =
     ap (λ (k : ℕ). slice_get (rpcs_of F) k) e ∙ rpc_at F.services i j x r at rat in
-    subst (λ (k : ℕ). HasLine (alone F) r.name.span (line (codes "method" ∷ decimal k ∷ text_of (package_of F ++ x.name.name ∷ [])
+    subst
+    (λ (k : ℕ). HasLine (alone F) r.name.span (line (codes "method" ∷ decimal k
+    ∷ text_of (package_of F ++ x.name.name ∷ [])
     ∷ r.name.name ∷ text_of input ∷ text_of output ∷ []))) (count n) (Lines.of_method x r n there a b)
 
 -- ---- all lines
@@ -216,8 +220,10 @@ module _ (F : File) where
   unfolding lines_of
   lines_ascend [] has r = tt
   lines_ascend (x ∷ []) has r = tt
-  lines_ascend (x ∷ y ∷ xs) has r =
-      (r 0 1 x (omega arith) (omega arith), lines_ascend (y ∷ xs) (λ z c. has z (later x z (y ∷ xs) c)) (rise_tail x (y ∷ xs) r))
+  lines_ascend (x ∷ y ∷ xs) has r = (
+    r 0 1 x (omega arith) (omega arith),
+    lines_ascend (y ∷ xs) (λ z c. has z (later x z (y ∷ xs) c)) (rise_tail x (y ∷ xs) r),
+  )
 
   lines_enough : (xs : List (Span × ℕ)) (has : HaveLines F xs)
       → sum_by (λ (x : Span × ℕ). x.1) xs ≤ length (flat_map (λ (l : Span × List ℕ). l.1) (lines_of xs has))
@@ -226,7 +232,8 @@ module _ (F : File) where
   lines_enough (x ∷ xs) has =
       let rest = lines_of xs (λ y c. has y (later x y xs c)) in
       let text = (has x (here x xs)).0 in
-      let flat : flat_map (λ (l : Span × List ℕ). l.1) ((x.0, text) ∷ rest) ≡ text ++ flat_map (λ (l : Span × List ℕ). l.1) rest =
+      let flat : flat_map (λ (l : Span × List ℕ). l.1) ((x.0, text) ∷ rest)
+      ≡ text ++ flat_map (λ (l : Span × List ℕ). l.1) rest =
       flat_map-cons (λ (l : Span × List ℕ). l.1) (x.0, text) rest in
       let own : x.1 ≤ length text = (has x (here x xs)).2 in
       omega (
@@ -282,7 +289,9 @@ cut l = (l.0, at_most_64_bits (length l.1))
 -- what stands behind the first name isn't the first
 behind_first : (x : Span × ℕ) (xs : List (Span × ℕ)) (y : Span × ℕ) → x.0.start < y.0.start → Contains (x ∷ xs) y
     → Contains xs y
-behind_first x xs y l (zero, k, e) = absurd (let same : x.0.start ≡ y.0.start = ap (λ (z : Span × ℕ). z.0.start) e in omega arith)
+behind_first x xs y l (zero, k, e) =
+    let same : x.0.start ≡ y.0.start = ap (λ (z : Span × ℕ). z.0.start) e in
+    absurd (omega arith)
 behind_first x xs y l (suc n, k, e) = (n, omega arith, e)
 
 abbrev AreAmong : List (Span × List ℕ) → List (Span × ℕ) → Type 0

@@ -22,10 +22,14 @@ pub overflow_add-count : goal.overflow_add-count
 overflow_add-count c = omega (arith, few c.args.number c.ranges.number.fits)
 
 pub loop-rest-preserved : goal.loop-rest-preserved
-loop-rest-preserved c = (omega arith, omega (arith, step c.loop-rest.rest c.loop-rest-test.true (omega (arith, c.ranges.number.fits))))
+loop-rest-preserved c = (
+  omega arith,
+  omega (arith, step c.loop-rest.rest c.loop-rest-test.true (omega (arith, c.ranges.number.fits))),
+)
 
 pub returns-clause-is : goal.returns-clause-is
 returns-clause-is c = omega (arith, one c.loop-rest.rest c.loop-rest-test.false)
 
 pub returns-clause-few : goal.returns-clause-few
-returns-clause-few c = omega (arith, one c.loop-rest.rest c.loop-rest-test.false, few c.args.number c.ranges.number.fits)
+returns-clause-few c =
+    omega (arith, one c.loop-rest.rest c.loop-rest-test.false, few c.args.number c.ranges.number.fits)

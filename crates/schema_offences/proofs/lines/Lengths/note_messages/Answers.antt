@@ -13,8 +13,9 @@ loop-i-preserved c =
     let l : c.loop-i.i < length xs = omega (arith, ap length c.as_slice-all.ensures, c.loop-i-test.true) in
     let at : slice_get xs c.loop-i.i ≡ Some c.index-all-i.result =
     item_at c.as_slice-all.result.now xs c.loop-i.i c.index-all-i.result c.as_slice-all.ensures l c.index-all-i.is in
-    meets_next xs (λ (i : ℕ) (m : MessageDecl). IsLongName c.args.self.now m.parent m.name) c.loop-i.i c.index-all-i.result
-    c.args.first.now c.loop-i.first c.note_full.new.first at c.loop-i.invariant c.note_full.ensures
+    meets_next xs (λ (i : ℕ) (m : MessageDecl). IsLongName c.args.self.now m.parent m.name)
+    c.loop-i.i c.index-all-i.result c.args.first.now c.loop-i.first
+    c.note_full.new.first at c.loop-i.invariant c.note_full.ensures
 
 pub returns : goal.returns
 returns c =
