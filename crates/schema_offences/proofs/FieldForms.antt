@@ -1,5 +1,5 @@
 -- What a field's types and its label make of it.
-use Rattle.std.proofs.Common.{◌≡◌, ◌≢◌, ℕ, Bool, true, false, List, [], ◌∷◌, ◌++◌, refl, sym, ◌∙◌, ap, subst}
+use Rattle.std.proofs.Common.{◌≡◌, ◌≢◌, ℕ, Bool, true, false, List, [], ◌∷◌, ◌++◌, refl, sym, ap, subst}
 use Rattle.std.specs.Prelude.{Option, Some, None, not, codes}
 use Rattle.std.specs.Option.{is_some}
 use denote.Enum.Bare.{sameb}
@@ -11,8 +11,7 @@ use Rattle.proto_file.specs.contracts.file.FieldLabel.{the_type}
 use Rattle.proto_file.specs.declared.file.Word.{Word}
 use Rattle.proto_file.specs.declared.file.FieldLabel.{FieldLabel}
 use Rattle.proto_file.specs.declared.file.FieldLabel.TheVariants.{Plain, Optional, Repeated}
-use Rattle.proto_file.specs.declared.file.FieldType.{FieldType}
-use Rattle.proto_file.specs.declared.file.FieldType.TheVariants.{Named, Map, NestedMap}
+use Rattle.proto_file.specs.declared.file.FieldType.TheVariants.{Named, Map}
 use Rattle.proto_file.specs.declared.file.FieldDecl.{FieldDecl}
 use Rattle.proto_file.specs.declared.file.File.{File}
 use Rattle.schema_names.specs.Scopes.{text_of}
@@ -21,10 +20,9 @@ use Rattle.schema_offences.specs.Types
 use Rattle.schema_offences.specs.Types.{IsScalar, IsNoScalar, HasType, HasForm, label_in, single_label}
 use Rattle.schema_offences.specs.Members
 use Rattle.schema_offences.specs.Members.{IsUnknown, IsMisplaced}
-use Rattle.schema_offences.specs.Forms.{IsType, IsWordOf, IsForm, is_message, is_packable, sort_word}
+use Rattle.schema_offences.specs.Forms.{IsType, IsWordOf, IsForm, is_message, is_packable}
 use Rattle.schema_offences.specs.declared.types.TypeOf.{TypeOf}
 use Rattle.schema_offences.specs.declared.types.TypeOf.TheVariants.{Scalar, Named as OfName}
-use Rattle.schema_offences.specs.declared.types.Form.{Form}
 
 -- ---- labels
 
@@ -81,7 +79,8 @@ pub record HasWord (F : File) (scope : List (List ℕ)) (w : Word) (t : TypeOf) 
   pub of_type : IsWordOf F t word
   pub has : HasType (F ∷ []) scope w word (is_message t) (is_packable t)
 
-pub has_word : (F : File) (scope : List (List ℕ)) (w : Word) (t : TypeOf) → IsType F scope w.name t → HasWord F scope w t
+pub has_word : (F : File) (scope : List (List ℕ)) (w : Word) (t : TypeOf) → IsType F scope w.name t
+    → HasWord F scope w t
 has_word F scope w (Scalar k) is = record { word = w.name; of_type = sym is.named; has = Types.scalar k is }
 has_word F scope w (OfName (Message i)) is = record {
   word = codes "message:" ++ text_of is.1.0;

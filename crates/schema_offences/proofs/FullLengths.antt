@@ -1,6 +1,6 @@
 -- How long full names are.
-use Rattle.std.proofs.Common.{◌≡◌, ◌≢◌, ℕ, ◌+◌, ◌-◌, ◌^◌, ◌<◌, ◌≤◌, ◌⊎◌, inl, inr, List, [], ◌∷◌, ◌++◌, zero, suc, length, get_or, refl, sym, ap, ◌∙◌, subst, arith, length-append}
-use Rattle.std.specs.Prelude.{◌==◌, min, Option, Some, None, slice_get, Contains}
+use Rattle.std.proofs.Common.{◌≡◌, ℕ, ◌+◌, ◌<◌, ◌≤◌, inl, inr, List, [], ◌∷◌, ◌++◌, length, get_or, refl, sym, ap, ◌∙◌, arith, length-append}
+use Rattle.std.specs.Prelude.{◌==◌, Option, Some, None, slice_get, Contains}
 use Rattle.std.proofs.lemmas.Bool.{cases_lt}
 use Rattle.std.proofs.Math.ListN.{get_or-append}
 use Rattle.std.proofs.Math.Seq.{get_or-append_seam}
@@ -19,7 +19,7 @@ use Rattle.schema_names.specs.Scopes.{IsScope, text_of, package_parts, package_o
 use Rattle.schema_names.specs.Numbers
 use Rattle.schema_names.specs.Numbers.{StandsAt, IsPlace, StandBehind}
 use Rattle.schema_names.specs.declared.named.Named.TheVariants.{Message, Enum}
-use Rattle.schema_offences.specs.Lengths.{at_most_64_bits, front_length, KeepsLengths, kept_front, full_length}
+use Rattle.schema_offences.specs.Lengths.{at_most_64_bits, front_length, KeepsLengths, full_length}
 use Rattle.schema_offences.specs.declared.lines.Lengths.{Lengths}
 
 -- ---- numbers
@@ -135,7 +135,11 @@ module _ (F : File) (old new : Lengths) where
       let many : length old.messages.items ≡ i = k.all_messages in
       record {
         front = front ∙ k.front;
-        all_messages = omega (arith, ap length ms, length-append old.messages.items (full_length old m.parent m.name ∷ []));
+        all_messages = omega (
+          arith,
+          ap length ms,
+          length-append old.messages.items (full_length old m.parent m.name ∷ []),
+        );
         all_enums = ap length es ∙ k.all_enums;
         of_message = λ j full s l st. elim (cases_lt j i) [
           | inl h ↦ ap (λ (xs : List ℕ). get_or xs j 0) ms

@@ -1,13 +1,10 @@
 -- How long the lines of names are.
-use Rattle.std.proofs.Common.{◌≡◌, ℕ, ◌+◌, ◌-◌, ◌^◌, ◌<◌, ◌≤◌, List, [], ◌∷◌, ◌++◌, length, get_or, refl, sym, ap, ◌∙◌, subst, arith, length-append}
-use Rattle.std.specs.Prelude.{min, pos, codes, map, take, Option, Some, None, slice_get, MatchOption, FitsSigned}
+use Rattle.std.proofs.Common.{◌≡◌, ℕ, ◌+◌, ◌-◌, ◌^◌, ◌<◌, List, [], ◌∷◌, ◌++◌, length, get_or, sym, ap, ◌∙◌, subst, arith, length-append}
+use Rattle.std.specs.Prelude.{min, pos, codes, map, Option, Some, None, slice_get, MatchOption, FitsSigned}
 use Rattle.std.specs.Int.{w32}
-use Rattle.std.proofs.lemmas.List.{take_more, length-map}
-use Rattle.std.proofs.lemmas.List.Concat.{flat_map-cons}
-use Rattle.std.proofs.lemmas.Grind.{flat_map-append}
-use Rattle.std.specs.List.{join_with_byte, flat_map}
+use Rattle.std.specs.List.{join_with_byte}
 use Rattle.std.specs.Fmt.{decimal}
-use Rattle.std.proofs.lemmas.Option.{same_Some, slice_get_within, get_or_from_slice_get}
+use Rattle.std.proofs.lemmas.Option.{same_Some, slice_get_within}
 use Rattle.mrpc_table.specs.Valid.{IsFieldNumber}
 use Rattle.mrpc_table.specs.Text.{label_text, line, value_line}
 use Rattle.mrpc_table.specs.declared.table.Label.{Label}
@@ -25,7 +22,6 @@ use Rattle.schema_names.specs.Scopes.{a_message, text_of, package_of, IsScope, N
 use Rattle.schema_names.specs.Numbers
 use Rattle.schema_names.specs.Numbers.{StandsAt, IsFirstAt}
 use Rattle.schema_names.specs.declared.named.Named.TheVariants.{Message, Enum}
-use Rattle.schema_offences.specs.Sources.{service_rpcs}
 use Rattle.schema_offences.specs.Types.{value_of, no_table, label_in, HasForm}
 use Rattle.schema_offences.specs.Members.{IsNoMessage, IsFieldNumberOf}
 use Rattle.schema_offences.specs.Forms.{IsWordOf, IsForm}
@@ -142,7 +138,8 @@ module _ (F : File) (kept : Lengths) (k : AreLengths F kept) where
       let full = outer ++ m.name.name ∷ [] in
       let known : get_or kept.messages.items i 0 ≡ at_most_64_bits (length (text_of full)) =
       message_kept i full m.name.span (Numbers.message i m at up) in
-      let whole : length (line (codes "message" ∷ text_of full ∷ [])) ≡ length (codes "message") + length (text_of full) + 2 =
+      let whole : length (line (codes "message" ∷ text_of full ∷ []))
+      ≡ length (codes "message") + length (text_of full) + 2 =
       two_words (codes "message") (text_of full) in
       record {
         text = line (codes "message" ∷ text_of full ∷ []);
@@ -170,7 +167,8 @@ module _ (F : File) (kept : Lengths) (k : AreLengths F kept) where
       → IsForm F scope f form → value_of f.number ≡ pos n → IsFieldNumber n
       → l ≡ at_most_64_bits (length (label_text no_table (map (λ o. o.name) m.oneofs) (label_in form.oneof form.label)))
       → r ≡ at_most_64_bits
-      (at_most_64_bits (at_most_64_bits ((10 + length (decimal n)) + l) + type_length kept form.type_of) + length f.name.name)
+      (at_most_64_bits (at_most_64_bits ((10 + length (decimal n)) + l) + type_length kept form.type_of)
+      + length f.name.name)
       → IsLineOf F (field_decl i j) (f.name.span, r)
   field_line i j m f scope form n l r at fat is has number inside label e =
       let text = label_text no_table (map (λ o. o.name) m.oneofs) (label_in form.oneof form.label) in
@@ -227,7 +225,8 @@ module _ (F : File) (i j : ℕ) where
       → ((scope : List (List ℕ)) → IsScope F (Some i) scope → (label : Label) (word : List ℕ)
       → HasForm (F ∷ []) scope f label word → ⊥)
       → (s : Span) (text : List ℕ) → LineAt F (field_decl i j) s text → ⊥
-  no_form m f at fat none s text (Lengths.of_field x y n g v {scope = scope} {label = label} {word = word} nat gat is e inside form) =
+  no_form m f at fat none s text
+      (Lengths.of_field x y n g v {scope = scope} {label = label} {word = word} nat gat is e inside form) =
       none scope is label word
       (subst (λ (h : FieldDecl). HasForm (F ∷ []) scope h label word) (same_field m n f g at fat nat gat) form)
 

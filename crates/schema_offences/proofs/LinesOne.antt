@@ -1,11 +1,10 @@
 -- A name has one line.
-use Rattle.std.proofs.Common.{◌≡◌, ℕ, ◌+◌, Bool, true, false, List, [], ◌∷◌, ◌++◌, refl, sym, ap, ◌∙◌, subst}
-use Rattle.std.specs.Prelude.{Option, Some, None, pos, codes, map, slice_get}
+use Rattle.std.proofs.Common.{◌≡◌, ℕ, Bool, List, [], ◌∷◌, ◌++◌, refl, sym, ap, ◌∙◌, subst}
+use Rattle.std.specs.Prelude.{Option, Some, pos, codes, map, slice_get}
 use Rattle.std.specs.Fmt.{decimal}
 use Rattle.std.proofs.lemmas.Option.{same_Some}
 use Rattle.mrpc_table.specs.Text.{label_text, line, value_line}
 use Rattle.mrpc_table.specs.Words.{is_numeric}
-use Rattle.mrpc_table.specs.declared.table.Kind.{Kind}
 use Rattle.mrpc_table.specs.declared.table.Label.{Label}
 use Rattle.mrpc_table.specs.declared.table.Label.TheVariants as labels
 use Rattle.proto_file.specs.Order
@@ -76,7 +75,11 @@ module _ (F : File) (apart : StartApart F)
   type_one scope w word other m n p q (Types.message full none is_named) (Types.scalar k is) = absurd (none k is)
   type_one scope w word other m n p q (Types.message full none is_named) (Types.message more also is_also) =
       let same = names F scope w.name a_message a_message full more apart is_named is_also in
-      record { words = ap (λ (f : List (List ℕ)). codes "message:" ++ text_of f) same.1; messages = refl; packables = refl }
+      record {
+        words = ap (λ (f : List (List ℕ)). codes "message:" ++ text_of f) same.1;
+        messages = refl;
+        packables = refl;
+      }
   type_one scope w word other m n p q (Types.message full none is_named) (Types.enum more also is_also) =
       let same = names F scope w.name a_message an_enum full more apart is_named is_also in
       let e : a_message ≡ an_enum = same.0 in
@@ -88,7 +91,11 @@ module _ (F : File) (apart : StartApart F)
       absurd cc
   type_one scope w word other m n p q (Types.enum full none is_named) (Types.enum more also is_also) =
       let same = names F scope w.name an_enum an_enum full more apart is_named is_also in
-      record { words = ap (λ (f : List (List ℕ)). codes "enum:" ++ text_of f) same.1; messages = refl; packables = refl }
+      record {
+        words = ap (λ (f : List (List ℕ)). codes "enum:" ++ text_of f) same.1;
+        messages = refl;
+        packables = refl;
+      }
 
   form_one : (scope : List (List ℕ)) (f : FieldDecl) (label other : Label) (word text : List ℕ)
       → HasForm (F ∷ []) scope f label word → HasForm (F ∷ []) scope f other text → (label ≡ other) × (word ≡ text)
@@ -100,9 +107,11 @@ module _ (F : File) (apart : StartApart F)
             ∙ ap (λ (b : Bool). label_in f.oneof (single_label f.label f.packed n b)) one.packables,
         one.words,
       )
-  form_one scope f label other word text (Types.single w v m p e has) (Types.a_map a b k u n q kind plain out scalar key also) =
+  form_one scope f label other word text (Types.single w v m p e has)
+      (Types.a_map a b k u n q kind plain out scalar key also) =
       absurd cc
-  form_one scope f label other word text (Types.a_map a b k u n q kind plain out scalar key also) (Types.single w v m p e has) =
+  form_one scope f label other word text (Types.a_map a b k u n q kind plain out scalar key also)
+      (Types.single w v m p e has) =
       absurd cc
   form_one scope f label other word text (Types.a_map a b k v m p kind plain out scalar key has)
       (Types.a_map c d j u n q kind2 plain2 out2 scalar2 key2 also) =
@@ -118,7 +127,8 @@ module _ (F : File) (apart : StartApart F)
 
   abbrev field_text : MessageDecl → FieldDecl → ℕ → Label → List ℕ → List ℕ
   field_text m f n label word =
-      line (codes "field" ∷ decimal n ∷ label_text no_table (map (λ o. o.name) m.oneofs) label ∷ word ∷ f.name.name ∷ [])
+      line (codes "field" ∷ decimal n ∷ label_text no_table (map (λ o. o.name) m.oneofs) label ∷ word ∷ f.name.name
+      ∷ [])
 
   abbrev method_text : ℕ → ServiceDecl → RpcDecl → List (List ℕ) → List (List ℕ) → List ℕ
   method_text n x r input output =
@@ -127,7 +137,8 @@ module _ (F : File) (apart : StartApart F)
 
   pub line_one : (d : Declaration) (s t : Span) (text other : List ℕ) → LineAt F d s text → LineAt F d t other
       → (s ≡ t) × (text ≡ other)
-  line_one d s t text other (Lengths.of_message i m {outer = outer} at up) (Lengths.of_message j n {outer = more} nat nup) =
+  line_one d s t text other (Lengths.of_message i m {outer = outer} at up)
+      (Lengths.of_message j n {outer = more} nat nup) =
       let same : n ≡ m = same_Some n m (sym nat ∙ at) in
       let one : outer ≡ more =
       scopes F m.parent outer more up (subst (λ (x : MessageDecl). IsScope F x.parent more) same nup) in (
@@ -135,7 +146,8 @@ module _ (F : File) (apart : StartApart F)
         ap (λ (x : List (List ℕ)). line (codes "message" ∷ text_of (x ++ m.name.name ∷ []) ∷ [])) one
             ∙ ap (λ (x : MessageDecl). line (codes "message" ∷ text_of (more ++ x.name.name ∷ []) ∷ [])) (sym same),
       )
-  line_one d s t text other (Lengths.of_field i j m f n {scope = scope} {label = label} {word = word} at fat is e num form)
+  line_one d s t text other
+      (Lengths.of_field i j m f n {scope = scope} {label = label} {word = word} at fat is e num form)
       (Lengths.of_field x y o g v {scope = more} {label = tag} {word = noun} oat gat also k inside has) =
       let same : o ≡ m = same_Some o m (sym oat ∙ at) in
       let field : g ≡ f =
@@ -166,8 +178,10 @@ module _ (F : File) (apart : StartApart F)
   line_one d s t text other (Lengths.of_value i j x v at vat fits) (Lengths.of_value k l y u yat uat also) =
       let same : y ≡ x = same_Some y x (sym yat ∙ at) in
       let value : u ≡ v =
-      same_Some u v (sym (subst (λ (z : EnumDecl). slice_get z.values j ≡ Some u) same uat) ∙ vat) in
-      (ap (λ (z : ValueDecl). z.name.span) (sym value), ap (λ (z : ValueDecl). value_line (value_of z.number, z.name.name)) (sym value))
+      same_Some u v (sym (subst (λ (z : EnumDecl). slice_get z.values j ≡ Some u) same uat) ∙ vat) in (
+        ap (λ (z : ValueDecl). z.name.span) (sym value),
+        ap (λ (z : ValueDecl). value_line (value_of z.number, z.name.name)) (sym value),
+      )
   line_one d s t text other (Lengths.of_method i j n x r {input = input} {output = output} at rat e a b)
       (Lengths.of_method k l m y q {input = first} {output = last} yat qat g a2 b2) =
       let same : y ≡ x = same_Some y x (sym yat ∙ at) in

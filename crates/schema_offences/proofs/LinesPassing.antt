@@ -1,7 +1,7 @@
 -- The lines of an ordered file that pass the limit of a table's text.
-use Rattle.std.proofs.Common.{◌≡◌, ◌≢◌, ℕ, ◌+◌, ◌-◌, ◌^◌, ◌<◌, ◌≤◌, ◌⊎◌, inl, inr, Bool, true, false, eqb, List, [], ◌∷◌, ◌++◌, zero, suc, length, get_or, take, refl, sym, ap, ◌∙◌, subst, arith, length-append}
-use Rattle.std.specs.Prelude.{Option, Some, None, option_map, pos, codes, map, sum_by, slice_get, All, Contains, min}
-use Rattle.std.specs.List.{flat_map, IsDistinct, AllByRecursion}
+use Rattle.std.proofs.Common.{◌≡◌, ◌≢◌, ℕ, ◌+◌, ◌-◌, ◌^◌, ◌<◌, ◌≤◌, ◌⊎◌, inl, inr, Bool, false, eqb, List, [], ◌∷◌, ◌++◌, zero, suc, length, get_or, take, refl, sym, ap, ◌∙◌, subst, arith, length-append}
+use Rattle.std.specs.Prelude.{Option, Some, option_map, codes, map, sum_by, slice_get, All, Contains, min}
+use Rattle.std.specs.List.{flat_map, IsDistinct}
 use Rattle.std.specs.List.Sorted.{IsNonDecreasingBy, IsPermutation}
 use Rattle.std.specs.Fmt.{decimal}
 use Rattle.std.proofs.lemmas.Bool.{cases_lt, ne_eqb, eqb-false}
@@ -12,7 +12,7 @@ use Rattle.std.proofs.lemmas.List.Folds.{length-flat_map-take}
 use Rattle.std.proofs.lemmas.List.Sums.{sum_by-cons}
 use Rattle.std.proofs.lemmas.List.Sorted.{IsPermutation-sym, Contains-permutation}
 use Rattle.std.proofs.lemmas.List.Elements.{All-cons, All-nil, All-contains, Contains-get_or, recursion_from_All}
-use Rattle.std.proofs.lemmas.Map.Keys.{IsDistinct-cons, IsDistinct-IsPermutation, apart_from_distinct}
+use Rattle.std.proofs.lemmas.Map.Keys.{IsDistinct-IsPermutation, apart_from_distinct}
 use Rattle.std.proofs.lemmas.Option.{same_Some, none-some, slice_get_within, slice_get_read, slice_get-get_or, get_or_from_slice_get, slice_get-map}
 use Rattle.mrpc_table.specs.Valid.{Ascends}
 use Rattle.mrpc_table.specs.Text.{line}
@@ -26,12 +26,10 @@ use Rattle.schema_names.specs.Scopes.{text_of, package_of}
 use Rattle.schema_offences.specs.Sources.{alone, service_rpcs, rpcs_of}
 use Rattle.schema_offences.specs.Lines
 use Rattle.schema_offences.specs.Lines.{HasLine, PassesAt}
-use Rattle.schema_offences.specs.Members.{Is}
 use Rattle.schema_offences.specs.Meeting.{AtSome, OfElement, PassesIn}
 use Rattle.schema_offences.specs.Lengths
 use Rattle.schema_offences.specs.Lengths.{at_most_64_bits, LineAt, IsLineOf, AreApart, Covers, CoversAll, IsPast, IsBefore, class_of, place_of, part_of, rpcs_before}
 use Rattle.schema_offences.specs.declared.reason.ResolveReason.{ResolveReason}
-use Rattle.schema_offences.specs.declared.reason.ResolveReason.TheVariants.{Limit}
 use Rattle.schema_offences.proofs.FullLengths.{contains_at}
 use Rattle.schema_offences.proofs.LongNames.{placed}
 
@@ -95,7 +93,8 @@ rpc_at services a b x r at rat =
     let pair : RpcDecl → ServiceDecl × RpcDecl = λ (y : RpcDecl). (x, y) in
     let mapped : slice_get (service_rpcs x) b ≡ Some d =
     slice_get-map pair x.rpcs b ∙ ap (λ (o : Option RpcDecl). option_map pair o) rat in
-    slice_get-get_or (flat_map service_rpcs services) (length (flat_map service_rpcs (take a services)) + b) d (omega arith)
+    slice_get-get_or (flat_map service_rpcs services) (length (flat_map service_rpcs (take a services)) + b) d
+    (omega arith)
     ∙ ap Some (there ∙ ap (λ (y : ServiceDecl). get_or (service_rpcs y) b d) this
     ∙ get_or_from_slice_get (service_rpcs x) b d d mapped)
 
@@ -129,11 +128,14 @@ has_line F d s text (Lengths.of_enum i e at is) = Lines.of_enum e (contains_at F
 has_line F d s text (Lengths.of_value i j e v at vat fits) =
     Lines.of_value e v (record { enum = contains_at F.enums i e at; value = contains_at e.values j v vat }) fits
 has_line F d s text (Lengths.of_field i j m f n at fat is e k form) =
-    Lines.of_field m f n (record { place = i; message = at; is_scope = is; field = contains_at m.fields j f fat }) e k form
+    Lines.of_field m f n
+    (record { place = i; message = at; is_scope = is; field = contains_at m.fields j f fat }) e k form
 has_line F d s text (Lengths.of_method i j n x r {input = input} {output = output} at rat e a b) =
     let there : slice_get (rpcs_of F) n ≡ Some (x, r) =
     ap (λ (k : ℕ). slice_get (rpcs_of F) k) e ∙ rpc_at F.services i j x r at rat in
-    subst (λ (k : ℕ). HasLine (alone F) r.name.span (line (codes "method" ∷ decimal k ∷ text_of (package_of F ++ x.name.name ∷ [])
+    subst
+    (λ (k : ℕ). HasLine (alone F) r.name.span (line (codes "method" ∷ decimal k
+    ∷ text_of (package_of F ++ x.name.name ∷ [])
     ∷ r.name.name ∷ text_of input ∷ text_of output ∷ []))) (count n) (Lines.of_method x r n there a b)
 
 -- ---- all lines
@@ -218,8 +220,10 @@ module _ (F : File) where
   unfolding lines_of
   lines_ascend [] has r = tt
   lines_ascend (x ∷ []) has r = tt
-  lines_ascend (x ∷ y ∷ xs) has r =
-      (r 0 1 x (omega arith) (omega arith), lines_ascend (y ∷ xs) (λ z c. has z (later x z (y ∷ xs) c)) (rise_tail x (y ∷ xs) r))
+  lines_ascend (x ∷ y ∷ xs) has r = (
+    r 0 1 x (omega arith) (omega arith),
+    lines_ascend (y ∷ xs) (λ z c. has z (later x z (y ∷ xs) c)) (rise_tail x (y ∷ xs) r),
+  )
 
   lines_enough : (xs : List (Span × ℕ)) (has : HaveLines F xs)
       → sum_by (λ (x : Span × ℕ). x.1) xs ≤ length (flat_map (λ (l : Span × List ℕ). l.1) (lines_of xs has))
@@ -228,7 +232,8 @@ module _ (F : File) where
   lines_enough (x ∷ xs) has =
       let rest = lines_of xs (λ y c. has y (later x y xs c)) in
       let text = (has x (here x xs)).0 in
-      let flat : flat_map (λ (l : Span × List ℕ). l.1) ((x.0, text) ∷ rest) ≡ text ++ flat_map (λ (l : Span × List ℕ). l.1) rest =
+      let flat : flat_map (λ (l : Span × List ℕ). l.1) ((x.0, text) ∷ rest)
+      ≡ text ++ flat_map (λ (l : Span × List ℕ). l.1) rest =
       flat_map-cons (λ (l : Span × List ℕ). l.1) (x.0, text) rest in
       let own : x.1 ≤ length text = (has x (here x xs)).2 in
       omega (
@@ -284,7 +289,9 @@ cut l = (l.0, at_most_64_bits (length l.1))
 -- what stands behind the first name isn't the first
 behind_first : (x : Span × ℕ) (xs : List (Span × ℕ)) (y : Span × ℕ) → x.0.start < y.0.start → Contains (x ∷ xs) y
     → Contains xs y
-behind_first x xs y l (zero, k, e) = absurd (let same : x.0.start ≡ y.0.start = ap (λ (z : Span × ℕ). z.0.start) e in omega arith)
+behind_first x xs y l (zero, k, e) =
+    let same : x.0.start ≡ y.0.start = ap (λ (z : Span × ℕ). z.0.start) e in
+    absurd (omega arith)
 behind_first x xs y l (suc n, k, e) = (n, omega arith, e)
 
 abbrev AreAmong : List (Span × List ℕ) → List (Span × ℕ) → Type 0

@@ -1,7 +1,7 @@
 -- The full names that are too long.
-use Rattle.std.proofs.Common.{◌≡◌, ℕ, ◌<◌, ◌⊎◌, inl, inr, true, List, [], ◌∷◌, ◌++◌, length, refl, sym, ap, ◌∙◌, subst, arith}
+use Rattle.std.proofs.Common.{◌≡◌, ℕ, ◌<◌, ◌⊎◌, inl, inr, true, List, [], ◌∷◌, ◌++◌, length, refl, sym, ◌∙◌, arith}
 use Rattle.std.specs.Prelude.{Option, Some, None, slice_get, Contains}
-use Rattle.std.proofs.lemmas.Option.{slice_get_read, slice_get_within}
+use Rattle.std.proofs.lemmas.Option.{slice_get_read}
 use Rattle.mrpc_table.specs.declared.limits.TheConstants.{MAX_FULL_NAME}
 use Rattle.proto_file.specs.Order.{IsPlaceBelow, IsFormed}
 use Rattle.proto_file.specs.declared.file.Span.{Span}
@@ -37,7 +37,8 @@ module _ (F : File) (kept : Lengths) (formed : IsFormed F) (k : AreLengths F kep
     (exists : (G : File) (place : Option ℕ) → StandBehind G → IsPlace G place
     → (scope : List (List ℕ)) × IsScope G place scope) where
   -- what stands in the file or in a message has a scope
-  pub scope_of : (place : Option ℕ) → IsPlaceBelow (length F.messages) place → (scope : List (List ℕ)) × IsScope F place scope
+  pub scope_of : (place : Option ℕ) → IsPlaceBelow (length F.messages) place
+      → (scope : List (List ℕ)) × IsScope F place scope
   scope_of place below = exists F place (stand_behind F formed) (is_place F place below)
 
   is_long : (place : Option ℕ) (w : Word) (scope : List (List ℕ)) → IsPlaceBelow (length F.messages) place

@@ -78,6 +78,10 @@ type_length kept (OfName (Enum i)) = at_most_64_bits (get_or kept.enums.items i 
 
 -- ---- lines
 
+-- how many rpcs stand in the services before a place
+abbrev pub rpcs_before : File → ℕ → ℕ
+rpcs_before F i = length (flat_map service_rpcs (take i F.services))
+
 -- the lines of names, by their declarations
 pub data LineAt (F : File) : Declaration → Span → List ℕ → Type 0 where
   of_message : (i : ℕ) (m : MessageDecl) {outer : List (List ℕ)} → slice_get F.messages i ≡ Some m
@@ -96,7 +100,7 @@ pub data LineAt (F : File) : Declaration → Span → List ℕ → Type 0 where
       → LineAt F (value_decl i j) v.name.span (value_line (value_of v.number, v.name.name))
   of_method : (i j n : ℕ) (s : ServiceDecl) (r : RpcDecl) {input output : List (List ℕ)}
       → slice_get F.services i ≡ Some s → slice_get s.rpcs j ≡ Some r
-      → n ≡ length (flat_map service_rpcs (take i F.services)) + j
+      → n ≡ rpcs_before F i + j
       → Names (F ∷ []) (package_of F) r.input.name a_message input
       → Names (F ∷ []) (package_of F) r.output.name a_message output
       → LineAt F (rpc_decl i j) r.name.span (line
@@ -118,10 +122,6 @@ IsLengthAt F d span (Some n) = IsLineOf F d (span, n)
 abbrev pub added : Span → Option ℕ → List (Span × ℕ)
 added span None = []
 added span (Some n) = (span, n) ∷ []
-
--- how many rpcs stand in the services before a place
-abbrev pub rpcs_before : File → ℕ → ℕ
-rpcs_before F i = length (flat_map service_rpcs (take i F.services))
 
 -- ---- the order in which lines are added
 

@@ -1,5 +1,5 @@
-use Rattle.std.proofs.Common.{◌≡◌, ◌∙◌, ◌+◌, ◌*◌, ◌^◌, ◌<◌, ◌≤◌, ℕ, length, get_or, refl, sym, ap, subst, arith}
-use Rattle.std.specs.Prelude.{Option, Some, None, slice_get}
+use Rattle.std.proofs.Common.{◌≡◌, ◌∙◌, ◌+◌, ◌<◌, ◌≤◌, ℕ, length, get_or, refl, sym, ap, subst, arith}
+use Rattle.std.specs.Prelude.{Some, slice_get}
 use Rattle.proto_file.specs.Order.{enum_decl}
 use Rattle.schema_offences.specs.Lengths.{at_most_64_bits, Covers}
 use Rattle.schema_offences.proofs.Meetings.{item_at}
@@ -22,7 +22,8 @@ add_values-requires-clause-choices c =
     let outer = c.one_scope.ensures.exists F e.parent (stand_behind F c.requires.formed)
     (is_place F e.parent (enum_below F c.requires.formed i e at)) in
     let read : c.index.result.now ≡ get_or kept.enums.items i 0 =
-    c.index.ensures ∙ get_or_default_zero kept.enums.items i c.index.result.now (omega (arith, c.requires.lengths.all_enums)) in
+    c.index.ensures
+    ∙ get_or_default_zero kept.enums.items i c.index.result.now (omega (arith, c.requires.lengths.all_enums)) in
     let line = enum_line F kept c.requires.lengths i e outer.0 c.saturating_add-length.result at outer.1
     (c.saturating_add-length.ensures ∙ ap (λ (n : ℕ). at_most_64_bits (n + 6)) read) in
     let more = covers_add F 1 i 0 c.loop-i.lines.items c.requires.ordered (enum_decl i) e.name.span

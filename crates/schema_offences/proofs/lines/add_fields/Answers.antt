@@ -1,5 +1,5 @@
-use Rattle.std.proofs.Common.{◌≡◌, ◌∙◌, ◌+◌, ◌*◌, ◌^◌, ◌<◌, ◌≤◌, ℕ, length, refl, sym, ap, subst, arith}
-use Rattle.std.specs.Prelude.{Option, Some, None, slice_get}
+use Rattle.std.proofs.Common.{◌≡◌, ◌+◌, ◌<◌, ◌≤◌, length, refl, sym, ap, subst, arith}
+use Rattle.std.specs.Prelude.{Some, slice_get}
 use Rattle.proto_file.specs.Order.{field_decl}
 use Rattle.proto_file.specs.declared.file.File.{File}
 use Rattle.schema_offences.specs.Lengths.{Covers, IsLengthAt}

@@ -1,5 +1,5 @@
-use Rattle.std.proofs.Common.{◌≡◌, ◌∙◌, ◌+◌, ◌*◌, ◌^◌, ◌<◌, ◌≤◌, ℕ, length, get_or, refl, sym, ap, subst, arith}
-use Rattle.std.specs.Prelude.{Option, Some, None, slice_get}
+use Rattle.std.proofs.Common.{◌≡◌, ◌∙◌, ◌+◌, ◌<◌, ◌≤◌, ℕ, length, get_or, refl, sym, ap, subst, arith}
+use Rattle.std.specs.Prelude.{Some, slice_get}
 use Rattle.proto_file.specs.Order.{message_decl}
 use Rattle.schema_offences.specs.Lengths.{at_most_64_bits, Covers}
 use Rattle.schema_offences.proofs.Meetings.{item_at}
@@ -27,7 +27,8 @@ add_fields-requires-clause-message c =
     let outer = c.one_scope.ensures.exists F m.parent (stand_behind F c.requires.formed)
     (is_place F m.parent (message_below F c.requires.formed i m at)) in
     let read : c.index.result.now ≡ get_or kept.messages.items i 0 =
-    c.index.ensures ∙ get_or_default_zero kept.messages.items i c.index.result.now (omega (arith, c.requires.lengths.all_messages)) in
+    c.index.ensures
+    ∙ get_or_default_zero kept.messages.items i c.index.result.now (omega (arith, c.requires.lengths.all_messages)) in
     let line = message_line F kept c.requires.lengths i m outer.0 c.saturating_add-length.result at outer.1
     (c.saturating_add-length.ensures ∙ ap (λ (n : ℕ). at_most_64_bits (n + 9)) read) in
     let more = covers_add F 0 i 0 c.loop-i.lines.items c.requires.ordered (message_decl i) m.name.span

@@ -1,5 +1,4 @@
-use Rattle.std.proofs.Common.{◌≡◌, ◌∙◌, ◌+◌, ◌*◌, ◌^◌, ◌<◌, ◌≤◌, ℕ, length, refl, sym, ap, subst, arith}
-use Rattle.std.specs.Prelude.{Option, Some, None, slice_get}
+use Rattle.std.proofs.Common.{◌≤◌, length, ap, arith}
 use Rattle.schema_offences.proofs.LinesAdded.{covers_class, no_service}
 use Rattle.schema_offences.proofs.lines.add_methods.Goals as goal
 

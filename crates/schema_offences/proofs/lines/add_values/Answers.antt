@@ -1,8 +1,6 @@
-use Rattle.std.proofs.Common.{◌≡◌, ◌∙◌, ◌+◌, ◌*◌, ◌^◌, ◌<◌, ◌≤◌, ℕ, length, refl, sym, ap, subst, arith}
-use Rattle.std.specs.Prelude.{Option, Some, None, slice_get}
-use Rattle.std.specs.Vec
+use Rattle.std.proofs.Common.{◌≡◌, ◌+◌, ◌<◌, ◌≤◌, length, refl, sym, ap, subst, arith}
+use Rattle.std.specs.Prelude.{Some, slice_get}
 use Rattle.proto_file.specs.Order.{value_decl}
-use Rattle.proto_file.specs.declared.file.EnumDecl.{EnumDecl}
 use Rattle.schema_offences.specs.Lengths.{Covers}
 use Rattle.schema_offences.proofs.Meetings.{item_at}
 use Rattle.schema_offences.proofs.LineLengths.{value_at}

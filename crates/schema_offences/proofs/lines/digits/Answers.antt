@@ -1,4 +1,4 @@
-use Rattle.std.proofs.Common.{◌≡◌, ◌+◌, ◌/◌, ◌%◌, ◌^◌, ◌<◌, ◌≤◌, List, [], ◌∷◌, ◌++◌, ℕ, length, ap, arith, length-append, lit≤}
+use Rattle.std.proofs.Common.{◌≡◌, ◌+◌, ◌/◌, ◌%◌, ◌^◌, ◌<◌, ◌≤◌, [], ◌∷◌, ◌++◌, ℕ, length, ap, arith, length-append, lit≤}
 use Rattle.std.specs.Fmt.{decimal}
 use Rattle.std.proofs.lemmas.Fmt.{decimal_digit, decimal_step_wide, length-decimal-le_wide}
 use Rattle.schema_offences.proofs.lines.digits.Goals as goal
@@ -22,10 +22,14 @@ pub overflow_add-count : goal.overflow_add-count
 overflow_add-count c = omega (arith, few c.args.number c.ranges.number.fits)
 
 pub loop-rest-preserved : goal.loop-rest-preserved
-loop-rest-preserved c = (omega arith, omega (arith, step c.loop-rest.rest c.loop-rest-test.true (omega (arith, c.ranges.number.fits))))
+loop-rest-preserved c = (
+  omega arith,
+  omega (arith, step c.loop-rest.rest c.loop-rest-test.true (omega (arith, c.ranges.number.fits))),
+)
 
 pub returns-clause-is : goal.returns-clause-is
 returns-clause-is c = omega (arith, one c.loop-rest.rest c.loop-rest-test.false)
 
 pub returns-clause-few : goal.returns-clause-few
-returns-clause-few c = omega (arith, one c.loop-rest.rest c.loop-rest-test.false, few c.args.number c.ranges.number.fits)
+returns-clause-few c =
+    omega (arith, one c.loop-rest.rest c.loop-rest-test.false, few c.args.number c.ranges.number.fits)

@@ -1,4 +1,4 @@
-use Rattle.std.proofs.Common.{◌≡◌, ◌∙◌, ◌+◌, ℕ, length, Option, None, sym, ap, subst}
+use Rattle.std.proofs.Common.{◌≡◌, ◌∙◌, ◌+◌, ℕ, length, sym, ap, subst}
 use Rattle.std.specs.Fmt.{decimal}
 use Rattle.proto_file.specs.Order.{field_decl}
 use Rattle.schema_offences.specs.Lengths.{at_most_64_bits, IsLengthAt}
@@ -33,5 +33,6 @@ returns c = λ j fat.
     (sums_three _ c.digits-front.result c.label_length.result _ c.len.result _ c.saturating_add.result
     c.saturating_add-2.result c.saturating_add-3.result
     (c.digits-front.ensures.is ∙ ap (λ (n : ℕ). length (decimal n)) c.from.ensures) c.len.ensures
-    c.saturating_add.ensures (subst (λ (t : ℕ). c.saturating_add-2.result ≡ at_most_64_bits (c.saturating_add.result + t))
+    c.saturating_add.ensures
+    (subst (λ (t : ℕ). c.saturating_add-2.result ≡ at_most_64_bits (c.saturating_add.result + t))
     c.of_type.ensures c.saturating_add-2.ensures) c.saturating_add-3.ensures)

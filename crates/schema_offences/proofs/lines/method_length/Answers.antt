@@ -1,8 +1,8 @@
-use Rattle.std.proofs.Common.{◌≡◌, ◌∙◌, ◌+◌, ◌<◌, rules, length, ℕ, Option, None, sym, ap, subst}
+use Rattle.std.proofs.Common.{◌≡◌, ◌∙◌, ◌+◌, ◌<◌, rules, length, ℕ, sym, subst}
 use Rattle.std.proofs.lemmas.Grind.{get_or_default_zero}
 use Rattle.proto_file.specs.Order.{rpc_decl}
 use Rattle.schema_offences.specs.Lengths.{at_most_64_bits, IsLengthAt}
-use Rattle.schema_offences.proofs.LineLengths.{message_in, sums_four, method_line, no_input, no_output}
+use Rattle.schema_offences.proofs.LineLengths.{message_in, sums_four, method_line, no_output}
 use Rattle.schema_offences.proofs.lines.method_length.Goals as goal
 
 pub returns-in_err-output : goal.returns-in_err-output
@@ -34,7 +34,8 @@ returns c = λ i j at rat count.
     let in_a = message_in F kept c.requires.lengths c.in_ok-input.input a.0 a.2.span a.2.stands in
     let in_b = message_in F kept c.requires.lengths c.in_ok-output.output b.0 b.2.span b.2.stands in
     let input = c.index.ensures ∙ get_or_default_zero kept.messages.items c.in_ok-input.input c.index.result.now in_a in
-    let output = c.index-2.ensures ∙ get_or_default_zero kept.messages.items c.in_ok-output.output c.index-2.result.now in_b in
+    let output = c.index-2.ensures
+    ∙ get_or_default_zero kept.messages.items c.in_ok-output.output c.index-2.result.now in_b in
     method_line F kept c.requires.lengths i j c.args.index c.args.service.now c.args.rpc.now c.in_ok-input.input
     c.in_ok-output.output a.0 b.0 c.saturating_add-4.result at rat count a.1 b.1 a.2 b.2
     (sums_four _ c.digits-front.result _ c.len.result _ _ _ c.saturating_add.result c.saturating_add-2.result

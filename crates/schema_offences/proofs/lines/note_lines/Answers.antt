@@ -1,6 +1,6 @@
-use Rattle.std.proofs.Common.{◌≡◌, ◌+◌, ◌<◌, ◌-◌, ◌^◌, ℕ, length, take, get_or, true, refl, sym, ap, subst, ◌∙◌, arith, ltb}
+use Rattle.std.proofs.Common.{◌≡◌, ◌+◌, ◌<◌, ◌-◌, ◌^◌, ℕ, length, take, get_or, true, arith, ltb}
 use Rattle.std.proofs.lemmas.Bool.{ltb-true, lt-ltb}
-use Rattle.std.specs.Prelude.{Some, slice_get, sum_by, min}
+use Rattle.std.specs.Prelude.{sum_by, min}
 use Rattle.std.proofs.lemmas.List.Sums.{sum_by_more}
 use Rattle.std.proofs.lemmas.Option.{slice_get-get_or}
 use Rattle.mrpc_table.specs.declared.limits.TheConstants.{MAX_TEXT}
@@ -34,8 +34,8 @@ loop-i-preserved c =
     c.loop-i.invariant.total c.saturating_add-total.ensures (sum_by_more (λ (y : Span × ℕ). y.1) xs i none l) in
     record {
       total = total;
-      meets = meets_next xs (IsPast xs) i x c.args.first.now c.loop-i.first c.note_if.new.self (slice_get-get_or xs i none l)
-          c.loop-i.invariant.meets
+      meets = meets_next xs (IsPast xs) i x c.args.first.now c.loop-i.first c.note_if.new.self
+          (slice_get-get_or xs i none l) c.loop-i.invariant.meets
           (meets_when (MAX_TEXT < sum) (ltb MAX_TEXT c.saturating_add-total.result) Limit x.0 c.loop-i.first
           c.note_if.new.self (is_past c.saturating_add-total.result sum total)
           (past c.saturating_add-total.result sum total) c.note_if.ensures);

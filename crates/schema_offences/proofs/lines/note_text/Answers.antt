@@ -1,4 +1,4 @@
-use Rattle.std.proofs.Common.{◌≡◌, ℕ, rules, sym, subst, List}
+use Rattle.std.proofs.Common.{ℕ, rules, subst, List}
 use Rattle.std.proofs.lemmas.List.Sorted.{IsNonDecreasingBy-from_sort_by_key}
 use Rattle.proto_file.specs.declared.file.Span.{Span}
 use Rattle.schema_offences.specs.Meeting.{Meets, AtSome, OfElement, PassesIn}

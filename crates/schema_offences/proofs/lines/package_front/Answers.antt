@@ -1,4 +1,4 @@
-use Rattle.std.proofs.Common.{◌≡◌, ◌+◌, ℕ, Option, sym, ap, ◌∙◌, arith}
+use Rattle.std.proofs.Common.{◌+◌, ℕ, Option, sym, ap, ◌∙◌}
 use Rattle.proto_file.specs.declared.file.Word.{Word}
 use Rattle.schema_names.specs.Scopes.{package_parts}
 use Rattle.schema_offences.specs.Lengths.{at_most_64_bits, front_length}

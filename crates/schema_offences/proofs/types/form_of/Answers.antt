@@ -1,5 +1,5 @@
 -- A field has a form where its types are known and its map may stand there.
-use Rattle.std.proofs.Common.{◌≡◌, ℕ, List, [], ◌∷◌, sym, ◌∙◌, subst}
+use Rattle.std.proofs.Common.{ℕ, List, [], ◌∷◌, sym, ◌∙◌, subst}
 use Rattle.std.specs.Prelude.{Option, MatchOption}
 use Rattle.std.proofs.lemmas.Bool.{false≢true}
 use Rattle.mrpc_table.specs.declared.table.Label.{Label}

@@ -1,8 +1,8 @@
 use Rattle.std.proofs.Common.{◌≡◌, ◌<◌, ℕ, length, ap, arith}
-use Rattle.std.specs.Prelude.{Some, None, slice_get}
+use Rattle.std.specs.Prelude.{Some, slice_get}
 use Rattle.proto_file.specs.declared.file.EnumDecl.{EnumDecl}
 use Rattle.schema_offences.specs.Lengths.{IsLongName}
-use Rattle.schema_offences.proofs.Meetings.{meets_start, meets_next, meets_elements, item_at}
+use Rattle.schema_offences.proofs.Meetings.{meets_next, meets_elements, item_at}
 use Rattle.schema_offences.proofs.lines.Lengths.note_enums.Goals as goal
 
 pub loop-i-preserved : goal.loop-i-preserved

@@ -1,8 +1,8 @@
 use Rattle.std.proofs.Common.{◌≡◌, ◌<◌, ℕ, length, ap, arith, subst, sym}
-use Rattle.std.specs.Prelude.{Some, None, slice_get}
+use Rattle.std.specs.Prelude.{Some, slice_get}
 use Rattle.proto_file.specs.declared.file.MessageDecl.{MessageDecl}
 use Rattle.schema_offences.specs.Lengths.{IsLongName}
-use Rattle.schema_offences.proofs.Meetings.{meets_start, meets_next, meets_elements, item_at}
+use Rattle.schema_offences.proofs.Meetings.{meets_next, meets_elements, item_at}
 use Rattle.proto_file.specs.Order.{IsPlaceBelow}
 use Rattle.schema_offences.proofs.FullLengths.{message_below}
 use Rattle.schema_offences.proofs.lines.Lengths.note_messages.Goals as goal
@@ -13,8 +13,9 @@ loop-i-preserved c =
     let l : c.loop-i.i < length xs = omega (arith, ap length c.as_slice-all.ensures, c.loop-i-test.true) in
     let at : slice_get xs c.loop-i.i ≡ Some c.index-all-i.result =
     item_at c.as_slice-all.result.now xs c.loop-i.i c.index-all-i.result c.as_slice-all.ensures l c.index-all-i.is in
-    meets_next xs (λ (i : ℕ) (m : MessageDecl). IsLongName c.args.self.now m.parent m.name) c.loop-i.i c.index-all-i.result
-    c.args.first.now c.loop-i.first c.note_full.new.first at c.loop-i.invariant c.note_full.ensures
+    meets_next xs (λ (i : ℕ) (m : MessageDecl). IsLongName c.args.self.now m.parent m.name)
+    c.loop-i.i c.index-all-i.result c.args.first.now c.loop-i.first
+    c.note_full.new.first at c.loop-i.invariant c.note_full.ensures
 
 pub returns : goal.returns
 returns c =
