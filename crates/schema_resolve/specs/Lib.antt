@@ -1,2 +1,3 @@
 pub mod Tables
 pub mod Resolving
+pub mod Placing

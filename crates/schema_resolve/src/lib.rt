@@ -8,6 +8,8 @@
 
 mod fault;
 mod laws;
+mod placed;
+mod plan;
 mod resolve;
 mod table;
 

@@ -1,0 +1,3 @@
+mod CleanFiles
+mod FullNames
+mod Orders
