@@ -75,7 +75,7 @@ parts_of_text name (other ∷ names) h =
     parts_more name (text_of (other ∷ names)) (name_no_dot name p.0)
     ∙ ap (λ (ns : List (List ℕ)). name ∷ ns) (parts_of_text other names p.1)
 
-text_some : (name : List ℕ) (names : List (List ℕ)) → AreNames (name ∷ names)
+pub text_some : (name : List ℕ) (names : List (List ℕ)) → AreNames (name ∷ names)
     → (c : ℕ) × (cs : List ℕ) × (text_of (name ∷ names) ≡ c ∷ cs)
 text_some [] names h = absurd (false≢true (and_parts false (list_all is_name_form names) h).0)
 text_some (c ∷ cs) [] h = (c, cs, refl)

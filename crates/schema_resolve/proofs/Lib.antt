@@ -1,3 +1,6 @@
 mod CleanFiles
+mod EnumTables
+mod FieldTables
 mod FullNames
+mod MethodTables
 mod Orders

@@ -133,6 +133,15 @@ pub less_from : {K : Type 0} (R : K → K → Ordering) → IsTotalOrder R → (
 less_from R total a b rest apart not_less =
     less_at (R b a) (R a b) rest (total.antisymm a b) apart not_less
 
+plain_at : (o p : Ordering) → p ≡ ordering_reverse o → (o ≡ Equal → ⊥) → is_lt o ≡ false → p ≡ Less
+plain_at Less p e apart not_less = absurd (false≢true (sym not_less))
+plain_at Equal p e apart not_less = absurd (apart refl)
+plain_at Greater p e apart not_less = e
+
+pub less_plain : {K : Type 0} (R : K → K → Ordering) → IsTotalOrder R → (a b : K) → (R b a ≡ Equal → ⊥)
+    → is_lt (R b a) ≡ false → R a b ≡ Less
+less_plain R total a b apart not_less = plain_at (R b a) (R a b) (total.antisymm a b) apart not_less
+
 pub below_trans : (a b c : List ℕ) → IsBelow a b → IsBelow b c → IsBelow a c
 below_trans a b c p q = nat_list_cmp_total.trans a b c p q
 
@@ -181,7 +190,7 @@ known_more names i name pairs more l is e h =
           ]);
     })
 
-element : {X : Type 0} (xs : List X) (i : ℕ) → i < length xs → (x : X) × ((d : X) → get_or xs i d ≡ x)
+pub element : {X : Type 0} (xs : List X) (i : ℕ) → i < length xs → (x : X) × ((d : X) → get_or xs i d ≡ x)
 element [] i l = absurd (omega arith)
 element (x ∷ xs) zero l = (x, λ d. refl)
 element (x ∷ xs) (suc i) l = element xs i (omega arith)

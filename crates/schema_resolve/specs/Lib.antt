@@ -1,3 +1,5 @@
 pub mod Tables
 pub mod Resolving
 pub mod Placing
+pub mod InOrder
+pub mod Judged

@@ -6,8 +6,11 @@
 //! file's, and an offence is the file's first one.
 #![tactic(auto)]
 
+mod enum_table;
 mod fault;
+mod field_table;
 mod laws;
+mod method_table;
 mod placed;
 mod plan;
 mod resolve;
