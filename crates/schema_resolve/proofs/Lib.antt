@@ -2,5 +2,10 @@ mod CleanFiles
 mod EnumTables
 mod FieldTables
 mod FullNames
+mod KindWords
+mod Making
+mod MessageTables
 mod MethodTables
+mod OneofTables
 mod Orders
+mod TableParts

@@ -3,3 +3,5 @@ pub mod Resolving
 pub mod Placing
 pub mod InOrder
 pub mod Judged
+pub mod Joining
+pub mod Making
