@@ -9,3 +9,5 @@ mod MethodTables
 mod OneofTables
 mod Orders
 mod TableParts
+mod TextLines
+mod TextParts
