@@ -132,7 +132,7 @@ not_enum_word : (k : Kind) (name : List ℕ) → is_scalar k ≡ true → kind_t
 not_enum_word k name s e =
     none-some k (subst (λ (w : List ℕ). scalar_of w ≡ Some k) e (scalar_known k s))
 
-same_scalar : (k l : Kind) → is_scalar k ≡ true → is_scalar l ≡ true → kind_text no_table k ≡ kind_text no_table l → k ≡ l
+pub same_scalar : (k l : Kind) → is_scalar k ≡ true → is_scalar l ≡ true → kind_text no_table k ≡ kind_text no_table l → k ≡ l
 same_scalar k l s t e = same_Some k l (sym (scalar_known k s) ∙ ap scalar_of e ∙ scalar_known l t)
 
 message_not_enum : (a b : List ℕ) → codes "message:" ++ a ≡ codes "enum:" ++ b → ⊥

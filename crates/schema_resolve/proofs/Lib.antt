@@ -6,6 +6,7 @@ mod KindWords
 mod Making
 mod MessageTables
 mod MethodTables
+mod OneTable
 mod OneofTables
 mod Orders
 mod TableParts

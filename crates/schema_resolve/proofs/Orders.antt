@@ -96,14 +96,14 @@ ascends_from R (x ∷ []) h = tt
 ascends_from R (x ∷ y ∷ xs) h =
     (h 0 x (omega arith), ascends_from R (y ∷ xs) (λ k d l. h (suc k) d (omega arith)))
 
-ascends_past : {X : Type 0} (R : X → X → Type 0) → ((x y z : X) → R x y → R y z → R x z) → (x : X) (xs : List X)
+pub ascends_past : {X : Type 0} (R : X → X → Type 0) → ((x y z : X) → R x y → R y z → R x z) → (x : X) (xs : List X)
     → Ascends R (x ∷ xs) → (k : ℕ) (d : X) → k < length xs → R x (get_or xs k d)
 ascends_past R trans x [] h k d l = absurd (omega arith)
 ascends_past R trans x (y ∷ xs) h zero d l = h.0
 ascends_past R trans x (y ∷ xs) h (suc k) d l =
     trans x y (get_or xs k d) h.0 (ascends_past R trans y xs h.1 k d (omega arith))
 
-ascends_rest : {X : Type 0} (R : X → X → Type 0) (x : X) (xs : List X) → Ascends R (x ∷ xs) → Ascends R xs
+pub ascends_rest : {X : Type 0} (R : X → X → Type 0) (x : X) (xs : List X) → Ascends R (x ∷ xs) → Ascends R xs
 ascends_rest R x [] h = tt
 ascends_rest R x (y ∷ xs) h = h.1
 

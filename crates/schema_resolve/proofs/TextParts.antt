@@ -245,7 +245,7 @@ oneof_alike T ns None l h = h
 oneof_alike T ns (Some i) l h = refl
 
 -- a label's text says nothing of the table
-form_alike : (T : Table) (ns : List (List ℕ)) (files : List File) (scope : List (List ℕ)) (f : FieldDecl) (label : Label)
+pub form_alike : (T : Table) (ns : List (List ℕ)) (files : List File) (scope : List (List ℕ)) (f : FieldDecl) (label : Label)
     (word : List ℕ) → HasForm files scope f label word → label_text T ns label ≡ label_text no_table ns label
 form_alike T ns files scope f label word (single w text im pk is typ) =
     oneof_alike T ns f.oneof (single_label f.label f.packed im pk) (single_alike T ns f.label f.packed im pk)

@@ -12,6 +12,7 @@ mod field_table;
 mod laws;
 mod message_table;
 mod method_table;
+mod one_table;
 mod oneof_table;
 mod placed;
 mod plan;
