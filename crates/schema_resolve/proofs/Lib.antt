@@ -1,3 +1,14 @@
-mod Ascents
-mod OneForm
+mod CleanFiles
+mod EnumTables
+mod FieldTables
+mod FullNames
+mod KindWords
+mod Making
+mod MessageTables
+mod MethodTables
 mod OneTable
+mod OneofTables
+mod Orders
+mod TableParts
+mod TextLines
+mod TextParts

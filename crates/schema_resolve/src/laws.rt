@@ -11,8 +11,8 @@ ghost use Rattle.schema_resolve.specs.Tables.{IsTableOf};
 ghost use Rattle.schema_resolve.specs.Resolving.{Resolves};
 ghost use Rattle.schema_offences.specs.declared.reason.ResolveReason.{ResolveReason};
 
+use crate::one_table::one_table_text;
 use proto_schema::file_is_ordered;
-use schema_names::{one_name, one_scope};
 use table_text::one_text;
 
 /// A file that was read has one table at most: two tables that say what it says are equal.
@@ -21,8 +21,7 @@ pub fn one_table()
         → IsTableOf (alone F ∷ []) U → T ≡ U }
 {
     file_is_ordered();
-    one_scope();
-    one_name();
+    one_table_text();
     one_text();
 }
 

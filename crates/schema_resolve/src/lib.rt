@@ -6,8 +6,16 @@
 //! file's, and an offence is the file's first one.
 #![tactic(auto)]
 
+mod enum_table;
 mod fault;
+mod field_table;
 mod laws;
+mod message_table;
+mod method_table;
+mod one_table;
+mod oneof_table;
+mod placed;
+mod plan;
 mod resolve;
 mod table;
 
