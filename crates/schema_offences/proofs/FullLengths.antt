@@ -1,0 +1,185 @@
+-- How long full names are.
+use Rattle.std.proofs.Common.{◌≡◌, ℕ, ◌+◌, ◌<◌, ◌≤◌, inl, inr, List, [], ◌∷◌, ◌++◌, length, get_or, refl, sym, ap, ◌∙◌, arith, length-append}
+use Rattle.std.specs.Prelude.{◌==◌, Option, Some, None, slice_get, Contains}
+use Rattle.std.proofs.lemmas.Bool.{cases_lt}
+use Rattle.std.proofs.Math.ListN.{get_or-append}
+use Rattle.std.proofs.Math.Seq.{get_or-append_seam}
+use Rattle.std.proofs.lemmas.List.Elements.{All-contains}
+use Rattle.std.proofs.lemmas.List.Splits.{join_with_byte-slice_split, length-slice_split}
+use Rattle.std.proofs.lemmas.Option.{same_Some, slice_get_within, get_or_from_slice_get}
+use Rattle.mrpc_table.specs.Names.{parts_of}
+use Rattle.proto_file.specs.Order.{IsPlaceBelow, IsFormed}
+use Rattle.proto_file.specs.declared.file.Span.{Span}
+use Rattle.proto_file.specs.declared.file.Word.{Word}
+use Rattle.proto_file.specs.declared.file.MessageDecl.{MessageDecl}
+use Rattle.proto_file.specs.declared.file.EnumDecl.{EnumDecl}
+use Rattle.proto_file.specs.declared.file.File.{File}
+use Rattle.schema_names.specs.Scopes
+use Rattle.schema_names.specs.Scopes.{IsScope, text_of, package_parts, package_of}
+use Rattle.schema_names.specs.Numbers
+use Rattle.schema_names.specs.Numbers.{StandsAt, IsPlace, StandBehind}
+use Rattle.schema_names.specs.declared.named.Named.TheVariants.{Message, Enum}
+use Rattle.schema_offences.specs.Lengths.{at_most_64_bits, front_length, KeepsLengths, full_length}
+use Rattle.schema_offences.specs.declared.lines.Lengths.{Lengths}
+
+-- ---- numbers
+
+-- a sum of a length that is cut off is cut off alike
+pub cut_sum : (a b c : ℕ) → a ≡ at_most_64_bits b → at_most_64_bits (a + c) ≡ at_most_64_bits (b + c)
+cut_sum a b c e = omega arith
+
+-- ---- texts
+
+pub text_length : (xs : List (List ℕ)) (x : List ℕ) → length (text_of (xs ++ x ∷ [])) ≡ front_length xs + length x
+text_length [] x = omega arith
+text_length (y ∷ []) x = omega (arith, length-append y (46 ∷ x))
+text_length (y ∷ z ∷ zs) x =
+    omega (
+      arith,
+      text_length (z ∷ zs) x,
+      length-append y (46 ∷ text_of (z ∷ (zs ++ x ∷ []))),
+      length-append y (46 ∷ text_of (z ∷ zs)),
+    )
+
+pub last_front : (xs : List (List ℕ)) (x : List ℕ) → front_length (xs ++ x ∷ []) ≡ length (text_of (xs ++ x ∷ [])) + 1
+last_front [] x = refl
+last_front (y ∷ ys) x = refl
+
+some_front : (xs : List (List ℕ)) → 0 < length xs → front_length xs ≡ length (text_of xs) + 1
+some_front [] l = absurd (omega arith)
+some_front (x ∷ xs) l = refl
+
+pub package_length : (w : Word) → front_length (parts_of w.name) ≡ length w.name + 1
+package_length w =
+    let some : 0 < length (parts_of w.name) = omega (arith, length-slice_split (λ c. c == 46) w.name) in
+    some_front (parts_of w.name) some ∙ ap (λ (xs : List ℕ). length xs + 1) (join_with_byte-slice_split 46 w.name)
+
+-- ---- full names
+
+pub contains_at : {X : Type 0} (xs : List X) (i : ℕ) (x : X) → slice_get xs i ≡ Some x → Contains xs x
+contains_at xs i x at = (i, slice_get_within xs i x at, get_or_from_slice_get xs i x x at)
+
+pub full_is : (F : File) (messages enums : ℕ) (kept : Lengths) (parent : Option ℕ) (w : Word) {outer : List (List ℕ)}
+    → KeepsLengths F messages enums kept → IsPlaceBelow messages parent → IsScope F parent outer
+    → full_length kept parent w ≡ at_most_64_bits (length (text_of (outer ++ w.name ∷ [])))
+full_is F messages enums kept None w k below Scopes.of_file =
+    cut_sum kept.front (front_length (package_of F)) (length w.name) k.front
+    ∙ ap at_most_64_bits (sym (text_length (package_of F) w.name))
+full_is F messages enums kept (Some i) w k below (Scopes.of_message place m {outer = outer} at up) =
+    let full = outer ++ m.name.name ∷ [] in
+    let known : get_or kept.messages.items i 0 ≡ at_most_64_bits (length (text_of full)) =
+    k.of_message i full m.name.span below (Numbers.message i m at up) in
+    let front : front_length full ≡ length (text_of full) + 1 = last_front outer m.name.name in
+    let whole : length (text_of (full ++ w.name ∷ [])) ≡ front_length full + length w.name = text_length full w.name in
+    let sum : at_most_64_bits (get_or kept.messages.items i 0 + (1 + length w.name))
+    ≡ at_most_64_bits (length (text_of full) + (1 + length w.name)) =
+    cut_sum (get_or kept.messages.items i 0) (length (text_of full)) (1 + length w.name) known in
+    omega arith
+
+-- ---- places
+
+pub enum_below : (F : File) → IsFormed F → (i : ℕ) (x : EnumDecl) → slice_get F.enums i ≡ Some x
+    → IsPlaceBelow (length F.messages) x.parent
+enum_below F formed i x at =
+    All-contains (λ (e : EnumDecl). IsPlaceBelow (length F.messages) e.parent) F.enums x formed.enum_parents
+    (contains_at F.enums i x at)
+
+below_weaker : (m n : ℕ) (place : Option ℕ) → m ≤ n → IsPlaceBelow m place → IsPlaceBelow n place
+below_weaker m n None l b = tt
+below_weaker m n (Some i) l b = omega arith
+
+pub message_below : (F : File) → IsFormed F → (i : ℕ) (m : MessageDecl) → slice_get F.messages i ≡ Some m
+    → IsPlaceBelow (length F.messages) m.parent
+message_below F formed i m at =
+    let l : i < length F.messages = slice_get_within F.messages i m at in
+    below_weaker i (length F.messages) m.parent (omega arith) (formed.parents i m at)
+
+pub is_place : (F : File) (place : Option ℕ) → IsPlaceBelow (length F.messages) place → IsPlace F place
+is_place F None b = tt
+is_place F (Some i) b = b
+
+-- ---- lengths that are kept
+
+pub keeps_none : (F : File) (kept : Lengths) → kept.front ≡ at_most_64_bits (front_length (package_of F))
+    → kept.messages.items ≡ [] → kept.enums.items ≡ [] → KeepsLengths F 0 0 kept
+keeps_none F kept front ms es = record {
+  front = front;
+  all_messages = ap length ms;
+  all_enums = ap length es;
+  of_message = λ i full s l st. absurd (omega arith);
+  of_enum = λ i full s l st. absurd (omega arith);
+}
+
+at_end : (xs : List ℕ) (x j : ℕ) → j ≡ length xs → get_or (xs ++ x ∷ []) j 0 ≡ x
+at_end xs x j e = ap (λ (i : ℕ). get_or (xs ++ x ∷ []) i 0) e ∙ get_or-append_seam xs x [] 0
+
+module _ (F : File) (old new : Lengths) where
+  message_added : (i : ℕ) (m : MessageDecl) → IsFormed F → KeepsLengths F i 0 old → slice_get F.messages i ≡ Some m
+      → new.messages.items ≡ old.messages.items ++ full_length old m.parent m.name ∷ []
+      → (j : ℕ) (full : List (List ℕ)) (s : Span) → j ≡ i → StandsAt F (Message j) full s
+      → get_or new.messages.items j 0 ≡ at_most_64_bits (length (text_of full))
+  message_added i m formed k at ms j full s e (Numbers.message j2 n {outer = outer} found up) =
+      let here : slice_get F.messages i ≡ Some n = ap (λ (x : ℕ). slice_get F.messages x) (sym e) ∙ found in
+      let same : m ≡ n = same_Some m n (sym at ∙ here) in
+      let many : length old.messages.items ≡ i = k.all_messages in
+      ap (λ (xs : List ℕ). get_or xs j 0) ms
+      ∙ at_end old.messages.items (full_length old m.parent m.name) j (omega arith)
+      ∙ ap (λ (x : MessageDecl). full_length old x.parent x.name) same
+      ∙ full_is F i 0 old n.parent n.name k (formed.parents i n here) up
+
+  pub keeps_message : (i : ℕ) (m : MessageDecl) → IsFormed F → KeepsLengths F i 0 old
+      → slice_get F.messages i ≡ Some m → new.front ≡ old.front
+      → new.messages.items ≡ old.messages.items ++ full_length old m.parent m.name ∷ []
+      → new.enums.items ≡ old.enums.items → KeepsLengths F (i + 1) 0 new
+  keeps_message i m formed k at front ms es =
+      let many : length old.messages.items ≡ i = k.all_messages in
+      record {
+        front = front ∙ k.front;
+        all_messages = omega (
+          arith,
+          ap length ms,
+          length-append old.messages.items (full_length old m.parent m.name ∷ []),
+        );
+        all_enums = ap length es ∙ k.all_enums;
+        of_message = λ j full s l st. elim (cases_lt j i) [
+          | inl h ↦ ap (λ (xs : List ℕ). get_or xs j 0) ms
+              ∙ get_or-append old.messages.items (full_length old m.parent m.name ∷ []) 0 j (omega arith)
+              ∙ k.of_message j full s h st
+          | inr h ↦ message_added i m formed k at ms j full s (omega arith) st
+        ];
+        of_enum = λ j full s l st. absurd (omega arith);
+      }
+
+  enum_added : (i : ℕ) (x : EnumDecl) → IsFormed F → KeepsLengths F (length F.messages) i old
+      → slice_get F.enums i ≡ Some x
+      → new.enums.items ≡ old.enums.items ++ full_length old x.parent x.name ∷ []
+      → (j : ℕ) (full : List (List ℕ)) (s : Span) → j ≡ i → StandsAt F (Enum j) full s
+      → get_or new.enums.items j 0 ≡ at_most_64_bits (length (text_of full))
+  enum_added i x formed k at es j full s e (Numbers.enum j2 y {outer = outer} found up) =
+      let here : slice_get F.enums i ≡ Some y = ap (λ (z : ℕ). slice_get F.enums z) (sym e) ∙ found in
+      let same : x ≡ y = same_Some x y (sym at ∙ here) in
+      let many : length old.enums.items ≡ i = k.all_enums in
+      ap (λ (xs : List ℕ). get_or xs j 0) es
+      ∙ at_end old.enums.items (full_length old x.parent x.name) j (omega arith)
+      ∙ ap (λ (z : EnumDecl). full_length old z.parent z.name) same
+      ∙ full_is F (length F.messages) i old y.parent y.name k (enum_below F formed i y here) up
+
+  pub keeps_enum : (i : ℕ) (x : EnumDecl) → IsFormed F → KeepsLengths F (length F.messages) i old
+      → slice_get F.enums i ≡ Some x → new.front ≡ old.front
+      → new.messages.items ≡ old.messages.items
+      → new.enums.items ≡ old.enums.items ++ full_length old x.parent x.name ∷ []
+      → KeepsLengths F (length F.messages) (i + 1) new
+  keeps_enum i x formed k at front ms es =
+      let many : length old.enums.items ≡ i = k.all_enums in
+      record {
+        front = front ∙ k.front;
+        all_messages = ap length ms ∙ k.all_messages;
+        all_enums = omega (arith, ap length es, length-append old.enums.items (full_length old x.parent x.name ∷ []));
+        of_message = λ j full s l st. ap (λ (xs : List ℕ). get_or xs j 0) ms ∙ k.of_message j full s l st;
+        of_enum = λ j full s l st. elim (cases_lt j i) [
+          | inl h ↦ ap (λ (xs : List ℕ). get_or xs j 0) es
+              ∙ get_or-append old.enums.items (full_length old x.parent x.name ∷ []) 0 j (omega arith)
+              ∙ k.of_enum j full s h st
+          | inr h ↦ enum_added i x formed k at es j full s (omega arith) st
+        ];
+      }

@@ -1,0 +1,10 @@
+use Rattle.mrpc_table.specs.declared.limits.TheConstants.{MAX_FIELDS}
+use Rattle.schema_offences.specs.Members.{NameOffends}
+use Rattle.schema_offences.specs.Meeting.{Meets, OfFirst, OfElement}
+use Rattle.schema_offences.proofs.messages.note_names.Given as goal
+
+-- what stands against the elements up to here was met
+abbrev pub invariant-loop-i : goal.invariant-loop-i
+invariant-loop-i l =
+    Meets (OfFirst l.i (OfElement l.fn.message.fields (λ i f. NameOffends l.fn.message.names MAX_FIELDS i f.name)))
+    l.initial.first l.first

@@ -1,0 +1,40 @@
+use Rattle.std.proofs.Common.{[], ◌∷◌, sym, subst}
+use Rattle.proto_file.specs.declared.file.FieldType.{FieldType}
+use Rattle.proto_file.specs.declared.file.FieldType.TheVariants.{NestedMap}
+use Rattle.schema_offences.specs.declared.first.First.{First}
+use Rattle.schema_offences.specs.Members.{IsMisplaced, IsNoType, KeyOffends, TypeOffends}
+use Rattle.schema_offences.specs.Meeting.{Meets}
+use Rattle.schema_offences.specs.declared.reason.ResolveReason.TheVariants.{MapPlace}
+use Rattle.schema_offences.proofs.Meetings.{meets_then, meets_as, meets_when, meets_none}
+use Rattle.schema_offences.proofs.Typed.{KindOffends, type_to, type_from}
+use Rattle.schema_offences.proofs.messages.note_types.Goals as goal
+use Rattle.schema_offences.proofs.messages.note_types.Goals.{in-Named, in-Map, in-NestedMap}
+
+pub returns : goal.returns
+returns c scope h =
+    let f = c.args.field.now in
+    let files = c.args.scopes.now ∷ [] in
+    let kind : Meets (KindOffends files scope f.kind) c.args.first.now c.match-field.first = elim c.match-field.branch [
+      | in-Named w ↦
+          subst (λ (b : First). Meets (KindOffends files scope f.kind) c.args.first.now b) (sym w.first-is)
+          (subst (λ (k : FieldType). Meets (KindOffends files scope k) c.args.first.now w.note_type.new.first)
+          (sym w.in-Named.is)
+          (w.note_type.ensures scope h))
+      | in-Map w ↦
+          subst (λ (b : First). Meets (KindOffends files scope f.kind) c.args.first.now b) (sym w.first-is)
+          (subst (λ (k : FieldType). Meets (KindOffends files scope k) c.args.first.now w.note_type-in-Map.new.first)
+          (sym w.in-Map.is)
+          (meets_then (KeyOffends files scope w.in-Map.key) (IsNoType files scope w.in-Map.value) c.args.first.now
+          w.note_key.new.first
+          w.note_type-in-Map.new.first (w.note_key.ensures scope h) (w.note_type-in-Map.ensures scope h)))
+      | in-NestedMap w ↦
+          subst (λ (b : First). Meets (KindOffends files scope f.kind) c.args.first.now b) (sym w.first-is)
+          (subst (λ (k : FieldType). Meets (KindOffends files scope k) c.args.first.now c.args.first.now)
+          (sym w.in-NestedMap.is)
+          (meets_none (KindOffends files scope NestedMap) c.args.first.now (λ q s p. p)))
+    ] in
+    meets_as _ (TypeOffends files scope f) c.args.first.now c.note_if.new.self
+    (meets_then _ _ _ _ _ kind
+    (meets_when (IsMisplaced f) c.is_misplaced_map.result MapPlace f.name.span c.match-field.first c.note_if.new.self
+    c.is_misplaced_map.ensures.0 c.is_misplaced_map.ensures.1 c.note_if.ensures))
+    (type_to files scope f) (type_from files scope f)

@@ -1,0 +1,35 @@
+use Rattle.std.proofs.Common.{ℕ, List, Some, subst, ap, ◌∙◌}
+use Rattle.schema_names.specs.Scopes.{of_file, package_of}
+use Rattle.schema_names.specs.Finding.{IsAnswer}
+use Rattle.schema_offences.proofs.Formed.{start_apart, message_some, message_none, message_enum}
+use Rattle.schema_offences.proofs.services.message_of.Goals as goal
+
+pub returns-in-Some-Message-clause-some : goal.returns-in-Some-Message-clause-some
+returns-in-Some-Message-clause-some c =
+    let F = c.args.scopes.now in
+    let name = c.args.word.now.name in
+    let answer : IsAnswer F (package_of F) name c.find.result =
+    subst (λ (n : List ℕ). IsAnswer F (package_of F) n c.find.result) c.as_slice.ensures
+    (c.find.ensures (package_of F) of_file) in
+    message_some F name c.find.result c.in-Some-Message.place
+    (c.in-Some-Message.is ∙ ap (λ n. Some n) c.in-Some-Message.field-0-is) answer
+
+pub returns-in-Some-Enum-clause-none : goal.returns-in-Some-Enum-clause-none
+returns-in-Some-Enum-clause-none c order =
+    let F = c.args.scopes.now in
+    let name = c.args.word.now.name in
+    let answer : IsAnswer F (package_of F) name c.find.result =
+    subst (λ (n : List ℕ). IsAnswer F (package_of F) n c.find.result) c.as_slice.ensures
+    (c.find.ensures (package_of F) of_file) in
+    message_enum F name c.find.result c.in-Some-Enum.field-0-0
+    (c.in-Some-Enum.is ∙ ap (λ n. Some n) c.in-Some-Enum.field-0-is) answer
+    (λ a b f g m n. (c.one_name.ensures F (package_of F) name a b f g (start_apart F order) m n).0)
+
+pub returns-in-None-clause-none : goal.returns-in-None-clause-none
+returns-in-None-clause-none c order =
+    let F = c.args.scopes.now in
+    let name = c.args.word.now.name in
+    let answer : IsAnswer F (package_of F) name c.find.result =
+    subst (λ (n : List ℕ). IsAnswer F (package_of F) n c.find.result) c.as_slice.ensures
+    (c.find.ensures (package_of F) of_file) in
+    message_none F name c.find.result c.in-None.is answer

@@ -1,0 +1,20 @@
+use Rattle.std.proofs.Common.{ℕ, List, [], ◌∷◌}
+use Rattle.schema_names.specs.Scopes.{a_message, Names, package_of}
+use Rattle.schema_names.specs.Numbers.{IsFirstAt}
+use Rattle.schema_names.specs.declared.named.Named.TheVariants.{Message}
+use Rattle.schema_offences.specs.Members.{IsNoMessage}
+use Rattle.schema_offences.specs.declared.reason.ResolveReason.TheVariants.{UnknownName}
+use Rattle.schema_offences.proofs.Unless.{meets_unless, of_both}
+use Rattle.schema_offences.proofs.services.note_message.Goals as goal
+
+pub returns : goal.returns
+returns c =
+    let F = c.args.scopes.now in
+    let w = c.args.word.now in
+    let P = IsNoMessage (F ∷ []) (package_of F) w.name in
+    let Q = λ (i : ℕ). (full : List (List ℕ)) × Names (F ∷ []) (package_of F) w.name a_message full
+    × IsFirstAt F (Message i) full in
+    meets_unless P Q c.message_of.result c.is_none-unknown.result UnknownName w.span c.args.first.now c.note_if.new.self
+    c.is_none-unknown.ensures (of_both P Q c.message_of.result c.message_of.ensures.some (c.message_of.ensures.none
+    c.requires))
+    (λ i e q p. p q.0 q.1) c.note_if.ensures

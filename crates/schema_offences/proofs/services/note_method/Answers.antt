@@ -1,0 +1,24 @@
+use Rattle.std.proofs.Common.{[], ◌∷◌}
+use Rattle.mrpc_table.specs.declared.limits.TheConstants.{MAX_METHODS}
+use Rattle.schema_names.specs.Scopes.{package_of}
+use Rattle.schema_offences.specs.Members.{MethodOffends}
+use Rattle.schema_offences.specs.declared.reason.ResolveReason.TheVariants.{Limit}
+use Rattle.schema_offences.proofs.Meetings.{meets_then, meets_as, meets_least}
+use Rattle.schema_offences.proofs.Judging.{MethodParts, method_to, method_from}
+use Rattle.schema_offences.proofs.services.note_method.Goals as goal
+
+pub returns : goal.returns
+returns c =
+    let F = c.args.scopes.now in
+    let r = c.args.rpc.now in
+    meets_as (MethodParts (F ∷ []) (package_of F) c.args.i r) (MethodOffends (F ∷ []) (package_of F) c.args.i r)
+    c.args.first.now
+    c.note_message-2.new.first
+    (meets_then _ _ _ _ _
+    (meets_then _ _ _ _ _
+    (meets_then _ _ _ _ _
+    (meets_least MAX_METHODS c.args.i Limit r.name.span c.args.first.now c.note_if.new.self c.note_if.ensures)
+    c.note_long.ensures)
+    c.note_message.ensures)
+    c.note_message-2.ensures)
+    (method_to (F ∷ []) (package_of F) c.args.i r) (method_from (F ∷ []) (package_of F) c.args.i r)

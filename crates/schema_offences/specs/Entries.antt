@@ -1,0 +1,108 @@
+-- The names that a file declares, each with the number of its scope. The methods of a service stand in a scope of their
+-- own here, whose number is behind those of all messages.
+use Rattle.std.specs.Prelude.{◌≡◌, ◌⊎◌, ◌↔◌, ℕ, ◌+◌, ◌<◌, List, map, length, Option, Some, None, slice_get, Contains}
+use Rattle.std.specs.Ordering.{nat_cmp, ordering_then}
+use Rattle.std.specs.Cmp.Lexicographic.{slice_cmp}
+use Rattle.std.specs.BTreeMap.{get_by}
+use Rattle.proto_file.specs.declared.file.Span.{Span}
+use Rattle.proto_file.specs.declared.file.Word.{Word}
+use Rattle.proto_file.specs.declared.file.FieldDecl.{FieldDecl}
+use Rattle.proto_file.specs.declared.file.MessageDecl.{MessageDecl}
+use Rattle.proto_file.specs.declared.file.ValueDecl.{ValueDecl}
+use Rattle.proto_file.specs.declared.file.EnumDecl.{EnumDecl}
+use Rattle.proto_file.specs.declared.file.RpcDecl.{RpcDecl}
+use Rattle.proto_file.specs.declared.file.ServiceDecl.{ServiceDecl}
+use Rattle.proto_file.specs.declared.file.File.{File}
+use Rattle.schema_names.specs.Scopes.{IsScope}
+use Rattle.schema_names.specs.Numbers.{IsPlace, IsNumber}
+use Rattle.schema_offences.specs.Members.{Is}
+use Rattle.schema_offences.specs.declared.reason.ResolveReason.{ResolveReason}
+use Rattle.schema_offences.specs.declared.reason.ResolveReason.TheVariants.{DuplicateName}
+use Rattle.schema_offences.specs.declared.names.Declared.{Declared}
+use Rattle.schema_offences.specs.declared.names.Starts.{Starts}
+
+-- a name in the scope of a number, and where it stands
+pub record Entry : Type 0 where
+  pub scope : ℕ
+  pub name : List ℕ
+  pub span : Span
+
+abbrev pub entry : ℕ → Word → Entry
+entry scope w = record { scope = scope; name = w.name; span = w.span }
+
+abbrev pub entry_of : Declared → Entry
+entry_of d = record { scope = d.scope; name = d.name.now; span = d.span }
+
+abbrev pub entries_of : List Declared → List Entry
+entries_of names = map entry_of names
+
+-- ---- what a file declares
+
+-- what stands in the file or in a message has a scope of this number
+pub record HasNumber (F : File) (place : Option ℕ) (k : ℕ) : Type 0 where
+  pub full : List (List ℕ)
+  pub is_scope : IsScope F place full
+  pub number : IsNumber F full k
+
+abbrev pub HasNumbers : File → Type 0
+HasNumbers F = (place : Option ℕ) → IsPlace F place → (k : ℕ) × HasNumber F place k
+
+-- a message, and what stands in it
+pub data OfMessage (F : File) (i : ℕ) (m : MessageDecl) : Entry → Type 0 where
+  message : (k : ℕ) → HasNumber F m.parent k → OfMessage F i m (entry k m.name)
+  field : (k : ℕ) (f : FieldDecl) → HasNumber F (Some i) k → Contains m.fields f → OfMessage F i m (entry k f.name)
+  oneof : (k : ℕ) (o : Word) → HasNumber F (Some i) k → Contains m.oneofs o → OfMessage F i m (entry k o)
+
+-- an enum, and its values beside it
+pub data OfEnum (F : File) (i : ℕ) (e : EnumDecl) : Entry → Type 0 where
+  enum : (k : ℕ) → HasNumber F e.parent k → OfEnum F i e (entry k e.name)
+  value : (k : ℕ) (v : ValueDecl) → HasNumber F e.parent k → Contains e.values v → OfEnum F i e (entry k v.name)
+
+-- a service, and its methods
+pub data OfService (F : File) (i : ℕ) (s : ServiceDecl) : Entry → Type 0 where
+  service : (k : ℕ) → HasNumber F None k → OfService F i s (entry k s.name)
+  rpc : (r : RpcDecl) → Contains s.rpcs r → OfService F i s (entry (1 + length F.messages + i) r.name)
+
+-- an entry of one of the first n things of a list
+pub record OfFirst {X : Type 0} (n : ℕ) (xs : List X) (of : ℕ → X → Entry → Type 0) (e : Entry) : Type 0 where
+  pub place : ℕ
+  pub thing : X
+  pub below : place < n
+  pub at : slice_get xs place ≡ Some thing
+  pub is : of place thing e
+
+abbrev pub OfSome : {X : Type 0} → List X → (ℕ → X → Entry → Type 0) → Entry → Type 0
+OfSome xs of e = OfFirst (length xs) xs of e
+
+-- the new entries are the old ones and some more
+pub record Adds (more : Entry → Type 0) (old new : List Entry) : Type 0 where
+  pub one : (e : Entry) → Contains new e → Contains old e ⊎ more e
+  pub each : (e : Entry) → Contains old e ⊎ more e → Contains new e
+
+-- ---- which of them stand twice
+
+-- an entry of this name starts before a place
+pub record StartsBefore (es : List Entry) (scope : ℕ) (name : List ℕ) (place : ℕ) : Type 0 where
+  pub earlier : Entry
+  pub among : Contains es earlier
+  pub in_scope : earlier.scope ≡ scope
+  pub named : earlier.name ≡ name
+  pub before : earlier.span.start < place
+
+abbrev pub start_in : Starts → ℕ → List ℕ → Option ℕ
+start_in s scope name =
+    get_by (λ key. ordering_then (nat_cmp scope key.0) (slice_cmp nat_cmp name key.1.now)) s.by
+
+-- where a name starts first is before a place
+pub record IsBefore (known : Option ℕ) (place : ℕ) : Type 0 where
+  pub first : ℕ
+  pub is : known ≡ Some first
+  pub before : first < place
+
+abbrev pub AreStarts : List Entry → Starts → Type 0
+AreStarts es s = (scope : ℕ) (name : List ℕ) (place : ℕ)
+    → IsBefore (start_in s scope name) place ↔ StartsBefore es scope name place
+
+-- a duplicate name where an entry of its name starts before it
+abbrev pub IsLater : List Entry → ℕ → Entry → ResolveReason → Span → Type 0
+IsLater es i e q s = StartsBefore es e.scope e.name e.span.start × Is DuplicateName e.span q s

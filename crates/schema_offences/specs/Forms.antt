@@ -1,0 +1,51 @@
+-- Types and forms of fields as the resolver keeps them: a named type is one of the file's, by its place.
+use Rattle.std.specs.Prelude.{◌≡◌, ℕ, Bool, true, false, List, [], ◌∷◌, ◌++◌, codes}
+use Rattle.mrpc_table.specs.Words.{is_numeric, is_key}
+use Rattle.mrpc_table.specs.Text.{kind_text}
+use Rattle.proto_file.specs.declared.file.Span.{Span}
+use Rattle.proto_file.specs.declared.file.FieldDecl.{FieldDecl}
+use Rattle.proto_file.specs.declared.file.File.{File}
+use Rattle.schema_names.specs.Scopes.{text_of, Names}
+use Rattle.schema_names.specs.Numbers.{StandsAt, sort_of, IsFirstAt}
+use Rattle.schema_names.specs.declared.named.Named.{Named}
+use Rattle.schema_names.specs.declared.named.Named.TheVariants.{Message, Enum}
+use Rattle.schema_offences.specs.Types.{no_table, IsScalar, IsNoScalar, label_in, HasForm}
+use Rattle.schema_offences.specs.declared.types.TypeOf.{TypeOf}
+use Rattle.schema_offences.specs.declared.types.TypeOf.TheVariants.{Scalar, Named as OfName}
+use Rattle.schema_offences.specs.declared.types.Form.{Form}
+
+-- a name means this type in a scope
+abbrev pub IsType : File → List (List ℕ) → List ℕ → TypeOf → Type 0
+IsType F scope name (Scalar k) = IsScalar name k
+IsType F scope name (OfName n) =
+    IsNoScalar name × ((full : List (List ℕ)) × Names (F ∷ []) scope name (sort_of n) full × IsFirstAt F n full)
+
+abbrev pub is_message : TypeOf → Bool
+is_message (OfName (Message i)) = true
+is_message _ = false
+
+abbrev pub is_packable : TypeOf → Bool
+is_packable (Scalar k) = is_numeric k
+is_packable (OfName (Message i)) = false
+is_packable (OfName (Enum i)) = true
+
+-- a map's key may have it
+abbrev pub may_be_key : TypeOf → Bool
+may_be_key (Scalar k) = is_key k
+may_be_key (OfName n) = false
+
+abbrev pub sort_word : Named → List ℕ
+sort_word (Message i) = codes "message:"
+sort_word (Enum i) = codes "enum:"
+
+-- the word for a type in a table's text
+abbrev pub IsWordOf : File → TypeOf → List ℕ → Type 0
+IsWordOf F (Scalar k) word = word ≡ kind_text no_table k
+IsWordOf F (OfName n) word =
+    (full : List (List ℕ)) × (span : Span) × StandsAt F n full span × (word ≡ sort_word n ++ text_of full)
+
+-- a field has this form
+pub record IsForm (F : File) (scope : List (List ℕ)) (f : FieldDecl) (form : Form) : Type 0 where
+  pub word : List ℕ
+  pub of_type : IsWordOf F form.type_of word
+  pub has : HasForm (F ∷ []) scope f (label_in form.oneof form.label) word

@@ -1,0 +1,12 @@
+pub mod Sources
+pub mod Types
+pub mod Those
+pub mod Members
+pub mod Lines
+pub mod Offences
+pub mod Ranges
+pub mod Meeting
+pub mod Forms
+pub mod ReservedNames
+pub mod Lengths
+pub mod Entries

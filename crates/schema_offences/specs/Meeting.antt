@@ -1,0 +1,104 @@
+-- What the search for the first offence keeps of the offences that it meets.
+use Rattle.std.specs.Prelude.{◌≡◌, ◌⊎◌, ℕ, ◌<◌, ◌==◌, nat_lt, Bool, true, false, ◌&&◌, ◌||◌, if◌then◌else◌, List, [], ◌∷◌, Option, Some, None, slice_get}
+use Rattle.std.specs.Option.{is_some}
+use Rattle.std.specs.Ordering.{nat_cmp}
+use Rattle.std.specs.BTreeMap.{BTreeMap, get_by}
+use Rattle.proto_file.specs.declared.file.Span.{Span}
+use Rattle.mrpc_table.specs.Names.{is_short_full}
+use Rattle.proto_file.specs.declared.file.Word.{Word}
+use Rattle.proto_file.specs.declared.file.Import.{Import}
+use Rattle.proto_file.specs.declared.file.MessageDecl.{MessageDecl}
+use Rattle.proto_file.specs.declared.file.RpcDecl.{RpcDecl}
+use Rattle.proto_file.specs.declared.file.ServiceDecl.{ServiceDecl}
+use Rattle.proto_file.specs.declared.file.File.{File}
+use Rattle.schema_names.specs.Scopes.{IsScope, package_of}
+use Rattle.schema_offences.specs.Members.{Is, IsLong, IsNoMessage, MessageOffends, MethodOffends}
+use Rattle.schema_offences.specs.Sources.{alone}
+use Rattle.schema_offences.specs.Lines.{PassesAt}
+use Rattle.schema_offences.specs.Offences.{IsTwice, IsLongInFull, IsOffence, HasOffence, ComesFirst, rank_of}
+use Rattle.schema_offences.specs.declared.reason.ResolveReason.{ResolveReason}
+use Rattle.schema_offences.specs.declared.reason.ResolveReason.TheVariants.{UnknownName, DuplicateName, Limit, Import as HasImport}
+use Rattle.schema_offences.specs.declared.first.Offence.{Offence}
+use Rattle.schema_offences.specs.declared.first.First.{First}
+
+-- one where a test holds
+abbrev pub IsWhere : Bool → ResolveReason → Span → ResolveReason → Span → Type 0
+IsWhere holds reason span q s = (holds ≡ true) × Is reason span q s
+
+-- it comes first, and isn't at the same place for the same reason
+abbrev pub comes_before : Offence → Offence → Bool
+comes_before a b =
+    nat_lt a.span.start b.span.start || (a.span.start == b.span.start && nat_lt (rank_of a.reason) (rank_of b.reason))
+
+abbrev pub first_of : Option Offence → Offence → Offence
+first_of None other = other
+first_of (Some found) other = if comes_before other found then other else found
+
+-- what is kept comes first, also where the two are one
+abbrev pub IsKeptBefore : Option Offence → ResolveReason → Span → Type 0
+IsKeptBefore None q s = ⊥
+IsKeptBefore (Some o) q s = ComesFirst o.reason o.span q s
+
+-- Some offences were met: of these and of what was kept before, the first one is kept now.
+pub record Meets (offends : ResolveReason → Span → Type 0) (old new : First) : Type 0 where
+  pub one : (o : Offence) → new.found ≡ Some o → (old.found ≡ Some o) ⊎ offends o.reason o.span
+  pub first : (q : ResolveReason) (s : Span) → offends q s → IsKeptBefore new.found q s
+  pub before : (o : Offence) → old.found ≡ Some o → IsKeptBefore new.found o.reason o.span
+
+-- the offences of the first n of some things
+pub record OfFirst (n : ℕ) (offends : ℕ → ResolveReason → Span → Type 0) (q : ResolveReason) (s : Span) : Type 0 where
+  pub place : ℕ
+  pub below : place < n
+  pub is : offends place q s
+
+-- those of some one of them
+pub record AtSome (offends : ℕ → ResolveReason → Span → Type 0) (q : ResolveReason) (s : Span) : Type 0 where
+  pub place : ℕ
+  pub is : offends place q s
+
+-- those against the element at a place of a list
+pub record OfElement {X : Type 0} (xs : List X) (offends : ℕ → X → ResolveReason → Span → Type 0) (i : ℕ)
+    (q : ResolveReason) (s : Span) : Type 0 where
+  pub element : X
+  pub at : slice_get xs i ≡ Some element
+  pub is : offends i element q s
+
+-- those against a message of a file alone, and against an enum, a method
+abbrev pub MessageIn : File → ℕ → MessageDecl → ResolveReason → Span → Type 0
+MessageIn F i m q s =
+    (scope : List (List ℕ)) × IsScope F (Some i) scope × MessageOffends (F ∷ []) scope i m q s
+
+abbrev pub MethodIn : File → ℕ → ServiceDecl × RpcDecl → ResolveReason → Span → Type 0
+MethodIn F i p q s = MethodOffends (F ∷ []) (package_of F) i p.1 q s
+
+abbrev pub IsLongService : ℕ → ServiceDecl → ResolveReason → Span → Type 0
+IsLongService i x = IsLong x.name
+
+-- no message has the name of an rpc's type
+abbrev pub IsBadMessage : File → Word → ResolveReason → Span → Type 0
+IsBadMessage F w q s = IsNoMessage (F ∷ []) (package_of F) w.name × Is UnknownName w.span q s
+
+-- the first import, and a long package
+pub data HeadOffends (F : File) (q : ResolveReason) (s : Span) : Type 0 where
+  an_import : (x : Import) → slice_get F.imports 0 ≡ Some x → Is HasImport x.span q s → HeadOffends F q s
+  a_long_package : (w : Word) → F.package ≡ Some w → is_short_full w.name ≡ false → Is Limit w.span q s
+      → HeadOffends F q s
+
+-- a name that stands twice, one that is long in full, one whose line passes the limit of a table's text
+abbrev pub TwiceIn : File → ResolveReason → Span → Type 0
+TwiceIn F q s = (span : Span) × IsTwice (alone F) span × Is DuplicateName span q s
+
+abbrev pub LongIn : File → ResolveReason → Span → Type 0
+LongIn F q s = (span : Span) × IsLongInFull F span × Is Limit span q s
+
+abbrev pub PassesIn : File → ResolveReason → Span → Type 0
+PassesIn F q s = (span : Span) × PassesAt (alone F) span × Is Limit span q s
+
+-- what is found is the first offence of a file, or there is none
+abbrev pub FirstIs : File → Option Offence → Type 0
+FirstIs F None = (q : ResolveReason) (s : Span) → IsOffence F q s → ⊥
+FirstIs F (Some o) = HasOffence F o.reason o.span
+
+-- the places of numbers that were met
+abbrev pub has_met : BTreeMap ℕ (Unit {0}) → ℕ → Bool
+has_met met place = is_some (get_by (nat_cmp place) met)

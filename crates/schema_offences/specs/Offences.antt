@@ -1,0 +1,86 @@
+-- What stands against files, and where (Protocol Buffers, proto3 language guide; the limits, and which name or number
+-- each offence stands at, are this project's own). Of several the first one counts.
+use Rattle.std.specs.Prelude.{◌≡◌, ◌⊎◌, ℕ, ◌+◌, ◌<◌, ◌≤◌, true, false, List, [], ◌∷◌, ◌++◌, length, Some, slice_get, Contains}
+use Rattle.std.specs.List.{flat_map}
+use Rattle.mrpc_table.specs.Names.{is_short_full}
+use Rattle.mrpc_table.specs.declared.limits.TheConstants.{MAX_FULL_NAME}
+use Rattle.proto_file.specs.declared.file.Word.{Word}
+use Rattle.proto_file.specs.declared.file.Span.{Span}
+use Rattle.proto_file.specs.declared.file.Import.{Import}
+use Rattle.proto_file.specs.declared.file.MessageDecl.{MessageDecl}
+use Rattle.proto_file.specs.declared.file.EnumDecl.{EnumDecl}
+use Rattle.proto_file.specs.declared.file.RpcDecl.{RpcDecl}
+use Rattle.proto_file.specs.declared.file.ServiceDecl.{ServiceDecl}
+use Rattle.proto_file.specs.declared.file.File.{File}
+use Rattle.schema_names.specs.Scopes.{Sort, is_type, text_of, package_of, IsScope, Declares}
+use Rattle.schema_offences.specs.Sources.{Source, alone, rpcs_of}
+use Rattle.schema_offences.specs.Members.{Is, IsLong, MessageOffends, EnumOffends, MethodOffends}
+use Rattle.schema_offences.specs.Lines.{PassesAt}
+use Rattle.schema_offences.specs.declared.reason.ResolveReason.{ResolveReason}
+use Rattle.schema_offences.specs.declared.reason.ResolveReason.TheVariants.{UnknownName, NumberRange, DuplicateNumber, DuplicateName, Reserved, FirstEnum, MapKey, MapPlace, Limit, Import as HasImport}
+
+-- ---- full names
+
+-- what a file declares twice, another file before it has too, or is a type here and a package, or a front of one
+pub data IsTwice (S : Source) (span : Span) : Type 0 where
+  -- two things of one scope, at the later one
+  in_file : (a b : Sort) (full : List (List ℕ)) (earlier : Span) → Declares S.file a full earlier
+      → Declares S.file b full span → earlier.start < span.start → IsTwice S span
+  in_another : (F : File) (a b : Sort) (full : List (List ℕ)) (other : Span) → Contains S.before F
+      → Declares F a full other → Declares S.file b full span → IsTwice S span
+  a_package : (F : File) (sort : Sort) (full rest : List (List ℕ)) → Contains S.all F → package_of F ≡ full ++ rest
+      → Declares S.file sort full span → is_type sort ≡ true → IsTwice S span
+
+-- a message, enum or service whose full name has more than 255 bytes
+pub data IsLongInFull (F : File) (span : Span) : Type 0 where
+  a_type : (sort : Sort) (full : List (List ℕ)) → Declares F sort full span → is_type sort ≡ true
+      → MAX_FULL_NAME < length (text_of full) → IsLongInFull F span
+  a_service : (s : ServiceDecl) → Contains F.services s
+      → MAX_FULL_NAME < length (text_of (package_of F ++ s.name.name ∷ [])) → span ≡ s.name.span → IsLongInFull F span
+
+-- ---- offences
+
+pub data Offends (S : Source) (q : ResolveReason) (s : Span) : Type 0 where
+  of_message : (i : ℕ) (m : MessageDecl) {scope : List (List ℕ)} → slice_get S.file.messages i ≡ Some m
+      → IsScope S.file (Some i) scope
+      → MessageOffends S.seen scope (length (flat_map (λ (f : File). f.messages) S.before) + i) m q s
+      → Offends S q s
+  of_enum : (i : ℕ) (e : EnumDecl) → slice_get S.file.enums i ≡ Some e
+      → EnumOffends (length (flat_map (λ (f : File). f.enums) S.before) + i) e q s → Offends S q s
+  of_service : (i : ℕ) (x : ServiceDecl) → slice_get S.file.services i ≡ Some x → IsLong x.name q s → Offends S q s
+  of_method : (i : ℕ) (x : ServiceDecl) (r : RpcDecl) → slice_get (rpcs_of S.file) i ≡ Some (x, r)
+      → MethodOffends S.seen (package_of S.file) (length (flat_map rpcs_of S.before) + i) r q s → Offends S q s
+  -- a package with a part of more than 64 bytes, or of more than 255
+  of_package : (w : Word) → S.file.package ≡ Some w → is_short_full w.name ≡ false → Is Limit w.span q s
+      → Offends S q s
+  twice : (span : Span) → IsTwice S span → Is DuplicateName span q s → Offends S q s
+  long_in_full : (span : Span) → IsLongInFull S.file span → Is Limit span q s → Offends S q s
+  long_text : (span : Span) → PassesAt S span → Is Limit span q s → Offends S q s
+
+-- ---- a file alone
+
+-- a file alone has no other to import
+pub data IsOffence (F : File) (q : ResolveReason) (s : Span) : Type 0 where
+  offends : Offends (alone F) q s → IsOffence F q s
+  has_import : (x : Import) → slice_get F.imports 0 ≡ Some x → Is HasImport x.span q s → IsOffence F q s
+
+-- the order of the reasons at one place
+abbrev pub rank_of : ResolveReason → ℕ
+rank_of UnknownName = 1
+rank_of NumberRange = 2
+rank_of DuplicateNumber = 3
+rank_of DuplicateName = 4
+rank_of Reserved = 5
+rank_of FirstEnum = 6
+rank_of MapKey = 7
+rank_of MapPlace = 8
+rank_of Limit = 9
+rank_of HasImport = 10
+
+abbrev pub ComesFirst : ResolveReason → Span → ResolveReason → Span → Type 0
+ComesFirst q s r t = (s.start < t.start) ⊎ ((s.start ≡ t.start) × (rank_of q ≤ rank_of r))
+
+-- a file has its first offence here
+pub record HasOffence (F : File) (q : ResolveReason) (span : Span) : Type 0 where
+  pub offence : IsOffence F q span
+  pub first : (r : ResolveReason) (t : Span) → IsOffence F r t → ComesFirst q span r t

@@ -1,0 +1,46 @@
+-- Numbers by their places among those from -2^64 on.
+use Rattle.std.specs.Prelude.{◌≡◌, ℕ, ℤ, pos, ◌+ℤ◌, ◌^◌, ◌≤◌, max, List, [], ◌∷◌, Option, Some, None, Contains}
+use Rattle.std.specs.List.Sorted.{IsNonDecreasingBy}
+use Rattle.proto_file.specs.declared.file.Number.{Number}
+use Rattle.proto_file.specs.declared.file.Range.{Range}
+use Rattle.schema_offences.specs.Types.{value_of}
+use Rattle.schema_offences.specs.Those.{AreThose}
+use Rattle.schema_offences.specs.Members.{IsReserved}
+use Rattle.schema_offences.specs.declared.numbers.Reserved.{Reserved}
+
+abbrev pub IsPlaceOf : ℕ → ℤ → Type 0
+IsPlaceOf place n = pos place ≡ n +ℤ pos (2 ^ 64)
+
+-- `max` is past every number
+abbrev pub IsLastPlace : Option Number → ℕ → Type 0
+IsLastPlace None place = place ≡ 2 ^ 65
+IsLastPlace (Some n) place = IsPlaceOf place (value_of n)
+
+-- the places of the first and the last number of a range
+pub record IsEndsOf (r : Range) (ends : ℕ × ℕ) : Type 0 where
+  pub first : IsPlaceOf ends.0 (value_of r.first)
+  pub last : IsLastPlace r.last ends.1
+
+pub record IsInSome (ends : List (ℕ × ℕ)) (place : ℕ) : Type 0 where
+  pub one : ℕ × ℕ
+  pub among : Contains ends one
+  pub at_least : one.0 ≤ place
+  pub at_most : place ≤ one.1
+
+-- each with the largest last place up to there, and not below the least one
+abbrev pub reach_from : ℕ → List (ℕ × ℕ) → List (ℕ × ℕ)
+reach_from least [] = []
+reach_from least (e ∷ es) = (e.0, max least e.1) ∷ reach_from (max least e.1) es
+
+-- by ascending first place
+pub record AreSortedEnds (ranges : List Range) (ends : List (ℕ × ℕ)) : Type 0 where
+  pub those : AreThose IsEndsOf ranges ends
+  pub ascend : IsNonDecreasingBy {X = ℕ × ℕ} (λ e. e.0) ends
+
+-- by ascending first place, each with the largest last one up to there: the same numbers are in one of them
+pub record KeepsRanges (ranges : List Range) (kept : Reserved) : Type 0 where
+  pub firsts : IsNonDecreasingBy {X = ℕ × ℕ} (λ e. e.0) kept.ranges.items
+  pub lasts : IsNonDecreasingBy {X = ℕ × ℕ} (λ e. e.1) kept.ranges.items
+  pub all_in : (place : ℕ) (n : ℤ) → IsPlaceOf place n → place ≤ 2 ^ 65 → IsReserved ranges n
+      → IsInSome kept.ranges.items place
+  pub none_else : (place : ℕ) (n : ℤ) → IsPlaceOf place n → IsInSome kept.ranges.items place → IsReserved ranges n

@@ -1,0 +1,99 @@
+-- Numbers, types and labels of fields, as a table has them (Protocol Buffers, proto3 language guide: "Scalar Value
+-- Types", "Specifying Field Labels", "Maps"; the names of labels and kinds are this project's own).
+use Rattle.std.specs.Prelude.{◌≡◌, ℕ, ℤ, pos, neg_ℤ, ◌^◌, ◌&&◌, Bool, true, false, List, [], ◌∷◌, ◌++◌, codes, Option, Some, None, option_map, IsTrue, if◌then◌else◌}
+use Rattle.std.specs.List.{find}
+use Rattle.std.specs.Str.{bytes_eq}
+use Rattle.mrpc_table.specs.declared.words.Decimal.{Decimal}
+use Rattle.mrpc_table.specs.declared.words.Decimal.TheVariants.{Small, Large}
+use Rattle.mrpc_table.specs.declared.table.Kind.{Kind}
+use Rattle.mrpc_table.specs.declared.table.Kind.TheVariants.{Message as OfMessage, Choice}
+use Rattle.mrpc_table.specs.declared.table.Kind.TheVariants as kinds
+use Rattle.mrpc_table.specs.declared.table.Label.{Label}
+use Rattle.mrpc_table.specs.declared.table.Label.TheVariants as labels
+use Rattle.mrpc_table.specs.declared.table.Table.{Table}
+use Rattle.mrpc_table.specs.Words.{is_numeric, is_key}
+use Rattle.mrpc_table.specs.Text.{kind_text}
+use Rattle.proto_file.specs.declared.file.Word.{Word}
+use Rattle.proto_file.specs.declared.file.Number.{Number}
+use Rattle.proto_file.specs.declared.file.FieldLabel.{FieldLabel}
+use Rattle.proto_file.specs.declared.file.FieldLabel.TheVariants.{Plain, Optional, Repeated}
+use Rattle.proto_file.specs.declared.file.FieldType.TheVariants.{Named, Map}
+use Rattle.proto_file.specs.declared.file.FieldDecl.{FieldDecl}
+use Rattle.proto_file.specs.declared.file.File.{File}
+use Rattle.schema_names.specs.Scopes.{a_message, an_enum, text_of, Names}
+
+-- ---- numbers
+
+-- a number of more than 64 bits stands for the least of these: all of them lie outside of every range
+abbrev pub magnitude : Decimal → ℕ
+magnitude (Small n) = n
+magnitude Large = 2 ^ 64
+
+abbrev pub value_of : Number → ℤ
+value_of n = if n.negative then neg_ℤ (pos (magnitude n.value)) else pos (magnitude n.value)
+
+-- ---- types
+
+abbrev pub is_scalar : Kind → Bool
+is_scalar (OfMessage i) = false
+is_scalar (Choice i) = false
+is_scalar k = true
+
+abbrev pub no_table : Table
+no_table = record { messages = []; enums = []; methods = [] }
+
+-- the name of a scalar
+pub record IsScalar (name : List ℕ) (k : Kind) : Type 0 where
+  pub is_one : is_scalar k ≡ true
+  pub named : kind_text no_table k ≡ name
+
+abbrev pub IsNoScalar : List ℕ → Type 0
+IsNoScalar name = (k : Kind) → IsScalar name k → ⊥
+
+-- the same as a table and its look-up
+abbrev pub scalar_names : List (List ℕ × Kind)
+scalar_names =
+    (codes "int32", kinds.Int32) ∷ (codes "int64", kinds.Int64) ∷ (codes "uint32", kinds.Uint32)
+    ∷ (codes "uint64", kinds.Uint64) ∷ (codes "sint32", kinds.Sint32) ∷ (codes "sint64", kinds.Sint64)
+    ∷ (codes "bool", kinds.Bool) ∷ (codes "fixed32", kinds.Fixed32) ∷ (codes "fixed64", kinds.Fixed64)
+    ∷ (codes "sfixed32", kinds.Sfixed32) ∷ (codes "sfixed64", kinds.Sfixed64) ∷ (codes "float", kinds.Float)
+    ∷ (codes "double", kinds.Double) ∷ (codes "string", kinds.Text) ∷ (codes "bytes", kinds.Octets) ∷ []
+
+abbrev pub scalar_of : List ℕ → Option Kind
+scalar_of name = option_map (λ e. e.1) (find (λ e. bytes_eq name e.0) scalar_names)
+
+-- The word for a type in a table's text, whether it is a message, and whether many of it can stand in one record. The
+-- name of a scalar is that scalar, whatever is declared by that name.
+pub data HasType (files : List File) (scope : List (List ℕ)) (w : Word) : List ℕ → Bool → Bool → Type 0 where
+  scalar : (k : Kind) → IsScalar w.name k → HasType files scope w w.name false (is_numeric k)
+  message : (full : List (List ℕ)) → IsNoScalar w.name → Names files scope w.name a_message full
+      → HasType files scope w (codes "message:" ++ text_of full) true false
+  enum : (full : List (List ℕ)) → IsNoScalar w.name → Names files scope w.name an_enum full
+      → HasType files scope w (codes "enum:" ++ text_of full) false true
+
+-- ---- labels
+
+abbrev pub isnt_false : Option Bool → Bool
+isnt_false (Some false) = false
+isnt_false _ = true
+
+-- a message has presence without a label; what can be packed is, unless an option says otherwise
+abbrev pub single_label : FieldLabel → Option Bool → Bool → Bool → Label
+single_label Plain packed is_message packable = labels.Plain
+single_label Optional packed is_message packable = if is_message then labels.Plain else labels.Optional
+single_label Repeated packed is_message packable =
+    if packable && isnt_false packed then labels.Packed else labels.Repeated
+
+abbrev pub label_in : Option ℕ → Label → Label
+label_in None label = label
+label_in (Some i) label = labels.Member i
+
+-- the label and the word for the type of a field; a oneof is that at its place in the text's message
+pub data HasForm (files : List File) (scope : List (List ℕ)) (f : FieldDecl) : Label → List ℕ → Type 0 where
+  single : (w : Word) (word : List ℕ) (is_message packable : Bool) → f.kind ≡ Named w
+      → HasType files scope w word is_message packable
+      → HasForm files scope f (label_in f.oneof (single_label f.label f.packed is_message packable)) word
+  a_map : (key value : Word) (k : Kind) (word : List ℕ) (is_message packable : Bool) → f.kind ≡ Map key value
+      → f.label ≡ Plain → f.oneof ≡ None → IsScalar key.name k → IsTrue (is_key k)
+      → HasType files scope value word is_message packable
+      → HasForm files scope f (labels.Map k) word

@@ -1,0 +1,87 @@
+//! The first offence among those that were met.
+
+ghost use Rattle.std.specs.Prelude.{◌≡◌, if◌then◌else◌, Some, None};
+ghost use Rattle.schema_offences.specs.Offences.{rank_of};
+ghost use Rattle.schema_offences.specs.Meeting.{comes_before, first_of};
+
+use crate::reason::ResolveReason;
+use proto_file::Span;
+
+/// What stands against a name or a number, and where that stands.
+#[derive(Clone, Copy)]
+pub struct Offence {
+    pub reason: ResolveReason,
+    pub span: Span,
+}
+
+/// The first of some offences.
+#[derive(Drop)]
+pub struct First {
+    pub found: Option<Offence>,
+}
+
+// The order of the reasons at one place.
+fn rank(reason: ResolveReason) -> u8
+    ensures { result ≡ rank_of reason }
+{
+    match reason {
+        ResolveReason::UnknownName => 1,
+        ResolveReason::NumberRange => 2,
+        ResolveReason::DuplicateNumber => 3,
+        ResolveReason::DuplicateName => 4,
+        ResolveReason::Reserved => 5,
+        ResolveReason::FirstEnum => 6,
+        ResolveReason::MapKey => 7,
+        ResolveReason::MapPlace => 8,
+        ResolveReason::Limit => 9,
+        ResolveReason::Import => 10,
+    }
+}
+
+fn comes_before(a: Offence, b: Offence) -> bool
+    ensures { result ≡ comes_before a b }
+{
+    a.span.start < b.span.start || (a.span.start == b.span.start && rank(a.reason) < rank(b.reason))
+}
+
+// Of what was found and another one the first.
+fn first_of(found: Option<Offence>, other: Offence) -> Offence
+    ensures { result ≡ first_of found other }
+{
+    match found {
+        Some(first) => {
+            if comes_before(other, first) {
+                other
+            } else {
+                first
+            }
+        }
+        None => other,
+    }
+}
+
+impl First {
+    /// None was met.
+    pub fn new() -> First
+        ensures { result.found ≡ None }
+    {
+        First { found: None }
+    }
+
+    /// Meets an offence.
+    pub fn note(&mut self, reason: ResolveReason, span: Span)
+        ensures { self.new.found ≡ Some (first_of self.old.found (record { reason = reason; span = span })) }
+    {
+        self.found = Some(first_of(self.found, Offence { reason, span }));
+    }
+
+    /// Meets an offence where something holds.
+    pub fn note_if(&mut self, holds: bool, reason: ResolveReason, span: Span)
+        ensures { self.new.found ≡ (if holds
+            then Some (first_of self.old.found (record { reason = reason; span = span })) else self.old.found) }
+    {
+        if holds {
+            self.note(reason, span);
+        }
+    }
+}

@@ -1,0 +1,61 @@
+//! Names that are reserved, long, or one too many.
+
+ghost use Rattle.std.specs.Prelude.{◌≡◌, ◌↔◌, ℕ, List, IsTrue, IfOk};
+ghost use Rattle.proto_file.specs.declared.file.Word.{Word};
+ghost use Rattle.schema_offences.specs.Members.{IsReservedName, IsLong, NameOffends};
+ghost use Rattle.schema_offences.specs.Meeting.{Meets};
+ghost use Rattle.schema_offences.specs.ReservedNames.{KeepsNames, has_name};
+
+use crate::first::First;
+use crate::reason::ResolveReason;
+use mrpc_table::{Memory, is_short};
+use proto_file::{Word, Words};
+use std::alloc::Global;
+use std::collections::BTreeMap;
+
+/// Names as a set.
+#[derive(Drop)]
+pub struct NameSet<'a> {
+    names: BTreeMap<&'a [u8], ()>,
+}
+
+impl<'a> NameSet<'a> {
+    pub fn new(alloc: Global, words: &'a Words) -> Result<NameSet<'a>, Memory>
+        ensures { IfOk result (KeepsNames words.now) }
+    {
+        let mut names = BTreeMap::new(alloc);
+        let all = words.as_slice();
+        for i in 0..all.len() {
+            names.insert(all[i].name.as_slice(), ())?;
+        }
+        Ok(NameSet { names })
+    }
+
+    fn has(&self, name: &'a [u8]) -> bool
+        ensures { result ≡ has_name self.now name.now }
+    {
+        self.names.get(&name).is_some()
+    }
+
+    /// Meets what stands against a name of a list with a limit.
+    pub fn note_name(&self, i: usize, limit: usize, word: &'a Word, first: &mut First)
+        ensures { (words : List Word) → KeepsNames words self.now
+            → Meets (NameOffends words limit i word.now) first.old first.new }
+    {
+        let reserved = self.has(word.name.as_slice());
+        first.note_if(reserved, ResolveReason::Reserved, word.span);
+        note_long(word, first);
+        first.note_if(i >= limit, ResolveReason::Limit, word.span);
+    }
+}
+
+/// Meets a name of more than 64 bytes.
+pub fn note_long(word: &Word, first: &mut First)
+    ensures { Meets (IsLong word.now) first.old first.new }
+{
+    first.note_if(
+        !is_short(word.name.as_slice()),
+        ResolveReason::Limit,
+        word.span,
+    );
+}

@@ -1,0 +1,291 @@
+//! Which names are declared twice in a scope.
+
+ghost use Rattle.std.specs.Prelude.{◌≡◌, ◌<◌, ◌+◌, ◌⊎◌, ◌↔◌, ◌++◌, ◌∷◌, [], ℕ, List, Option, Some, None, slice_get, length, map, true, IfOk, OnOk};
+ghost use Rattle.proto_file.specs.Order.{IsFormed, IsOrdered};
+ghost use Rattle.schema_names.specs.Numbers.{StandBehind, IsPlace};
+ghost use Rattle.schema_offences.specs.Meeting.{Meets, TwiceIn, AtSome, OfElement};
+ghost use Rattle.schema_offences.specs.Entries.{Entry, entry, entry_of, entries_of, HasNumber, HasNumbers, OfMessage, OfEnum, OfService, OfSome, Adds, IsBefore, start_in, AreStarts, IsLater};
+
+use crate::first::First;
+use crate::reason::ResolveReason;
+use mrpc_table::Memory;
+use proto_file::{
+    EnumDecl, FieldDecl, File, MessageDecl, RpcDecl, ServiceDecl, Span, ValueDecl, Word,
+};
+use schema_names::{Scopes, one_number, one_scope};
+use std::alloc::Global;
+use std::collections::BTreeMap;
+
+// A name that something declares in a scope.
+#[derive(Clone, Copy)]
+struct Declared<'a> {
+    scope: usize,
+    name: &'a [u8],
+    span: Span,
+}
+
+fn name_in<'a>(scope: usize, word: &'a Word) -> Declared<'a>
+    ensures { entry_of result ≡ entry scope word.now }
+{
+    Declared {
+        scope,
+        name: word.name.as_slice(),
+        span: word.span,
+    }
+}
+
+// The number of the scope of what stands in the file or in a message.
+fn number_in<'a>(scopes: &Scopes<'a>, parent: Option<usize>) -> usize
+    requires behind { StandBehind scopes.now }
+    requires place { IsPlace scopes.now parent }
+    ensures has { HasNumber scopes.now parent result }
+    ensures one { (k : ℕ) → HasNumber scopes.now parent k → k ≡ result }
+{
+    one_scope();
+    one_number();
+    scopes.number(parent)
+}
+
+fn add_fields<'a>(
+    scope: usize,
+    fields: &'a [FieldDecl],
+    names: &mut Vec<Declared<'a>>,
+) -> Result<(), Memory>
+    ensures { OnOk result (entries_of names.new.items
+        ≡ entries_of names.old.items ++ map (λ f. entry scope f.name) fields.now) }
+{
+    for field in fields {
+        names.push(name_in(scope, &field.name))?;
+    }
+    Ok(())
+}
+
+fn add_oneofs<'a>(
+    scope: usize,
+    oneofs: &'a [Word],
+    names: &mut Vec<Declared<'a>>,
+) -> Result<(), Memory>
+    ensures { OnOk result (entries_of names.new.items ≡ entries_of names.old.items ++ map (entry scope) oneofs.now) }
+{
+    for oneof in oneofs {
+        names.push(name_in(scope, oneof))?;
+    }
+    Ok(())
+}
+
+fn add_values<'a>(
+    scope: usize,
+    values: &'a [ValueDecl],
+    names: &mut Vec<Declared<'a>>,
+) -> Result<(), Memory>
+    ensures { OnOk result (entries_of names.new.items
+        ≡ entries_of names.old.items ++ map (λ v. entry scope v.name) values.now) }
+{
+    for value in values {
+        names.push(name_in(scope, &value.name))?;
+    }
+    Ok(())
+}
+
+fn add_rpcs<'a>(
+    scope: usize,
+    rpcs: &'a [RpcDecl],
+    names: &mut Vec<Declared<'a>>,
+) -> Result<(), Memory>
+    ensures { OnOk result (entries_of names.new.items
+        ≡ entries_of names.old.items ++ map (λ r. entry scope r.name) rpcs.now) }
+{
+    for rpc in rpcs {
+        names.push(name_in(scope, &rpc.name))?;
+    }
+    Ok(())
+}
+
+fn add_message<'a>(
+    scopes: &Scopes<'a>,
+    i: usize,
+    message: &'a MessageDecl,
+    names: &mut Vec<Declared<'a>>,
+) -> Result<(), Memory>
+    requires behind { StandBehind scopes.now }
+    requires within { i < length scopes.now.messages }
+    requires parent { IsPlace scopes.now message.now.parent }
+    ensures number { OnOk result ((k : ℕ) × HasNumber scopes.now (Some i) k) }
+    ensures names { OnOk result (Adds (OfMessage scopes.now i message.now)
+        (entries_of names.old.items) (entries_of names.new.items)) }
+{
+    let outer = number_in(scopes, message.parent);
+    names.push(name_in(outer, &message.name))?;
+    let inner = number_in(scopes, Some(i));
+    add_fields(inner, message.fields.as_slice(), names)?;
+    add_oneofs(inner, message.oneofs.as_slice(), names)
+}
+
+fn add_messages<'a>(
+    file: &'a File,
+    scopes: &Scopes<'a>,
+    names: &mut Vec<Declared<'a>>,
+) -> Result<(), Memory>
+    requires behind { StandBehind file.now }
+    requires scopes { scopes.now ≡ file.now }
+    ensures numbers { OnOk result (HasNumbers file.now) }
+    ensures names { OnOk result (Adds (OfSome file.now.messages (OfMessage file.now))
+        (entries_of names.old.items) (entries_of names.new.items)) }
+{
+    let messages = file.messages.as_slice();
+    for i in 0..messages.len() {
+        add_message(scopes, i, &messages[i], names)?;
+    }
+    Ok(())
+}
+
+fn add_enum<'a>(
+    scopes: &Scopes<'a>,
+    choices: &'a EnumDecl,
+    names: &mut Vec<Declared<'a>>,
+) -> Result<(), Memory>
+    requires behind { StandBehind scopes.now }
+    requires parent { IsPlace scopes.now choices.now.parent }
+    ensures { OnOk result ((i : ℕ) → Adds (OfEnum scopes.now i choices.now)
+        (entries_of names.old.items) (entries_of names.new.items)) }
+{
+    let scope = number_in(scopes, choices.parent);
+    names.push(name_in(scope, &choices.name))?;
+    add_values(scope, choices.values.as_slice(), names)
+}
+
+fn add_enums<'a>(
+    file: &'a File,
+    scopes: &Scopes<'a>,
+    names: &mut Vec<Declared<'a>>,
+) -> Result<(), Memory>
+    requires behind { StandBehind file.now }
+    requires scopes { scopes.now ≡ file.now }
+    ensures { OnOk result (Adds (OfSome file.now.enums (OfEnum file.now))
+        (entries_of names.old.items) (entries_of names.new.items)) }
+{
+    let enums = file.enums.as_slice();
+    for i in 0..enums.len() {
+        add_enum(scopes, &enums[i], names)?;
+    }
+    Ok(())
+}
+
+// The scope of a service's methods has a number behind those of all messages.
+fn add_service<'a>(
+    scopes: &Scopes<'a>,
+    scope: usize,
+    service: &'a ServiceDecl,
+    names: &mut Vec<Declared<'a>>,
+) -> Result<(), Memory>
+    requires behind { StandBehind scopes.now }
+    ensures { OnOk result ((i : ℕ) → scope ≡ 1 + length scopes.now.messages + i
+        → Adds (OfService scopes.now i service.now) (entries_of names.old.items) (entries_of names.new.items)) }
+{
+    let outer = number_in(scopes, None);
+    names.push(name_in(outer, &service.name))?;
+    add_rpcs(scope, service.rpcs.as_slice(), names)
+}
+
+fn add_services<'a>(
+    file: &'a File,
+    scopes: &Scopes<'a>,
+    names: &mut Vec<Declared<'a>>,
+) -> Result<(), Memory>
+    requires behind { StandBehind file.now }
+    requires scopes { scopes.now ≡ file.now }
+    ensures { OnOk result (Adds (OfSome file.now.services (OfService file.now))
+        (entries_of names.old.items) (entries_of names.new.items)) }
+{
+    let messages = file.messages.as_slice();
+    let services = file.services.as_slice();
+    for i in 0..services.len() {
+        add_service(scopes, 1 + messages.len() + i, &services[i], names)?;
+    }
+    Ok(())
+}
+
+// Where each name of a scope starts first.
+#[derive(Drop)]
+struct Starts<'a> {
+    by: BTreeMap<(usize, &'a [u8]), usize>,
+}
+
+// The lesser of two starts, of which the first may be unknown.
+fn lesser(known: Option<usize>, start: usize) -> usize
+    ensures { (place : ℕ) → (result < place) ↔ (IsBefore known place ⊎ (start < place)) }
+{
+    known.map_or(start, |first| first.min(start))
+}
+
+impl<'a> Starts<'a> {
+    fn new(alloc: Global, names: &[Declared<'a>]) -> Result<Starts<'a>, Memory>
+        ensures { IfOk result (AreStarts (entries_of names.now)) }
+    {
+        let mut starts = Starts {
+            by: BTreeMap::new(alloc),
+        };
+        for i in 0..names.len() {
+            starts.add(&names[i])?;
+        }
+        Ok(starts)
+    }
+
+    fn get(&self, name: &Declared<'a>) -> Option<usize>
+        ensures { result ≡ start_in self.now name.now.scope name.now.name.now }
+    {
+        self.by.get(&(name.scope, name.name)).copied()
+    }
+
+    fn add(&mut self, name: &Declared<'a>) -> Result<(), Memory>
+        ensures { OnOk result ((es : List Entry) → AreStarts es self.old
+            → AreStarts (es ++ entry_of name.now ∷ []) self.new) }
+    {
+        let start = lesser(self.get(name), name.span.start);
+        self.by.insert((name.scope, name.name), start)?;
+        Ok(())
+    }
+
+    // Whether the same name starts earlier somewhere in its scope.
+    fn is_later(&self, name: &Declared<'a>) -> bool
+        ensures { (result ≡ true) ↔ IsBefore (start_in self.now name.now.scope name.now.name.now) name.now.span.start }
+    {
+        match self.get(name) {
+            Some(first) => first < name.span.start,
+            None => false,
+        }
+    }
+}
+
+fn note_later<'a>(names: &[Declared<'a>], starts: &Starts<'a>, first: &mut First)
+    requires { AreStarts (entries_of names.now) starts.now }
+    ensures { Meets (AtSome (OfElement (entries_of names.now) (IsLater (entries_of names.now)))) first.old first.new }
+{
+    for i in 0..names.len() {
+        let is_later = starts.is_later(&names[i]);
+        first.note_if(is_later, ResolveReason::DuplicateName, names[i].span);
+    }
+}
+
+/// Meets each name that an earlier thing of its scope has.
+pub fn note_duplicates<'a>(
+    alloc: Global,
+    file: &'a File,
+    scopes: &Scopes<'a>,
+    first: &mut First,
+) -> Result<(), Memory>
+    requires formed { IsFormed file.now }
+    requires ordered { IsOrdered file.now }
+    requires scopes { scopes.now ≡ file.now }
+    ensures { OnOk result (Meets (TwiceIn file.now) first.old first.new) }
+{
+    one_scope();
+    one_number();
+    let mut names = Vec::new(alloc);
+    add_messages(file, scopes, &mut names)?;
+    add_enums(file, scopes, &mut names)?;
+    add_services(file, scopes, &mut names)?;
+    let starts = Starts::new(alloc, &names)?;
+    note_later(&names, &starts, first);
+    Ok(())
+}

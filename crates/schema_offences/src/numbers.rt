@@ -1,0 +1,171 @@
+//! The numbers of fields and of enums' values.
+
+ghost use Rattle.std.specs.Prelude.{◌≡◌, ◌≤◌, ◌<◌, ◌^◌, ◌↔◌, length, ℕ, ℤ, List, pos, neg_ℤ, IfOk, IsTrue, MatchOption, FitsSigned, if◌then◌else◌};
+ghost use Rattle.std.specs.Int.{w32};
+ghost use Rattle.std.specs.List.{AllWithin};
+ghost use Rattle.std.specs.List.Sorted.{IsNonDecreasingBy};
+ghost use Rattle.mrpc_table.specs.Valid.{IsFieldNumber};
+ghost use Rattle.proto_file.specs.declared.file.Range.{Range};
+ghost use Rattle.schema_offences.specs.Types.{magnitude, value_of};
+ghost use Rattle.schema_offences.specs.Those.{AreThose};
+ghost use Rattle.schema_offences.specs.Members.{IsFieldNumberOf, IsReserved};
+ghost use Rattle.schema_offences.specs.Ranges.{IsPlaceOf, IsEndsOf, AreSortedEnds, KeepsRanges, reach_from};
+
+use mrpc_table::{Decimal, Memory};
+use proto_file::{Number, Range};
+use std::alloc::Global;
+
+/// The place of 0. All numbers of more than 64 bits stand at the two ends.
+pub const ZERO: u128 = 0x1_0000_0000_0000_0000;
+
+fn size_of(value: Decimal) -> u128
+    ensures is { result ≡ magnitude value }
+    ensures small { result ≤ 2 ^ 64 }
+{
+    match value {
+        Decimal::Small(size) => u128::from(size),
+        Decimal::Large => ZERO,
+    }
+}
+
+/// The place of a number among those from -2^64 on.
+pub fn place_of(number: &Number) -> u128
+    ensures is { IsPlaceOf result (value_of number.now) }
+    ensures small { result ≤ 2 ^ 65 }
+{
+    let size = size_of(number.value);
+    if number.negative {
+        ZERO - size
+    } else {
+        ZERO + size
+    }
+}
+
+fn is_field_number(size: u64) -> bool
+    ensures { IsTrue result ↔ IsFieldNumber size }
+{
+    size >= 1 && size < 0x2000_0000 && (size < 19_000 || size >= 20_000)
+}
+
+/// The number of a field: 1 to 536870911, and not 19000 to 19999.
+pub fn field_number(number: &Number) -> Option<u32>
+    ensures { MatchOption result (IsFieldNumberOf (value_of number.now) → ⊥)
+        (λ n. (value_of number.now ≡ pos n) × IsFieldNumber n) }
+{
+    if number.negative {
+        return None;
+    }
+    match number.value {
+        Decimal::Small(size) if is_field_number(size) => Some(size as u32),
+        _ => None,
+    }
+}
+
+// A number of 32 bits with a sign.
+fn signed(negative: bool, size: u64) -> Option<i32>
+    ensures { let n = if negative then neg_ℤ (pos size) else pos size in
+        MatchOption result (FitsSigned w32 n → ⊥) (λ r. r ≡ n) }
+{
+    if negative {
+        if size <= 0x8000_0000 {
+            Some((-(size as i64)) as i32)
+        } else {
+            None
+        }
+    } else if size < 0x8000_0000 {
+        Some(size as i32)
+    } else {
+        None
+    }
+}
+
+/// The number of an enum's value: 32 bits with a sign.
+pub fn enum_number(number: &Number) -> Option<i32>
+    ensures { MatchOption result (FitsSigned w32 (value_of number.now) → ⊥) (λ n. n ≡ value_of number.now) }
+{
+    match number.value {
+        Decimal::Small(size) => signed(number.negative, size),
+        Decimal::Large => None,
+    }
+}
+
+// The places of the first and the last number of a range, of which `max` is past every number.
+fn ends(range: &Range) -> (u128, u128)
+    ensures { IsEndsOf range.now result }
+{
+    let last = match &range.last {
+        Some(last) => place_of(last),
+        None => 2 * ZERO,
+    };
+    (place_of(&range.first), last)
+}
+
+fn all_ends(alloc: Global, ranges: &[Range]) -> Result<Vec<(u128, u128)>, Memory>
+    ensures { IfOk result (λ v. AreThose IsEndsOf ranges.now v.items) }
+{
+    let mut all = Vec::with_capacity(alloc, ranges.len())?;
+    for i in 0..ranges.len() {
+        let ends = ends(&ranges[i]);
+        all.push(ends)?;
+    }
+    Ok(all)
+}
+
+// The ends of ranges by ascending first places.
+fn sorted_ends(alloc: Global, ranges: &[Range]) -> Result<Vec<(u128, u128)>, Memory>
+    ensures { IfOk result (λ v. AreSortedEnds ranges.now v.items) }
+{
+    let mut sorted = all_ends(alloc, ranges)?;
+    sorted.sort_by_key(|range| range.0)?;
+    Ok(sorted)
+}
+
+// Each one with the largest last place up to there.
+fn reach_out(alloc: Global, sorted: &[(u128, u128)]) -> Result<Vec<(u128, u128)>, Memory>
+    ensures { IfOk result (λ v. v.items ≡ reach_from 0 sorted.now) }
+{
+    let mut reached = Vec::with_capacity(alloc, sorted.len())?;
+    let mut reach: u128 = 0;
+    for i in 0..sorted.len() {
+        let (first, last) = sorted[i];
+        reach = reach.max(last);
+        reached.push((first, reach))?;
+    }
+    Ok(reached)
+}
+
+// How many of the first places aren't above a place.
+fn begin_by(ranges: &[(u128, u128)], place: u128) -> usize
+    ensures within { result ≤ length ranges.now }
+    ensures parts { IsNonDecreasingBy {X = ℕ × ℕ} (λ e. e.0) ranges.now
+        → AllWithin (λ e. e.0 ≤ place) ranges.now 0 result
+        × AllWithin (λ e. place < e.0) ranges.now result (length ranges.now) }
+{
+    ranges.partition_point(|range| range.0 <= place)
+}
+
+/// Reserved numbers: by ascending first place, each with the largest last one of the ranges up to there.
+#[derive(Drop)]
+pub struct Reserved {
+    ranges: Vec<(u128, u128)>,
+}
+
+impl Reserved {
+    pub fn new(alloc: Global, ranges: &[Range]) -> Result<Reserved, Memory>
+        ensures { IfOk result (KeepsRanges ranges.now) }
+    {
+        let sorted = sorted_ends(alloc, ranges)?;
+        let reached = reach_out(alloc, sorted.as_slice())?;
+        Ok(Reserved { ranges: reached })
+    }
+
+    /// Whether a range has the number of a place: one of those that begin at it or below ends at it or above.
+    pub fn has(&self, place: u128) -> bool
+        ensures { (ranges : List Range) (n : ℤ) → KeepsRanges ranges self.now → IsPlaceOf place n → place ≤ 2 ^ 65
+            → IsTrue result ↔ IsReserved ranges n }
+    {
+        let ranges = self.ranges.as_slice();
+        let low = begin_by(ranges, place);
+        low > 0 && place <= ranges[low - 1].1
+    }
+}

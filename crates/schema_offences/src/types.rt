@@ -1,0 +1,184 @@
+//! What the types of fields are.
+
+ghost use Rattle.std.specs.Prelude.{◌≡◌, ◌<◌, ◌↔◌, ℕ, true, List, [], ◌∷◌, length, Some, MatchOption, IsTrue};
+ghost use Rattle.mrpc_table.specs.Words.{is_key};
+ghost use Rattle.mrpc_table.specs.declared.table.Kind.{Kind};
+ghost use Rattle.std.specs.Str.{bytes_eq};
+ghost use Rattle.mrpc_table.specs.declared.table.Label.{Label};
+ghost use Rattle.schema_names.specs.Scopes.{IsScope};
+ghost use Rattle.schema_offences.specs.Types.{scalar_of, single_label, IsScalar, IsNoScalar, HasForm};
+ghost use Rattle.schema_offences.specs.Members.{IsUnknown, IsMisplaced};
+ghost use Rattle.schema_offences.specs.Forms.{IsType, IsForm, is_message, is_packable, may_be_key};
+
+use mrpc_table::{Kind, Label};
+use proto_file::{FieldDecl, FieldLabel, FieldType, Word};
+use schema_names::{Named, Scopes};
+
+/// The type of a field, or of a map's value.
+#[derive(Clone, Copy, Debug, PartialEq, Eq)]
+pub enum TypeOf {
+    Scalar(Kind),
+    Named(Named),
+}
+
+/// A field's type, its label where it is in no oneof, and the place of its oneof in the text's message.
+#[derive(Clone, Copy)]
+pub struct Form {
+    pub label: Label,
+    pub oneof: Option<usize>,
+    pub type_of: TypeOf,
+}
+
+fn is_word<'a>(word: &'a [u8], expected: &'a [u8]) -> bool
+    ensures { result ≡ bytes_eq word.now expected.now }
+{
+    word == expected
+}
+
+// The scalar of a name.
+fn scalar_of(name: &[u8]) -> Option<Kind>
+    ensures { result ≡ scalar_of name.now }
+{
+    if is_word(name, b"int32") {
+        Some(Kind::Int32)
+    } else if is_word(name, b"int64") {
+        Some(Kind::Int64)
+    } else if is_word(name, b"uint32") {
+        Some(Kind::Uint32)
+    } else if is_word(name, b"uint64") {
+        Some(Kind::Uint64)
+    } else if is_word(name, b"sint32") {
+        Some(Kind::Sint32)
+    } else if is_word(name, b"sint64") {
+        Some(Kind::Sint64)
+    } else if is_word(name, b"bool") {
+        Some(Kind::Bool)
+    } else if is_word(name, b"fixed32") {
+        Some(Kind::Fixed32)
+    } else if is_word(name, b"fixed64") {
+        Some(Kind::Fixed64)
+    } else if is_word(name, b"sfixed32") {
+        Some(Kind::Sfixed32)
+    } else if is_word(name, b"sfixed64") {
+        Some(Kind::Sfixed64)
+    } else if is_word(name, b"float") {
+        Some(Kind::Float)
+    } else if is_word(name, b"double") {
+        Some(Kind::Double)
+    } else if is_word(name, b"string") {
+        Some(Kind::Text)
+    } else if is_word(name, b"bytes") {
+        Some(Kind::Octets)
+    } else {
+        None
+    }
+}
+
+/// What a type's name in a field means: a scalar's name is that scalar, whatever is declared.
+pub fn type_of<'a>(scopes: &Scopes<'a>, message: usize, word: &'a Word) -> Option<TypeOf>
+    requires { message < length scopes.now.messages }
+    ensures { (scope : List (List ℕ)) → IsScope scopes.now (Some message) scope
+        → MatchOption result (IsNoScalar word.now.name × IsUnknown (scopes.now ∷ []) scope word.now.name)
+        (IsType scopes.now scope word.now.name) }
+{
+    let name = word.name.as_slice();
+    match scalar_of(name) {
+        Some(kind) => Some(TypeOf::Scalar(kind)),
+        None => Some(TypeOf::Named(scopes.find(Some(message), name)?)),
+    }
+}
+
+fn is_message(type_of: TypeOf) -> bool
+    ensures { result ≡ is_message type_of }
+{
+    matches!(type_of, TypeOf::Named(Named::Message(_)))
+}
+
+// Whether many of it can stand in one record.
+fn is_packable(type_of: TypeOf) -> bool
+    ensures { result ≡ is_packable type_of }
+{
+    match type_of {
+        TypeOf::Scalar(kind) => kind.is_numeric(),
+        TypeOf::Named(Named::Enum(_)) => true,
+        TypeOf::Named(Named::Message(_)) => false,
+    }
+}
+
+/// Whether a map's key may have it.
+pub fn may_be_key(type_of: TypeOf) -> bool
+    ensures { result ≡ may_be_key type_of }
+{
+    match type_of {
+        TypeOf::Scalar(kind) => kind.is_key(),
+        TypeOf::Named(_) => false,
+    }
+}
+
+// The label of a field that is in no oneof.
+fn single_label(field: &FieldDecl, type_of: TypeOf) -> Label
+    ensures { result ≡ single_label field.now.label field.now.packed (is_message type_of) (is_packable type_of) }
+{
+    match field.label {
+        FieldLabel::Plain => Label::Plain,
+        FieldLabel::Optional if is_message(type_of) => Label::Plain,
+        FieldLabel::Optional => Label::Optional,
+        FieldLabel::Repeated if is_packable(type_of) && field.packed != Some(false) => {
+            Label::Packed
+        }
+        FieldLabel::Repeated => Label::Repeated,
+    }
+}
+
+/// Whether a map stands under a label or in a oneof, or is the value of a map.
+pub fn is_misplaced_map(field: &FieldDecl) -> bool
+    ensures { IsTrue result ↔ IsMisplaced field.now }
+{
+    match field.kind {
+        FieldType::Named(_) => false,
+        FieldType::Map { .. } => field.label != FieldLabel::Plain || field.oneof.is_some(),
+        FieldType::NestedMap => true,
+    }
+}
+
+// The kind of a map's key, where keys may have it.
+fn key_of(word: &Word) -> Option<Kind>
+    ensures { MatchOption result ((k : Kind) → IsScalar word.now.name k → is_key k ≡ true → ⊥)
+        (λ k. IsScalar word.now.name k × (is_key k ≡ true)) }
+{
+    let kind = scalar_of(word.name.as_slice())?;
+    if kind.is_key() { Some(kind) } else { None }
+}
+
+/// The form of a field in a table; none where its types are at fault, or where no map may stand.
+pub fn form_of<'a>(scopes: &Scopes<'a>, message: usize, field: &'a FieldDecl) -> Option<Form>
+    requires { message < length scopes.now.messages }
+    ensures { (scope : List (List ℕ)) → IsScope scopes.now (Some message) scope
+        → MatchOption result
+        ((label : Label) (word : List ℕ) → HasForm (scopes.now ∷ []) scope field.now label word → ⊥)
+        (IsForm scopes.now scope field.now) }
+{
+    if is_misplaced_map(field) {
+        return None;
+    }
+    match &field.kind {
+        FieldType::Named(word) => {
+            let type_of = type_of(scopes, message, word)?;
+            Some(Form {
+                label: single_label(field, type_of),
+                oneof: field.oneof,
+                type_of,
+            })
+        }
+        FieldType::Map { key, value } => {
+            let key = key_of(key)?;
+            let type_of = type_of(scopes, message, value)?;
+            Some(Form {
+                label: Label::Map(key),
+                oneof: None,
+                type_of,
+            })
+        }
+        FieldType::NestedMap => None,
+    }
+}

@@ -1,0 +1,322 @@
+-- What holds of a file against which nothing stands.
+use Rattle.std.proofs.Common.{◌≡◌, ◌≢◌, ℕ, zero, suc, ◌+◌, ◌<◌, ◌≤◌, ◌⊎◌, inl, inr, Bool, true, false, List, [], ◌∷◌, ◌++◌, length, get_or, map, Option, Some, None, refl, sym, ap, ◌∙◌, subst, arith}
+use Rattle.std.specs.Prelude.{Contains, All, slice_get, IfSome}
+use Rattle.std.proofs.lemmas.Bool.{cases_lt, cases_order}
+use Rattle.std.proofs.lemmas.Option.{slice_get_within, get_or_from_slice_get, slice_get-get_or, same_Some, slice_get_read}
+use Rattle.std.proofs.lemmas.List.{get_or_default, length-append}
+use Rattle.std.proofs.lemmas.List.Elements.{All-contains}
+use Rattle.mrpc_table.specs.Valid.{AreDistinct}
+use Rattle.mrpc_table.specs.declared.limits.TheConstants.{MAX_MESSAGES, MAX_ENUMS}
+use Rattle.proto_file.specs.Order
+use Rattle.proto_file.specs.Order.{Declaration, StandsAt, IsFormed, IsOrdered, IsPlaceBelow, message_decl, enum_decl, its_name}
+use Rattle.proto_file.specs.declared.file.Span.{Span}
+use Rattle.proto_file.specs.declared.file.MessageDecl.{MessageDecl}
+use Rattle.proto_file.specs.declared.file.EnumDecl.{EnumDecl}
+use Rattle.proto_file.specs.declared.file.File.{File}
+use Rattle.schema_names.specs.Scopes
+use Rattle.schema_names.specs.Scopes.{Sort, a_message, an_enum, Declares, text_of, package_of, IsScope, of_file, of_message}
+use Rattle.schema_offences.specs.Sources.{alone}
+use Rattle.schema_offences.specs.Members.{MessageOffends, EnumOffends, too_many_messages, too_many_enums}
+use Rattle.schema_offences.specs.Offences
+use Rattle.schema_offences.specs.Offences.{IsTwice, IsOffence, offends}
+use Rattle.schema_offences.specs.declared.reason.ResolveReason.{ResolveReason}
+use Rattle.schema_offences.specs.declared.reason.ResolveReason.TheVariants.{DuplicateName, Limit}
+use Rattle.schema_resolve.specs.Resolving.{IsClean}
+use Rattle.schema_resolve.specs.Placing.{behind, front_of, name_at, AreMessageNames, AreEnumNames}
+use Rattle.schema_resolve.proofs.FullNames.{AreNames, same_text, scope_names, names_more, behind_text, message_formed}
+use Rattle.schema_resolve.proofs.Orders.{AreApart, apart_distinct}
+
+-- ---- elements
+
+pub in_list : {X : Type 0} (xs : List X) (i : ℕ) (x : X) → slice_get xs i ≡ Some x → Contains xs x
+in_list xs i x e = (i, slice_get_within xs i x e, get_or_from_slice_get xs i x x e)
+
+pub at_in : {X : Type 0} (xs : List X) (x : X) (c : Contains xs x) → slice_get xs c.0 ≡ Some x
+at_in xs x c = slice_get_read xs (length xs) c.0 x refl c.1 (sym c.2)
+
+pub some_at : {X : Type 0} (xs : List X) (i : ℕ) → i < length xs → (x : X) × (slice_get xs i ≡ Some x)
+some_at [] i l = absurd (omega arith)
+some_at (x ∷ xs) zero l = (x, refl)
+some_at (x ∷ xs) (suc i) l = some_at xs i (omega arith)
+
+pub push_old : {X : Type 0} (xs zs : List X) (i : ℕ) → i < length xs → slice_get (xs ++ zs) i ≡ slice_get xs i
+push_old [] zs i l = absurd (omega arith)
+push_old (x ∷ xs) zs zero l = refl
+push_old (x ∷ xs) zs (suc i) l = push_old xs zs i (omega arith)
+
+pub push_new : {X : Type 0} (xs : List X) (x : X) (i : ℕ) → length xs ≡ i → slice_get (xs ++ x ∷ []) i ≡ Some x
+push_new [] x zero e = refl
+push_new [] x (suc i) e = absurd (omega arith)
+push_new (y ∷ xs) x zero e = absurd (omega arith)
+push_new (y ∷ xs) x (suc i) e = push_new xs x i (omega arith)
+
+-- ---- scopes
+
+pub scope_of_file : {F : File} {s : List (List ℕ)} → IsScope F None s → s ≡ package_of F
+scope_of_file of_file = refl
+
+pub record ScopeParts (F : File) (i : ℕ) (s : List (List ℕ)) : Type 0 where
+  pub decl : MessageDecl
+  pub outer : List (List ℕ)
+  pub at : slice_get F.messages i ≡ Some decl
+  pub up : IsScope F decl.parent outer
+  pub is : s ≡ outer ++ decl.name.name ∷ []
+
+pub scope_parts : {F : File} {i : ℕ} {s : List (List ℕ)} → IsScope F (Some i) s → ScopeParts F i s
+scope_parts (of_message i m {outer} at up) = record { decl = m; outer = outer; at = at; up = up; is = refl }
+
+-- what stands in the file or in a message has one scope
+pub one_scope : {F : File} {p : Option ℕ} {s t : List (List ℕ)} → IsScope F p s → IsScope F p t → s ≡ t
+one_scope of_file of_file = refl
+one_scope {F} (of_message i m {outer} at up) (of_message j n {outer = outer'} at' up') =
+    let e : m ≡ n = same_Some m n (sym at ∙ at') in
+    let up2 : IsScope F m.parent outer' = subst (λ (k : MessageDecl). IsScope F k.parent outer') (sym e) up' in
+    let f : outer ≡ outer' = one_scope up up2 in
+    cc
+
+parent_below : (n p : ℕ) (place : Option ℕ) → place ≡ Some p → IsPlaceBelow n place → p < n
+parent_below n p place e h = subst (IsPlaceBelow n) e h
+
+pub parent_scope : {F : File} (p : Option ℕ)
+    → ((q : ℕ) → p ≡ Some q → (s : List (List ℕ)) × IsScope F (Some q) s) → (s : List (List ℕ)) × IsScope F p s
+parent_scope {F} None known = (package_of F, of_file)
+parent_scope (Some q) known = known q refl
+
+scope_below : {F : File} → IsFormed F → (n i : ℕ) → i < n → i < length F.messages
+    → (s : List (List ℕ)) × IsScope F (Some i) s
+scope_below formed zero i l here = absurd (omega arith)
+scope_below {F} formed (suc n) i l here =
+    let m = some_at F.messages i here in
+    let up = parent_scope {F = F} m.0.parent
+        (λ q e. scope_below formed n q (omega (arith, parent_below i q m.0.parent e (formed.parents i m.0 m.1)))
+        (omega (arith, parent_below i q m.0.parent e (formed.parents i m.0 m.1)))) in
+    (up.0 ++ m.0.name.name ∷ [], of_message i m.0 m.1 up.1)
+
+pub scope_at : {F : File} → IsFormed F → (i : ℕ) → i < length F.messages → (s : List (List ℕ)) × IsScope F (Some i) s
+scope_at formed i l = scope_below formed (i + 1) i (omega arith) l
+
+pub message_outer : {F : File} → IsFormed F → (i : ℕ) (m : MessageDecl) → slice_get F.messages i ≡ Some m
+    → (s : List (List ℕ)) × IsScope F m.parent s
+message_outer {F} formed i m at =
+    let n = slice_get_within F.messages i m at in
+    parent_scope {F = F} m.parent
+    (λ q e. scope_at formed q (omega (arith, parent_below i q m.parent e (formed.parents i m at))))
+
+pub enum_outer : {F : File} → IsFormed F → (e : EnumDecl) → Contains F.enums e
+    → (s : List (List ℕ)) × IsScope F e.parent s
+enum_outer {F} formed e c =
+    parent_scope {F = F} e.parent
+    (λ q is. scope_at formed q (parent_below (length F.messages) q e.parent is
+    (All-contains (λ (x : EnumDecl). IsPlaceBelow (length F.messages) x.parent) F.enums e formed.enum_parents c)))
+
+-- ---- no name stands twice
+
+not_twice : (F : File) (a b : Sort) (full : List (List ℕ)) (s t : Span) → IsClean F → Declares F a full s
+    → Declares F b full t → s.start < t.start → ⊥
+not_twice F a b full s t clean d e l =
+    clean DuplicateName t (offends (Offences.twice t (Offences.in_file a b full s d e l) (refl, refl)))
+
+-- declarations whose full names have one text are one
+pub one_declaration : (F : File) (x y : Declaration) (a b : Sort) (f g : List (List ℕ)) (s t : Span) → IsOrdered F
+    → IsClean F → Declares F a f s → Declares F b g t → StandsAt F s x its_name → StandsAt F t y its_name
+    → AreNames f → AreNames g → text_of f ≡ text_of g → x ≡ y
+one_declaration F x y a b f g s t ordered clean d e p q m n same =
+    let one : f ≡ g = same_text f g m n same in
+    let d2 : Declares F a g s = subst (λ (h : List (List ℕ)). Declares F a h s) one d in
+    elim (cases_order s.start t.start) [
+      | inl h ↦ (ordered.apart x y its_name its_name s t p q h).0
+      | inr h ↦ elim h [
+          | inl l ↦ absurd (not_twice F a b g s t clean d2 e l)
+          | inr l ↦ absurd (not_twice F b a g t s clean e d2 l)
+        ]
+    ]
+
+same_message : (i j : ℕ) → message_decl i ≡ message_decl j → i ≡ j
+same_message i j e = cc
+
+same_enum : (i j : ℕ) → enum_decl i ≡ enum_decl j → i ≡ j
+same_enum i j e = cc
+
+-- ---- the full names of messages and enums
+
+front_at : {F : File} (names : List (List ℕ)) (front : List ℕ) (place : Option ℕ) (outer : List (List ℕ))
+    → front ≡ text_of (package_of F) → AreMessageNames F names → IsPlaceBelow (length names) place
+    → IsScope F place outer → front_of front names place ≡ text_of outer
+front_at names front None outer e h below up = e ∙ ap text_of (sym (scope_of_file up))
+front_at names front (Some i) outer e h below up =
+    get_or_from_slice_get names i (text_of outer) [] (h.each i outer below up)
+
+pub full_text : {F : File} (names : List (List ℕ)) (front name : List ℕ) (place : Option ℕ) (outer : List (List ℕ))
+    → IsFormed F → front ≡ text_of (package_of F) → AreMessageNames F names → IsPlaceBelow (length names) place
+    → IsScope F place outer → behind (front_of front names place) name ≡ text_of (outer ++ name ∷ [])
+full_text names front name place outer formed e h below up =
+    ap (λ (t : List ℕ). behind t name) (front_at names front place outer e h below up)
+    ∙ behind_text outer name (scope_names formed up)
+
+pub messages_more : {F : File} (names more : List (List ℕ)) (front name : List ℕ) (i : ℕ) (m : MessageDecl)
+    → IsFormed F → front ≡ text_of (package_of F) → length names ≡ i → slice_get F.messages i ≡ Some m
+    → name ≡ behind (front_of front names m.parent) m.name.name → more ≡ names ++ name ∷ [] → AreMessageNames F names
+    → AreMessageNames F more
+messages_more {F} names more front name i m formed e count at is grown h =
+    subst (AreMessageNames F) (sym grown) (record {
+      each = λ k full l scope. elim (cases_lt k (length names)) [
+        | inl old ↦ push_old names (name ∷ []) k old ∙ h.each k full old scope
+        | inr new ↦
+            let s : k ≡ i = omega (arith, length-append names (name ∷ [])) in
+            let p = scope_parts scope in
+            let d : p.decl ≡ m = same_Some p.decl m (sym p.at ∙ ap (slice_get F.messages) s ∙ at) in
+            let up : IsScope F m.parent p.outer = subst (λ (x : MessageDecl). IsScope F x.parent p.outer) d p.up in
+            let f : full ≡ p.outer ++ m.name.name ∷ [] =
+                p.is ∙ ap (λ (x : MessageDecl). p.outer ++ x.name.name ∷ []) d in
+            let t : name ≡ text_of full =
+                is ∙ full_text names front m.name.name m.parent p.outer formed e h
+                (subst (λ (n : ℕ). IsPlaceBelow n m.parent) (sym count) (formed.parents i m at)) up
+                ∙ ap text_of (sym f) in
+            push_new names name k (count ∙ sym s) ∙ ap Some t
+      ];
+    })
+
+pub enums_more : {F : File} (messages names more : List (List ℕ)) (front name : List ℕ) (i : ℕ) (e : EnumDecl)
+    → IsFormed F → front ≡ text_of (package_of F) → length messages ≡ length F.messages → AreMessageNames F messages
+    → length names ≡ i → slice_get F.enums i ≡ Some e
+    → name ≡ behind (front_of front messages e.parent) e.name.name → more ≡ names ++ name ∷ [] → AreEnumNames F names
+    → AreEnumNames F more
+enums_more {F} messages names more front name i e formed front_is all known count at is grown h =
+    subst (AreEnumNames F) (sym grown) (record {
+      each = λ k d outer l there up. elim (cases_lt k (length names)) [
+        | inl old ↦ push_old names (name ∷ []) k old ∙ h.each k d outer old there up
+        | inr new ↦
+            let s : k ≡ i = omega (arith, length-append names (name ∷ [])) in
+            let same : d ≡ e = same_Some d e (sym there ∙ ap (slice_get F.enums) s ∙ at) in
+            let up2 : IsScope F e.parent outer = subst (λ (x : EnumDecl). IsScope F x.parent outer) same up in
+            let below : IsPlaceBelow (length F.messages) e.parent =
+                All-contains (λ (x : EnumDecl). IsPlaceBelow (length F.messages) x.parent) F.enums e
+                formed.enum_parents (in_list F.enums i e at) in
+            let t : name ≡ text_of (outer ++ d.name.name ∷ []) =
+                is ∙ full_text messages front e.name.name e.parent outer formed front_is known
+                (subst (λ (n : ℕ). IsPlaceBelow n e.parent) (sym all) below) up2
+                ∙ ap (λ (x : EnumDecl). text_of (outer ++ x.name.name ∷ [])) (sym same) in
+            push_new names name k (count ∙ sym s) ∙ ap Some t
+      ];
+    })
+
+pub parent_known : (F : File) (i : ℕ) (m : MessageDecl) (n : ℕ) → IsFormed F → slice_get F.messages i ≡ Some m → n ≡ i
+    → IsPlaceBelow n m.parent
+parent_known F i m n formed at e = subst (λ (k : ℕ). IsPlaceBelow k m.parent) (sym e) (formed.parents i m at)
+
+pub enum_parent_known : (F : File) (i : ℕ) (e : EnumDecl) (n : ℕ) → IsFormed F → slice_get F.enums i ≡ Some e
+    → n ≡ length F.messages → IsPlaceBelow n e.parent
+enum_parent_known F i e n formed at is =
+    subst (λ (k : ℕ). IsPlaceBelow k e.parent) (sym is)
+    (All-contains (λ (x : EnumDecl). IsPlaceBelow (length F.messages) x.parent) F.enums e formed.enum_parents
+    (in_list F.enums i e at))
+
+-- a message, with its full name and where that stands
+pub record HereMessage (F : File) (i : ℕ) : Type 0 where
+  pub decl : MessageDecl
+  pub outer : List (List ℕ)
+  pub at : slice_get F.messages i ≡ Some decl
+  pub up : IsScope F decl.parent outer
+  pub declares : Declares F a_message (outer ++ decl.name.name ∷ []) decl.name.span
+  pub stands : StandsAt F decl.name.span (message_decl i) its_name
+  pub names : AreNames (outer ++ decl.name.name ∷ [])
+
+pub here_message : (F : File) (i : ℕ) → IsFormed F → i < length F.messages → HereMessage F i
+here_message F i formed l =
+    let m = some_at F.messages i l in
+    let up = message_outer formed i m.0 m.1 in
+    record {
+      decl = m.0;
+      outer = up.0;
+      at = m.1;
+      up = up.1;
+      declares = Scopes.message m.0 (in_list F.messages i m.0 m.1) up.1;
+      stands = Order.message i m.0 m.1 refl;
+      names = names_more up.0 m.0.name.name (scope_names formed up.1) (message_formed F i m.0 formed m.1).name;
+    }
+
+pub record HereEnum (F : File) (i : ℕ) : Type 0 where
+  pub decl : EnumDecl
+  pub outer : List (List ℕ)
+  pub at : slice_get F.enums i ≡ Some decl
+  pub up : IsScope F decl.parent outer
+  pub declares : Declares F an_enum (outer ++ decl.name.name ∷ []) decl.name.span
+  pub stands : StandsAt F decl.name.span (enum_decl i) its_name
+  pub names : AreNames (outer ++ decl.name.name ∷ [])
+
+pub here_enum : (F : File) (i : ℕ) → IsFormed F → i < length F.enums → HereEnum F i
+here_enum F i formed l =
+    let e = some_at F.enums i l in
+    let c = in_list F.enums i e.0 e.1 in
+    let up = enum_outer formed e.0 c in
+    record {
+      decl = e.0;
+      outer = up.0;
+      at = e.1;
+      up = up.1;
+      declares = Scopes.enum e.0 c up.1;
+      stands = Order.enum i e.0 e.1 refl;
+      names = names_more up.0 e.0.name.name (scope_names formed up.1)
+          (All-contains Order.IsFormedEnum F.enums e.0 formed.enums c).name;
+    }
+
+pub message_text : (F : File) (names : List (List ℕ)) (i : ℕ) (h : HereMessage F i) → AreMessageNames F names
+    → i < length names → (d : List ℕ) → get_or names i d ≡ text_of (h.outer ++ h.decl.name.name ∷ [])
+message_text F names i h known l d =
+    get_or_from_slice_get names i (text_of (h.outer ++ h.decl.name.name ∷ [])) d
+    (known.each i (h.outer ++ h.decl.name.name ∷ []) l (of_message i h.decl h.at h.up))
+
+pub enum_text : (F : File) (names : List (List ℕ)) (i : ℕ) (h : HereEnum F i) → AreEnumNames F names
+    → i < length names → (d : List ℕ) → get_or names i d ≡ text_of (h.outer ++ h.decl.name.name ∷ [])
+enum_text F names i h known l d =
+    get_or_from_slice_get names i (text_of (h.outer ++ h.decl.name.name ∷ [])) d
+    (known.each i h.decl h.outer l h.at h.up)
+
+pub messages_distinct : (F : File) (names : List (List ℕ)) → IsFormed F → IsOrdered F → IsClean F
+    → length names ≡ length F.messages → AreMessageNames F names → AreDistinct names
+messages_distinct F names formed ordered clean count known =
+    apart_distinct names
+    (λ i j d a b e.
+    let x = here_message F i formed (omega arith) in
+    let y = here_message F j formed (omega arith) in
+    same_message i j
+    (one_declaration F (message_decl i) (message_decl j) a_message a_message (x.outer ++ x.decl.name.name ∷ [])
+    (y.outer ++ y.decl.name.name ∷ []) x.decl.name.span y.decl.name.span ordered clean x.declares y.declares x.stands
+    y.stands x.names y.names (sym (message_text F names i x known a d) ∙ e ∙ message_text F names j y known b d)))
+
+pub enums_distinct : (F : File) (names : List (List ℕ)) → IsFormed F → IsOrdered F → IsClean F
+    → length names ≡ length F.enums → AreEnumNames F names → AreDistinct names
+enums_distinct F names formed ordered clean count known =
+    apart_distinct names
+    (λ i j d a b e.
+    let x = here_enum F i formed (omega arith) in
+    let y = here_enum F j formed (omega arith) in
+    same_enum i j
+    (one_declaration F (enum_decl i) (enum_decl j) an_enum an_enum (x.outer ++ x.decl.name.name ∷ [])
+    (y.outer ++ y.decl.name.name ∷ []) x.decl.name.span y.decl.name.span ordered clean x.declares y.declares x.stands
+    y.stands x.names y.names (sym (enum_text F names i x known a d) ∙ e ∙ enum_text F names j y known b d)))
+
+-- ---- limits
+
+pub few_messages : (F : File) → IsFormed F → IsClean F → length F.messages ≤ MAX_MESSAGES
+few_messages F formed clean = elim (cases_lt MAX_MESSAGES (length F.messages)) [
+  | inl more ↦
+      let x = here_message F MAX_MESSAGES formed more in
+      absurd (clean Limit x.decl.name.span (offends (Offences.of_message MAX_MESSAGES x.decl x.at
+      (of_message MAX_MESSAGES x.decl x.at x.up) (too_many_messages (omega arith) (refl, refl)))))
+  | inr few ↦ few
+]
+
+pub few_enums : (F : File) → IsClean F → length F.enums ≤ MAX_ENUMS
+few_enums F clean = elim (cases_lt MAX_ENUMS (length F.enums)) [
+  | inl more ↦
+      let e = some_at F.enums MAX_ENUMS more in
+      absurd (clean Limit e.0.name.span (offends (Offences.of_enum MAX_ENUMS e.0 e.1
+      (too_many_enums (omega arith) (refl, refl)))))
+  | inr few ↦ few
+]
+
+-- what a loop reads
+pub item_at : {X : Type 0} (xs ys : List X) (i : ℕ) (x : X) → xs ≡ ys → i < length ys → x ≡ get_or xs i x
+    → slice_get ys i ≡ Some x
+item_at xs ys i x e l is = slice_get_read ys (length ys) i x refl l (is ∙ ap (λ zs. get_or zs i x) e)

@@ -1,0 +1,149 @@
+-- Full names and their texts.
+use Rattle.std.proofs.Common.{◌≡◌, ◌≢◌, ℕ, zero, suc, ◌+◌, ◌<◌, ◌≤◌, ◌⊎◌, inl, inr, Bool, true, false, cond, List, [], ◌∷◌, ◌++◌, length, get_or, Option, Some, None, refl, sym, ap, ◌∙◌, subst, arith}
+use Rattle.std.specs.Prelude.{Contains, All, slice_get, IfSome, ◌==◌, ◌&&◌, IsTrue}
+use Rattle.std.specs.List.{list_all, slice_split, onto_first, join_with_byte}
+use Rattle.std.proofs.lemmas.Bool.{false≢true, and_parts, and_from, cases_Bool, eqb-true}
+use Rattle.std.proofs.lemmas.List.{append_assoc}
+use Rattle.std.proofs.lemmas.List.Elements.{All-contains}
+use Rattle.std.proofs.lemmas.List.Folds.{list_all-append}
+use Rattle.std.proofs.lemmas.List.Splits.{join_with_byte-slice_split}
+use Rattle.std.proofs.lemmas.Option.{slice_get_within, get_or_from_slice_get}
+use Rattle.mrpc_table.specs.Names.{is_name_start, is_name_byte, is_name_form, parts_of, is_full_form}
+use Rattle.proto_file.specs.Dot.{dot}
+use Rattle.proto_file.specs.Order.{IsFormed, IsFormedMessage, HasFullName}
+use Rattle.proto_file.specs.declared.file.Word.{Word}
+use Rattle.proto_file.specs.declared.file.MessageDecl.{MessageDecl}
+use Rattle.proto_file.specs.declared.file.File.{File}
+use Rattle.schema_names.specs.Scopes.{text_of, package_parts, package_of, IsScope, of_file, of_message}
+use Rattle.schema_resolve.specs.Placing.{behind}
+
+-- ---- names without dots
+
+abbrev pub AreNames : List (List ℕ) → Type 0
+AreNames names = list_all is_name_form names ≡ true
+
+abbrev HasNoDot : List ℕ → Type 0
+HasNoDot [] = Unit {0}
+HasNoDot (c ∷ cs) = ((c == dot) ≡ false) × HasNoDot cs
+
+byte_no_dot : (c : ℕ) → is_name_byte c ≡ true → (c == dot) ≡ false
+byte_no_dot c e = elim (cases_Bool (c == dot)) [
+  | inl t ↦ absurd (false≢true (subst (λ (b : ℕ). is_name_byte b ≡ true) (eqb-true c dot t) e))
+  | inr f ↦ f
+]
+
+start_no_dot : (c : ℕ) → is_name_start c ≡ true → (c == dot) ≡ false
+start_no_dot c e = elim (cases_Bool (c == dot)) [
+  | inl t ↦ absurd (false≢true (subst (λ (b : ℕ). is_name_start b ≡ true) (eqb-true c dot t) e))
+  | inr f ↦ f
+]
+
+bytes_no_dot : (cs : List ℕ) → list_all is_name_byte cs ≡ true → HasNoDot cs
+bytes_no_dot [] e = tt
+bytes_no_dot (c ∷ cs) e =
+    let p = and_parts (is_name_byte c) (list_all is_name_byte cs) e in
+    (byte_no_dot c p.0, bytes_no_dot cs p.1)
+
+name_no_dot : (name : List ℕ) → is_name_form name ≡ true → HasNoDot name
+name_no_dot [] e = absurd (false≢true e)
+name_no_dot (c ∷ cs) e =
+    let p = and_parts (is_name_start c) (list_all is_name_byte cs) e in
+    (start_no_dot c p.0, bytes_no_dot cs p.1)
+
+-- ---- cutting what was joined
+
+cut_at : (c : ℕ) (ps : List (List ℕ)) (b : Bool) → b ≡ false → cond b ([] ∷ ps) (onto_first c ps) ≡ onto_first c ps
+cut_at c ps true e = absurd (false≢true (sym e))
+cut_at c ps false e = refl
+
+parts_one : (name : List ℕ) → HasNoDot name → parts_of name ≡ name ∷ []
+parts_one [] h = refl
+parts_one (c ∷ cs) h = cut_at c (parts_of cs) (c == dot) h.0 ∙ ap (onto_first c) (parts_one cs h.1)
+
+parts_more : (name rest : List ℕ) → HasNoDot name → parts_of (name ++ dot ∷ rest) ≡ name ∷ parts_of rest
+parts_more [] rest h = refl
+parts_more (c ∷ cs) rest h =
+    cut_at c (parts_of (cs ++ dot ∷ rest)) (c == dot) h.0 ∙ ap (onto_first c) (parts_more cs rest h.1)
+
+-- a full name's parts are those of its text
+pub parts_of_text : (name : List ℕ) (names : List (List ℕ)) → AreNames (name ∷ names)
+    → parts_of (text_of (name ∷ names)) ≡ name ∷ names
+parts_of_text name [] h =
+    parts_one name (name_no_dot name (and_parts (is_name_form name) true h).0)
+parts_of_text name (other ∷ names) h =
+    let p = and_parts (is_name_form name) (list_all is_name_form (other ∷ names)) h in
+    parts_more name (text_of (other ∷ names)) (name_no_dot name p.0)
+    ∙ ap (λ (ns : List (List ℕ)). name ∷ ns) (parts_of_text other names p.1)
+
+pub text_some : (name : List ℕ) (names : List (List ℕ)) → AreNames (name ∷ names)
+    → (c : ℕ) × (cs : List ℕ) × (text_of (name ∷ names) ≡ c ∷ cs)
+text_some [] names h = absurd (false≢true (and_parts false (list_all is_name_form names) h).0)
+text_some (c ∷ cs) [] h = (c, cs, refl)
+text_some (c ∷ cs) (other ∷ names) h = (c, cs ++ dot ∷ text_of (other ∷ names), refl)
+
+-- full names of one text are equal
+pub same_text : (f g : List (List ℕ)) → AreNames f → AreNames g → text_of f ≡ text_of g → f ≡ g
+same_text [] [] p q e = refl
+same_text [] (y ∷ ys) p q e = let s = text_some y ys q in let f : [] ≡ s.0 ∷ s.1 = e ∙ s.2 in cc
+same_text (x ∷ xs) [] p q e = let s = text_some x xs p in let f : [] ≡ s.0 ∷ s.1 = sym e ∙ s.2 in cc
+same_text (x ∷ xs) (y ∷ ys) p q e = sym (parts_of_text x xs p) ∙ ap parts_of e ∙ parts_of_text y ys q
+
+-- ---- a name behind a full name
+
+join_more : (x : List ℕ) (xs : List (List ℕ)) (name : List ℕ)
+    → text_of (x ∷ xs ++ name ∷ []) ≡ text_of (x ∷ xs) ++ dot ∷ name
+join_more x [] name = refl
+join_more x (y ∷ ys) name =
+    ap (λ (t : List ℕ). x ++ dot ∷ t) (join_more y ys name)
+    ∙ sym (append_assoc x (dot ∷ text_of (y ∷ ys)) (dot ∷ name))
+
+behind_some : (text name : List ℕ) (c : ℕ) (cs : List ℕ) → text ≡ c ∷ cs → behind text name ≡ text ++ dot ∷ name
+behind_some text name c cs e =
+    subst (λ (t : List ℕ). behind t name ≡ t ++ dot ∷ name) (sym e) refl
+
+pub behind_text : (outer : List (List ℕ)) (name : List ℕ) → AreNames outer
+    → behind (text_of outer) name ≡ text_of (outer ++ name ∷ [])
+behind_text [] name h = refl
+behind_text (x ∷ xs) name h =
+    let s = text_some x xs h in
+    behind_some (text_of (x ∷ xs)) name s.0 s.1 s.2 ∙ sym (join_more x xs name)
+
+-- ---- the names of scopes
+
+pub names_more : (outer : List (List ℕ)) (name : List ℕ) → AreNames outer → IsTrue (is_name_form name)
+    → AreNames (outer ++ name ∷ [])
+names_more outer name h n =
+    list_all-append is_name_form outer (name ∷ [])
+    ∙ and_from (list_all is_name_form outer) (list_all is_name_form (name ∷ [])) h (and_from (is_name_form name) true n refl)
+
+package_names_at : (word : Option Word) → IfSome word HasFullName → AreNames (package_parts word)
+package_names_at None h = refl
+package_names_at (Some w) h = h
+
+pub package_names : (F : File) → IsFormed F → AreNames (package_of F)
+package_names F formed = package_names_at F.package formed.package_name
+
+pub message_formed : (F : File) (i : ℕ) (m : MessageDecl) → IsFormed F → slice_get F.messages i ≡ Some m
+    → IsFormedMessage m
+message_formed F i m formed at =
+    All-contains IsFormedMessage F.messages m formed.messages
+    (i, slice_get_within F.messages i m at, get_or_from_slice_get F.messages i m m at)
+
+pub scope_names : {F : File} {place : Option ℕ} {scope : List (List ℕ)} → IsFormed F → IsScope F place scope
+    → AreNames scope
+scope_names {F} formed of_file = package_names F formed
+scope_names {F} formed (of_message i m {outer} at up) =
+    names_more outer m.name.name (scope_names formed up) (message_formed F i m formed at).name
+
+package_text_at : (word : Option Word) (name : List ℕ) → word ≡ None → name ≡ [] → name ≡ text_of (package_parts word)
+package_text_at None name e f = f
+package_text_at (Some w) name e f = absurd cc
+
+pub no_package : (F : File) (name : List ℕ) → F.package ≡ None → name ≡ [] → name ≡ text_of (package_of F)
+no_package F name e f = package_text_at F.package name e f
+
+pub a_package : (F : File) (w : Word) (name : List ℕ) → F.package ≡ Some w → name ≡ w.name
+    → name ≡ text_of (package_of F)
+a_package F w name e f =
+    subst (λ (p : Option Word). name ≡ text_of (package_parts p)) (sym e)
+    (f ∙ sym (join_with_byte-slice_split dot w.name))

@@ -1,0 +1,14 @@
+mod CleanFiles
+mod EnumTables
+mod FieldTables
+mod FullNames
+mod KindWords
+mod Making
+mod MessageTables
+mod MethodTables
+mod OneTable
+mod OneofTables
+mod Orders
+mod TableParts
+mod TextLines
+mod TextParts

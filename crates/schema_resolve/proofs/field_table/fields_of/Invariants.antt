@@ -1,0 +1,6 @@
+use Rattle.std.proofs.Common.{take}
+use Rattle.schema_resolve.specs.Judged.{AreJudgedInOrder}
+use Rattle.schema_resolve.proofs.field_table.fields_of.Given as goal
+
+abbrev pub invariant-loop-i : goal.invariant-loop-i
+invariant-loop-i l = AreJudgedInOrder l.scopes l.place (take l.i l.message.fields) l.fields.items

@@ -1,0 +1,29 @@
+use Rattle.std.proofs.Common.{◌≡◌, ◌<◌, length, List, ℕ, ◌++◌, ◌∷◌, []}
+use Rattle.std.specs.Prelude.{Some}
+use Rattle.std.proofs.lemmas.Option.{slice_get_within}
+use Rattle.schema_names.specs.Scopes.{IsScope}
+use Rattle.schema_resolve.proofs.CleanFiles.{scope_at}
+use Rattle.schema_resolve.proofs.FieldTables.{has_form, has_number}
+use Rattle.schema_resolve.proofs.field_table.judge_field.Goals as goal
+
+pub form_of-requires : goal.form_of-requires
+form_of-requires c =
+    slice_get_within c.args.scopes.now.messages c.args.place c.requires.stands.message c.requires.stands.at
+
+pub unreachable-requires : goal.unreachable-requires
+unreachable-requires c =
+    let F = c.args.scopes.now in
+    let s = c.requires.stands in
+    let l : c.args.place < length F.messages = slice_get_within F.messages c.args.place s.message s.at in
+    let scope = scope_at c.requires.formed c.args.place l in
+    has_number F c.args.place s.message scope.0 c.args.decl.now c.requires.clean s.at scope.1 s.field
+    c.in_default.ensures
+
+pub unreachable-requires-in_default-form_of : goal.unreachable-requires-in_default-form_of
+unreachable-requires-in_default-form_of c =
+    let F = c.args.scopes.now in
+    let s = c.requires.stands in
+    let l : c.args.place < length F.messages = slice_get_within F.messages c.args.place s.message s.at in
+    let scope = scope_at c.requires.formed c.args.place l in
+    has_form F c.args.place s.message scope.0 c.args.decl.now c.requires.clean s.at scope.1 s.field
+    (let e = c.in_default-form_of.ensures in e scope.0 scope.1)

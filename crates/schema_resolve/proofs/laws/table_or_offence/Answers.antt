@@ -1,0 +1,4 @@
+use Rattle.schema_resolve.proofs.laws.table_or_offence.Goals as goal
+
+pub returns : goal.returns
+returns c = record { not_both = λ F T q s resolves has. resolves.clean q s has.offence }

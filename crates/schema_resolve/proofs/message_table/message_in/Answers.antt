@@ -1,0 +1,126 @@
+use Rattle.std.proofs.Common.{◌≡◌, ◌∙◌, ◌<◌, ◌≤◌, ◌+◌, refl, sym, ap, subst, ℕ, List, length, arith, take, get_or, vec_len, rules, []}
+use Rattle.std.specs.Prelude.{slice_get, Some, Contains}
+use Rattle.std.proofs.lemmas.Option.{slice_get_read}
+use Rattle.std.proofs.lemmas.List.{get_or_default, take_all}
+use Rattle.proto_file.specs.Order.{IsPlaceBelow}
+use Rattle.proto_file.specs.declared.file.Word.{Word}
+use Rattle.proto_file.specs.declared.file.MessageDecl.{MessageDecl}
+use Rattle.schema_resolve.specs.Judged.{IsJudged, AreJudged}
+use Rattle.schema_resolve.specs.Joining.{AreMade}
+use Rattle.schema_resolve.specs.declared.field_table.Judged.{Judged}
+use Rattle.proto_file.specs.declared.file.File.{File}
+use Rattle.schema_resolve.specs.Resolving.{IsClean}
+use Rattle.schema_resolve.proofs.CleanFiles.{item_at, in_list}
+use Rattle.schema_resolve.proofs.MessageTables.{made_none, made_more, judged_plain, judged_known, judged_oneof, few_fields, message_at}
+use Rattle.schema_resolve.proofs.message_table.message_in.Goals as goal
+
+pub by_number-requires-clause-clean : goal.by_number-requires-clause-clean
+by_number-requires-clause-clean c = subst IsClean (sym c.requires.scopes) c.requires.clean
+
+pub by_number-requires-clause-here : goal.by_number-requires-clause-here
+by_number-requires-clause-here c =
+    let m = c.index-as_slice-place.result in
+    let P : File → Type 0 = λ F. slice_get F.messages c.args.place ≡ Some m in
+    subst P (sym c.requires.scopes)
+    (item_at c.as_slice.result.now c.args.file.now.messages c.args.place m c.as_slice.ensures c.requires.within
+    c.index-as_slice-place.is)
+
+pub loop-i-init : goal.loop-i-init
+loop-i-init c = made_none _ _ _ _ c.in_ok-oneofs.ensures.keeps c.in_ok-oneofs.ensures.none c.in_ok-fields.ensures
+
+-- the field that the loop reads
+pub record Read (F : File) (place : ℕ) (m : MessageDecl) (js : List Judged) (i : ℕ) (j : Judged) : Type 0 where
+  pub at : slice_get js i ≡ Some j
+  pub is : IsJudged F place j.decl.now j
+  pub inside : Contains m.fields j.decl.now
+
+read : (F : File) (place : ℕ) (m : MessageDecl) (js : List Judged) (i : ℕ) (j : Judged) → AreJudged F place m js
+    → i < length js → j ≡ get_or js i j → Read F place m js i j
+read F place m js i j all l e =
+    let at : slice_get js i ≡ Some j = slice_get_read js (length js) i j refl l e in
+    let h = all.each j (in_list js i j at) in
+    record { at = at; is = h.0; inside = h.1 }
+
+pub field_in-requires-clause-oneof : goal.field_in-requires-clause-oneof
+field_in-requires-clause-oneof c =
+    let F = c.args.file.now in
+    let place = c.args.place in
+    let m = c.index-as_slice-place.result in
+    let js = c.in_ok-sorted.sorted.items in
+    let at = item_at c.as_slice.result.now F.messages place m c.as_slice.ensures c.requires.within c.index-as_slice-place.is in
+    let P : File → Type 0 = λ G. AreJudged G place m js in
+    let all : AreJudged F place m js = subst P c.requires.scopes c.in_ok-sorted.ensures in
+    let j = c.index.result.now in
+    let same : vec_len c.in_ok-sorted.sorted ≡ length js = search rules in
+    let l : c.loop-i.i < length js = omega (arith, c.len-i-end.ensures) in
+    let r = read F place m js c.loop-i.i j all l c.index.ensures in
+    let Q : List Word → Type 0 = λ ws. IsPlaceBelow (length ws) j.decl.now.oneof in
+    subst Q (sym c.as_slice-words.ensures) (judged_oneof F place m j.decl.now c.requires.formed at r.inside)
+
+pub field_in-requires-clause-few : goal.field_in-requires-clause-few
+field_in-requires-clause-few c =
+    let F = c.args.file.now in
+    let place = c.args.place in
+    let m = c.index-as_slice-place.result in
+    let js = c.in_ok-sorted.sorted.items in
+    let at = item_at c.as_slice.result.now F.messages place m c.as_slice.ensures c.requires.within c.index-as_slice-place.is in
+    let P : File → Type 0 = λ G. AreJudged G place m js in
+    let all : AreJudged F place m js = subst P c.requires.scopes c.in_ok-sorted.ensures in
+    let j = c.index.result.now in
+    let same : vec_len c.in_ok-sorted.sorted ≡ length js = search rules in
+    let l : c.loop-i.i < length js = omega (arith, c.len-i-end.ensures) in
+    let r = read F place m js c.loop-i.i j all l c.index.ensures in
+    omega (arith, few_fields F place m c.requires.formed c.requires.clean at, all.count, c.loop-i.invariant.1)
+
+pub field_in-requires-clause-known : goal.field_in-requires-clause-known
+field_in-requires-clause-known c =
+    let F = c.args.file.now in
+    let place = c.args.place in
+    let m = c.index-as_slice-place.result in
+    let js = c.in_ok-sorted.sorted.items in
+    let at = item_at c.as_slice.result.now F.messages place m c.as_slice.ensures c.requires.within c.index-as_slice-place.is in
+    let P : File → Type 0 = λ G. AreJudged G place m js in
+    let all : AreJudged F place m js = subst P c.requires.scopes c.in_ok-sorted.ensures in
+    let j = c.index.result.now in
+    let same : vec_len c.in_ok-sorted.sorted ≡ length js = search rules in
+    let l : c.loop-i.i < length js = omega (arith, c.len-i-end.ensures) in
+    let r = read F place m js c.loop-i.i j all l c.index.ensures in
+    judged_known F c.args.plan.now place j c.requires.formed c.requires.plan c.requires.within r.is
+
+pub loop-i-preserved : goal.loop-i-preserved
+loop-i-preserved c =
+    let F = c.args.file.now in
+    let place = c.args.place in
+    let m = c.index-as_slice-place.result in
+    let js = c.in_ok-sorted.sorted.items in
+    let at = item_at c.as_slice.result.now F.messages place m c.as_slice.ensures c.requires.within c.index-as_slice-place.is in
+    let P : File → Type 0 = λ G. AreJudged G place m js in
+    let all : AreJudged F place m js = subst P c.requires.scopes c.in_ok-sorted.ensures in
+    let j = c.index.result.now in
+    let same : vec_len c.in_ok-sorted.sorted ≡ length js = search rules in
+    let l : c.loop-i.i < length js = omega (arith, c.len-i-end.ensures) in
+    let r = read F place m js c.loop-i.i j all l c.index.ensures in
+    made_more c.args.plan.now c.as_slice-words.result.now js c.loop-i.i j c.loop-i.oneofs c.field_in.new.oneofs
+    c.in_ok-field.field c.loop-i.fields c.push.new.self r.at
+    (judged_plain F place j c.requires.formed c.requires.within r.is) c.in_ok-field.ensures c.in_ok-push.ensures.ok
+    c.loop-i.invariant.0 c.loop-i.invariant.1
+
+pub returns : goal.returns
+returns c =
+    let F = c.args.file.now in
+    let place = c.args.place in
+    let m = c.index-as_slice-place.result in
+    let js = c.in_ok-sorted.sorted.items in
+    let at = item_at c.as_slice.result.now F.messages place m c.as_slice.ensures c.requires.within c.index-as_slice-place.is in
+    let P : File → Type 0 = λ G. AreJudged G place m js in
+    let all : AreJudged F place m js = subst P c.requires.scopes c.in_ok-sorted.ensures in
+    let same : vec_len c.in_ok-sorted.sorted ≡ length js = search rules in
+    let end : length js ≤ c.loop-i.i = omega (arith, c.len-i-end.ensures) in
+    let Q : List Word → Type 0 = λ ws. AreMade c.args.plan.now ws (take c.loop-i.i js) c.loop-i.oneofs c.loop-i.fields in
+    let R : List Judged → Type 0 = λ xs. AreMade c.args.plan.now m.oneofs xs c.loop-i.oneofs c.loop-i.fields in
+    let names = c.args.plan.now.messages.names.items in
+    let l : place < length names = omega (arith, c.requires.plan.all_messages, c.requires.within) in
+    message_at F c.args.plan.now place m js c.loop-i.oneofs c.loop-i.fields c.in_ok-copied.field-0 c.requires.formed
+    c.requires.ordered c.requires.clean c.requires.plan at all
+    (subst R (take_all c.loop-i.i js end) (subst Q c.as_slice-words.ensures c.loop-i.invariant.0))
+    (c.in_ok-copied.ensures ∙ c.index-2.ensures ∙ get_or_default names place c.index-2.result.now [] l)

@@ -1,0 +1,9 @@
+use Rattle.std.proofs.Common.{ℕ, List}
+use Rattle.std.proofs.lemmas.Result.{IfOk-weaker}
+use Rattle.schema_resolve.proofs.FullNames.{no_package, a_package}
+use Rattle.schema_resolve.proofs.plan.front_name.Goals as goal
+
+pub returns-in-Some : goal.returns-in-Some
+returns-in-Some c =
+    IfOk-weaker c.copied.result _ _ (λ name is. a_package c.args.file.now c.in-Some.package name c.in-Some.is is)
+    c.copied.ensures

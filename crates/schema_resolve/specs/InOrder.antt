@@ -1,0 +1,56 @@
+-- The values of enums and the methods of services, as a table has them.
+use Rattle.std.specs.Prelude.{◌≡◌, ℕ, ℤ, ◌<◌, List, [], ◌∷◌, length, map, slice_get, Some}
+use Rattle.std.specs.Borrow.{Bor}
+use Rattle.mrpc_table.specs.Valid.{Ascends, AreDistinct, IsValueBelow, IsEnum, IsMethod}
+use Rattle.mrpc_table.specs.Text.{message_name}
+use Rattle.mrpc_table.specs.declared.table.Choices.{Choices}
+use Rattle.mrpc_table.specs.declared.table.Method.{Method}
+use Rattle.mrpc_table.specs.declared.table.Table.{Table}
+use Rattle.proto_file.specs.declared.file.ValueDecl.{ValueDecl}
+use Rattle.proto_file.specs.declared.file.EnumDecl.{EnumDecl}
+use Rattle.proto_file.specs.declared.file.RpcDecl.{RpcDecl}
+use Rattle.proto_file.specs.declared.file.ServiceDecl.{ServiceDecl}
+use Rattle.proto_file.specs.declared.file.File.{File}
+use Rattle.schema_names.specs.Scopes.{Names, a_message, package_of, text_of}
+use Rattle.schema_offences.specs.Sources.{alone}
+use Rattle.schema_offences.specs.Types.{value_of}
+use Rattle.schema_offences.specs.Those.{AreThose, AreThoseInOrder}
+use Rattle.schema_resolve.specs.Tables.{IsValueOf, IsEnumOf, IsMethodOf}
+use Rattle.schema_resolve.specs.Placing.{name_at, HasNames}
+use Rattle.schema_resolve.specs.declared.plan.Plan.{Plan}
+
+-- a value's number and name
+abbrev pub value_in : ValueDecl → ℤ × List ℕ
+value_in v = (value_of v.number, v.name.name)
+
+abbrev pub value_pair : ℤ × Bor (List ℕ) → ℤ × List ℕ
+value_pair v = (v.0, v.1.now)
+
+-- values by ascending number, then name
+pub record AreValues (decls : List ValueDecl) (values : List (ℤ × List ℕ)) : Type 0 where
+  pub count : length values ≡ length decls
+  pub those : AreThose IsValueOf decls values
+  pub ascend : Ascends IsValueBelow values
+  pub distinct : AreDistinct (map (λ v. v.1) values)
+
+-- the enum at a place of a file
+pub record IsEnumAt (F : File) (p : Plan) (i : ℕ) (c : Choices) : Type 0 where
+  pub is : (e : EnumDecl) → slice_get F.enums i ≡ Some e → IsEnumOf (alone F, e) c
+  pub valid : IsEnum c
+  pub name : c.name ≡ name_at p.enums.names.items i
+
+-- an rpc's type names the message at this place of a table
+pub record IsPlaceNamed (F : File) (T : Table) (name : List ℕ) (place : ℕ) : Type 0 where
+  pub full : List (List ℕ)
+  pub names : Names (F ∷ []) (package_of F) name a_message full
+  pub is : message_name T place ≡ text_of full
+  pub within : place < length T.messages
+
+-- a method of a file
+pub record IsMethodIn (F : File) (T : Table) (p : ServiceDecl × RpcDecl) (t : Method) : Type 0 where
+  pub is : IsMethodOf T (alone F, p) t
+  pub valid : IsMethod T t
+
+-- methods in the order of a file's, where messages have these names
+pub record AreMethods (F : File) (p : Plan) (done : List (ServiceDecl × RpcDecl)) (ms : List Method) : Type 0 where
+  pub each : (T : Table) → HasNames p T → AreThoseInOrder (IsMethodIn F T) done ms

@@ -1,0 +1,92 @@
+-- The oneofs of a message by the order in which they are met, and fields with them.
+use Rattle.std.specs.Prelude.{◌≡◌, ◌⊎◌, ℕ, ◌<◌, List, [], ◌∷◌, ◌++◌, length, take, slice_get, slice_index_or, Option, Some, None}
+use Rattle.mrpc_table.specs.Valid.{IsMessage, OneofsFollow}
+use Rattle.mrpc_table.specs.declared.table.Kind.{Kind}
+use Rattle.mrpc_table.specs.declared.table.Kind.TheVariants as kinds
+use Rattle.mrpc_table.specs.declared.table.Label.{Label}
+use Rattle.mrpc_table.specs.declared.table.Label.TheVariants.{Member}
+use Rattle.mrpc_table.specs.declared.table.Field.{Field}
+use Rattle.mrpc_table.specs.declared.table.Message.{Message}
+use Rattle.mrpc_table.specs.declared.table.Table.{Table}
+use Rattle.proto_file.specs.declared.file.Word.{Word}
+use Rattle.proto_file.specs.declared.file.MessageDecl.{MessageDecl}
+use Rattle.proto_file.specs.declared.file.File.{File}
+use Rattle.schema_names.specs.declared.named.Named.TheVariants as named
+use Rattle.schema_offences.specs.Sources.{alone}
+use Rattle.schema_offences.specs.Those.{AreThoseInOrder}
+use Rattle.schema_offences.specs.declared.types.TypeOf.{TypeOf}
+use Rattle.schema_offences.specs.declared.types.TypeOf.TheVariants.{Scalar, Named}
+use Rattle.schema_resolve.specs.Tables.{IsMessageOf}
+use Rattle.schema_resolve.specs.Placing.{name_at, HasNames}
+use Rattle.schema_resolve.specs.declared.plan.Plan.{Plan}
+use Rattle.schema_resolve.specs.declared.field_table.Judged.{Judged}
+use Rattle.schema_resolve.specs.declared.oneof_table.Oneofs.{Oneofs}
+
+-- none has a place
+pub record AreUnplaced (count : ℕ) (places : List (Option ℕ)) : Type 0 where
+  pub count_is : length places ≡ count
+  pub none : (i : ℕ) (place : Option ℕ) → slice_get places i ≡ Some place → place ≡ None
+
+pub record IsPlacedOneof (words : List Word) (names : List (List ℕ)) (i p : ℕ) : Type 0 where
+  pub word : Word
+  pub at : slice_get words i ≡ Some word
+  pub named : slice_get names p ≡ Some word.name
+
+-- the names are those of the oneofs that have places, by their places
+pub record KeepsOneofs (words : List Word) (o : Oneofs) : Type 0 where
+  pub count : length o.places.items ≡ length words
+  pub placed : (i p : ℕ) → slice_get o.places.items i ≡ Some (Some p) → IsPlacedOneof words o.names i p
+  pub met : (p : ℕ) → p < length o.names → (i : ℕ) × (slice_get o.places.items i ≡ Some (Some p))
+
+-- a oneof has this place; it was met before, or is the next one
+pub data HasPlace (names more : List (List ℕ)) (p : ℕ) : Type 0 where
+  met_before : p < length names → more ≡ names → HasPlace names more p
+  next_one : (name : List ℕ) → p ≡ length names → more ≡ names ++ name ∷ [] → HasPlace names more p
+
+-- the label of a field, before and after which these are the oneofs
+abbrev pub IsLabelled : List Word → Option ℕ → Label → Oneofs → Oneofs → Label → Type 0
+IsLabelled words None form old new label = (label ≡ form) × (new.names ≡ old.names)
+IsLabelled words (Some i) form old new label =
+    (p : ℕ) × (label ≡ Member p) × HasPlace old.names new.names p × IsPlacedOneof words new.names i p
+
+abbrev pub kind_in : Plan → TypeOf → Kind
+kind_in p (Scalar k) = k
+kind_in p (Named (named.Message i)) = kinds.Message (slice_index_or p.messages.places.items i 0)
+kind_in p (Named (named.Enum i)) = kinds.Choice (slice_index_or p.enums.places.items i 0)
+
+abbrev pub IsInPlan : Plan → TypeOf → Type 0
+IsInPlan p (Scalar k) = Unit {0}
+IsInPlan p (Named (named.Message i)) = i < length p.messages.places.items
+IsInPlan p (Named (named.Enum i)) = i < length p.enums.places.items
+
+-- a field of a table, where its message has these oneofs
+abbrev pub IsLabelOf : List Word → List (List ℕ) → Option ℕ → Label → Label → Type 0
+IsLabelOf words names None form label = label ≡ form
+IsLabelOf words names (Some i) form label = (p : ℕ) × (label ≡ Member p) × IsPlacedOneof words names i p
+
+pub record IsMade (plan : Plan) (words : List Word) (names : List (List ℕ)) (j : Judged) (g : Field) : Type 0 where
+  pub number_is : g.number ≡ j.number
+  pub name_is : g.name ≡ j.decl.now.name.name
+  pub kind_is : g.kind ≡ kind_in plan j.form.type_of
+  pub label_is : IsLabelOf words names j.decl.now.oneof j.form.label g.label
+
+-- the first fields of a message
+pub record AreMade (plan : Plan) (words : List Word) (js : List Judged) (o : Oneofs) (gs : List Field) : Type 0 where
+  pub keeps : KeepsOneofs words o
+  pub made : AreThoseInOrder (IsMade plan words o.names) js gs
+  pub follow : OneofsFollow 0 (length o.names) gs
+
+-- a field with its label, before and after which these are the oneofs
+pub record IsNextField (plan : Plan) (words : List Word) (j : Judged) (old new : Oneofs) (g : Field) : Type 0 where
+  pub keeps : KeepsOneofs words new
+  pub number_is : g.number ≡ j.number
+  pub name_is : g.name ≡ j.decl.now.name.name
+  pub kind_is : g.kind ≡ kind_in plan j.form.type_of
+  pub label_is : IsLabelled words j.decl.now.oneof j.form.label old new g.label
+
+-- the message at a place of a file
+pub record IsMessageAt (F : File) (p : Plan) (i : ℕ) (t : Message) : Type 0 where
+  pub is : (T : Table) → HasNames p T → (m : MessageDecl) → slice_get F.messages i ≡ Some m
+      → IsMessageOf T (alone F, m) t
+  pub valid : (T : Table) → HasNames p T → IsMessage T t
+  pub name : t.name ≡ name_at p.messages.names.items i

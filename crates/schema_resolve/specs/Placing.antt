@@ -1,0 +1,72 @@
+-- At which places of a table the names of a file's messages and enums stand.
+use Rattle.std.specs.Prelude.{◌≡◌, ℕ, ◌<◌, List, [], ◌∷◌, ◌++◌, length, map, slice_get, slice_index_or, Option, Some, None, All, Contains}
+use Rattle.mrpc_table.specs.Valid.{Ascends, IsBelow}
+use Rattle.mrpc_table.specs.declared.table.Table.{Table}
+use Rattle.proto_file.specs.Dot.{dot}
+use Rattle.proto_file.specs.declared.file.EnumDecl.{EnumDecl}
+use Rattle.proto_file.specs.declared.file.File.{File}
+use Rattle.schema_names.specs.Scopes.{IsScope, text_of, package_of}
+use Rattle.schema_resolve.specs.declared.placed.Placed.{Placed}
+use Rattle.schema_resolve.specs.declared.plan.Plan.{Plan}
+
+-- a name behind the full name of what it stands in, which is empty where there is none
+abbrev pub behind : List ℕ → List ℕ → List ℕ
+behind [] name = name
+behind (c ∷ cs) name = (c ∷ cs) ++ dot ∷ name
+
+abbrev pub name_at : List (List ℕ) → ℕ → List ℕ
+name_at names i = slice_index_or names i []
+
+-- the full name of the file's package, or of a message
+abbrev pub front_of : List ℕ → List (List ℕ) → Option ℕ → List ℕ
+front_of front names None = front
+front_of front names (Some i) = name_at names i
+
+-- all names by ascending name
+pub record IsOrder (names : List (List ℕ)) (order : List ℕ) : Type 0 where
+  pub count : length order ≡ length names
+  pub within : All (λ i. i < length names) order
+  pub each : (i : ℕ) → i < length names → Contains order i
+  pub ascend : Ascends (λ i j. IsBelow (name_at names i) (name_at names j)) order
+
+-- each number below the length stands in it once
+pub record AreAll (order : List ℕ) : Type 0 where
+  pub within : All (λ i. i < length order) order
+  pub once : (j k i : ℕ) → slice_get order j ≡ Some i → slice_get order k ≡ Some i → j ≡ k
+
+-- where each one stands in an order
+pub record ArePlaces (order places : List ℕ) : Type 0 where
+  pub count : length places ≡ length order
+  pub back : (place i : ℕ) → slice_get order place ≡ Some i → slice_get places i ≡ Some place
+
+-- names are kept with their order and places
+pub record IsPlaced (names : List (List ℕ)) (p : Placed) : Type 0 where
+  pub kept : p.names.items ≡ names
+  pub order : IsOrder names p.order.items
+  pub places : ArePlaces p.order.items p.places.items
+
+-- the full names of the first messages and of the first enums
+pub record AreMessageNames (F : File) (names : List (List ℕ)) : Type 0 where
+  pub each : (i : ℕ) (full : List (List ℕ)) → i < length names → IsScope F (Some i) full
+      → slice_get names i ≡ Some (text_of full)
+
+pub record AreEnumNames (F : File) (names : List (List ℕ)) : Type 0 where
+  pub each : (i : ℕ) (e : EnumDecl) (outer : List (List ℕ)) → i < length names → slice_get F.enums i ≡ Some e
+      → IsScope F e.parent outer → slice_get names i ≡ Some (text_of (outer ++ e.name.name ∷ []))
+
+pub record IsPlan (F : File) (p : Plan) : Type 0 where
+  pub front : p.front ≡ text_of (package_of F)
+  pub all_messages : length p.messages.names.items ≡ length F.messages
+  pub all_enums : length p.enums.names.items ≡ length F.enums
+  pub messages : AreMessageNames F p.messages.names.items
+  pub enums : AreEnumNames F p.enums.names.items
+  pub message_places : IsPlaced p.messages.names.items p.messages
+  pub enum_places : IsPlaced p.enums.names.items p.enums
+
+abbrev pub names_in_order : Placed → List (List ℕ)
+names_in_order p = map (name_at p.names.items) p.order.items
+
+-- a table's messages and enums have these names
+pub record HasNames (p : Plan) (T : Table) : Type 0 where
+  pub messages : map (λ m. m.name) T.messages ≡ names_in_order p.messages
+  pub enums : map (λ e. e.name) T.enums ≡ names_in_order p.enums

@@ -1,0 +1,84 @@
+//! The enums of a table.
+
+ghost use Rattle.std.specs.Prelude.{◌≡◌, ◌<◌, length, map, IfOk, All, FitsSigned};
+ghost use Rattle.std.specs.Int.{w32};
+ghost use Rattle.mrpc_table.specs.Valid.{AreDistinct};
+ghost use Rattle.proto_file.specs.Order.{IsFormed, IsOrdered};
+ghost use Rattle.schema_offences.specs.Types.{value_of};
+ghost use Rattle.schema_resolve.specs.Resolving.{IsClean};
+ghost use Rattle.schema_resolve.specs.Placing.{IsPlan};
+ghost use Rattle.schema_resolve.specs.InOrder.{value_in, value_pair, AreValues, IsEnumAt};
+
+use schema_offences::enum_number;
+use crate::plan::Plan;
+use mrpc_table::{ChoiceValues, Choices, Memory, Name, Sequence};
+use proto_file::{File, ValueDecl};
+use std::alloc::Global;
+
+// A number that 32 bits hold.
+fn number_of(value: &ValueDecl) -> i32
+    requires { FitsSigned w32 (value_of value.now.number) }
+    ensures { result ≡ value_of value.now.number }
+{
+    match enum_number(&value.number) {
+        Some(number) => number,
+        None => unreachable!(),
+    }
+}
+
+// Numbers and names in the order of the text.
+fn values_in<'a>(
+    alloc: Global,
+    decls: &'a [ValueDecl],
+) -> Result<Vec<(i32, &'a [u8])>, Memory>
+    requires { All (λ v. FitsSigned w32 (value_of v.number)) decls.now }
+    ensures { IfOk result (λ v. map value_pair v.items ≡ map value_in decls.now) }
+{
+    let mut values = Vec::with_capacity(alloc, decls.len())?;
+    for i in 0..decls.len() {
+        let decl = &decls[i];
+        values.push((number_of(decl), decl.name.name.as_slice()))?;
+    }
+    Ok(values)
+}
+
+// The same by ascending number, then name.
+fn sorted<'a>(alloc: Global, decls: &'a [ValueDecl]) -> Result<Vec<(i32, &'a [u8])>, Memory>
+    requires fits { All (λ v. FitsSigned w32 (value_of v.number)) decls.now }
+    requires distinct { AreDistinct (map (λ v. v.name.name) decls.now) }
+    ensures { IfOk result (λ v. AreValues decls.now (map value_pair v.items)) }
+{
+    let mut values = values_in(alloc, decls)?;
+    values.sort()?;
+    Ok(values)
+}
+
+fn copied(alloc: Global, values: &[(i32, &[u8])]) -> Result<ChoiceValues, Memory>
+    ensures { IfOk result (λ v. v ≡ map value_pair values.now) }
+{
+    let mut copies = Sequence::with_room(alloc, values.len())?;
+    for i in 0..values.len() {
+        let (number, text) = values[i];
+        let name = Name::from_slice(alloc, text)?;
+        copies.push((number, name))?;
+    }
+    Ok(copies)
+}
+
+/// The enum at a place of a file against which nothing stands.
+pub fn enum_in(alloc: Global, file: &File, plan: &Plan, place: usize) -> Result<Choices, Memory>
+    requires formed { IsFormed file.now }
+    requires ordered { IsOrdered file.now }
+    requires clean { IsClean file.now }
+    requires plan { IsPlan file.now plan.now }
+    requires within { place < length file.now.enums }
+    ensures { IfOk result (IsEnumAt file.now plan.now place) }
+{
+    let decl = &file.enums.as_slice()[place];
+    let sorted = sorted(alloc, decl.values.as_slice())?;
+    let values = copied(alloc, sorted.as_slice())?;
+    Ok(Choices {
+        name: plan.enums.names[place].copied(alloc)?,
+        values,
+    })
+}

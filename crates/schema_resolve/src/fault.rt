@@ -1,0 +1,49 @@
+//! Why a file has no table.
+
+ghost use Rattle.std.specs.Prelude.{◌≡◌};
+ghost use Rattle.schema_resolve.specs.declared.fault.ResolveFault.TheVariants.{Memory as NoMemory};
+
+use mrpc_table::Memory;
+use schema_offences::ResolveReason;
+use std::alloc::{AllocError, AllocFailed};
+use thiserror::Error;
+
+/// Why a file has no table.
+#[derive(Clone, Copy, Debug, PartialEq, Eq, Error)]
+pub enum ResolveFault {
+    /// The offence that starts first, with the place of its name or number and its line.
+    #[error("line {line}: {reason}")]
+    At {
+        reason: ResolveReason,
+        start: usize,
+        end: usize,
+        line: u64,
+    },
+    /// No memory was found.
+    #[error("out of memory")]
+    Memory,
+}
+
+impl From<Memory> for ResolveFault {
+    ghost from_gives = { λ _ e. e ≡ NoMemory };
+
+    fn from(_: Memory) -> ResolveFault {
+        ResolveFault::Memory
+    }
+}
+
+impl From<AllocError> for ResolveFault {
+    ghost from_gives = { λ _ e. e ≡ NoMemory };
+
+    fn from(_: AllocError) -> ResolveFault {
+        ResolveFault::Memory
+    }
+}
+
+impl<T: Drop> From<AllocFailed<T>> for ResolveFault {
+    ghost from_gives = { λ _ e. e ≡ NoMemory };
+
+    fn from(_: AllocFailed<T>) -> ResolveFault {
+        ResolveFault::Memory
+    }
+}

@@ -1,0 +1,75 @@
+//! The fields of messages with their numbers and forms, by ascending number.
+
+ghost use Rattle.std.specs.Prelude.{◌≡◌, IfOk, slice_get, Some};
+ghost use Rattle.proto_file.specs.Order.{IsFormed, IsOrdered};
+ghost use Rattle.schema_resolve.specs.Resolving.{IsClean};
+ghost use Rattle.schema_resolve.specs.Judged.{StandsIn, IsJudged, AreJudgedInOrder, AreJudged};
+
+use schema_offences::field_number;
+use schema_offences::{Form, form_of};
+use mrpc_table::Memory;
+use proto_file::{FieldDecl, MessageDecl};
+use schema_names::Scopes;
+use std::alloc::Global;
+
+/// A field with its number and its form.
+#[derive(Clone, Copy)]
+pub struct Judged<'a> {
+    pub number: u32,
+    pub form: Form,
+    pub decl: &'a FieldDecl,
+}
+
+// What a field of the message at a place is in the table.
+fn judge_field<'a>(scopes: &Scopes<'a>, place: usize, decl: &'a FieldDecl) -> Judged<'a>
+    requires formed { IsFormed scopes.now }
+    requires clean { IsClean scopes.now }
+    requires stands { StandsIn scopes.now place decl.now }
+    ensures { IsJudged scopes.now place decl.now result }
+{
+    let Some(number) = field_number(&decl.number) else {
+        unreachable!();
+    };
+    let Some(form) = form_of(scopes, place, decl) else {
+        unreachable!();
+    };
+    Judged { number, form, decl }
+}
+
+// The fields in the order of the text.
+fn fields_of<'a>(
+    alloc: Global,
+    scopes: &Scopes<'a>,
+    place: usize,
+    message: &'a MessageDecl,
+) -> Result<Vec<Judged<'a>>, Memory>
+    requires formed { IsFormed scopes.now }
+    requires clean { IsClean scopes.now }
+    requires here { slice_get scopes.now.messages place ≡ Some message.now }
+    ensures { IfOk result (λ v. AreJudgedInOrder scopes.now place message.now.fields v.items) }
+{
+    let decls = message.fields.as_slice();
+    let mut fields = Vec::with_capacity(alloc, decls.len())?;
+    for i in 0..decls.len() {
+        fields.push(judge_field(scopes, place, &decls[i]))?;
+    }
+    Ok(fields)
+}
+
+/// The fields of the message at a place by ascending number.
+pub fn by_number<'a>(
+    alloc: Global,
+    scopes: &Scopes<'a>,
+    place: usize,
+    message: &'a MessageDecl,
+) -> Result<Vec<Judged<'a>>, Memory>
+    requires formed { IsFormed scopes.now }
+    requires ordered { IsOrdered scopes.now }
+    requires clean { IsClean scopes.now }
+    requires here { slice_get scopes.now.messages place ≡ Some message.now }
+    ensures { IfOk result (λ v. AreJudged scopes.now place message.now v.items) }
+{
+    let mut fields = fields_of(alloc, scopes, place, message)?;
+    fields.sort_by_key(|field| field.number)?;
+    Ok(fields)
+}

@@ -1,0 +1,27 @@
+//! From what a proto file says to the table of its messages, enums and methods (Protocol Buffers, proto3 language
+//! guide), in this project's profile.
+//!
+//! [`resolve`] takes what `proto_schema` has read; `schema_offences` says what stands against it. `specs/Tables.antt`
+//! says what a table is of files. The layer above uses the contract of [`resolve`]: a table that it answers is the
+//! file's, and an offence is the file's first one.
+#![tactic(auto)]
+
+mod enum_table;
+mod fault;
+mod field_table;
+mod laws;
+mod message_table;
+mod method_table;
+mod one_table;
+mod oneof_table;
+mod placed;
+mod plan;
+mod resolve;
+mod table;
+
+pub use fault::ResolveFault;
+pub use laws::{one_offence, one_table, table_or_offence};
+pub use resolve::resolve;
+
+#[cfg(test)]
+mod tests;

@@ -1,0 +1,90 @@
+//! The table of a file against which nothing stands.
+
+ghost use Rattle.std.specs.Prelude.{◌≡◌, [], ◌∷◌, IfOk};
+ghost use Rattle.proto_file.specs.Order.{IsFormed, IsOrdered};
+ghost use Rattle.schema_offences.specs.Those.{AreThoseInOrder};
+ghost use Rattle.schema_offences.specs.Sources.{alone};
+ghost use Rattle.schema_resolve.specs.Tables.{IsTableOf};
+ghost use Rattle.schema_resolve.specs.Resolving.{IsClean};
+ghost use Rattle.schema_resolve.specs.Placing.{IsPlan};
+ghost use Rattle.schema_resolve.specs.InOrder.{IsEnumAt};
+ghost use Rattle.schema_resolve.specs.Joining.{IsMessageAt};
+ghost use Rattle.schema_resolve.specs.Making.{IsMadeTable};
+
+use crate::enum_table::enum_in;
+use crate::message_table::message_in;
+use crate::method_table::methods_in;
+use crate::plan::{Plan, plan_of};
+use mrpc_table::{Enums, Memory, Messages, Sequence, Table};
+use proto_file::File;
+use schema_names::Scopes;
+use std::alloc::Global;
+
+// The messages by ascending name.
+fn messages_in<'a>(
+    alloc: Global,
+    file: &'a File,
+    scopes: &Scopes<'a>,
+    plan: &Plan,
+) -> Result<Messages, Memory>
+    requires formed { IsFormed file.now }
+    requires ordered { IsOrdered file.now }
+    requires scopes { scopes.now ≡ file.now }
+    requires clean { IsClean file.now }
+    requires plan { IsPlan file.now plan.now }
+    ensures { IfOk result (AreThoseInOrder (IsMessageAt file.now plan.now) plan.now.messages.order.items) }
+{
+    let order = plan.messages.order.as_slice();
+    let mut messages = Sequence::with_room(alloc, order.len())?;
+    for i in 0..order.len() {
+        let message = message_in(alloc, file, scopes, plan, order[i])?;
+        messages.push(message)?;
+    }
+    Ok(messages)
+}
+
+// The enums by ascending name.
+fn enums_in(alloc: Global, file: &File, plan: &Plan) -> Result<Enums, Memory>
+    requires formed { IsFormed file.now }
+    requires ordered { IsOrdered file.now }
+    requires clean { IsClean file.now }
+    requires plan { IsPlan file.now plan.now }
+    ensures { IfOk result (AreThoseInOrder (IsEnumAt file.now plan.now) plan.now.enums.order.items) }
+{
+    let order = plan.enums.order.as_slice();
+    let mut enums = Sequence::with_room(alloc, order.len())?;
+    for i in 0..order.len() {
+        let choices = enum_in(alloc, file, plan, order[i])?;
+        enums.push(choices)?;
+    }
+    Ok(enums)
+}
+
+fn made_table<'a>(alloc: Global, file: &'a File, scopes: &Scopes<'a>) -> Result<Table, Memory>
+    requires formed { IsFormed file.now }
+    requires ordered { IsOrdered file.now }
+    requires scopes { scopes.now ≡ file.now }
+    requires clean { IsClean file.now }
+    ensures { IfOk result (IsMadeTable file.now) }
+{
+    let plan = plan_of(alloc, file)?;
+    let messages = messages_in(alloc, file, scopes, &plan)?;
+    let enums = enums_in(alloc, file, &plan)?;
+    let methods = methods_in(alloc, file, scopes, &plan)?;
+    Ok(Table {
+        messages,
+        enums,
+        methods,
+    })
+}
+
+/// The table of a file against which nothing stands.
+pub fn table_of<'a>(alloc: Global, file: &'a File, scopes: &Scopes<'a>) -> Result<Table, Memory>
+    requires formed { IsFormed file.now }
+    requires ordered { IsOrdered file.now }
+    requires scopes { scopes.now ≡ file.now }
+    requires clean { IsClean file.now }
+    ensures { IfOk result (λ t. IsTableOf (alone file.now ∷ []) t) }
+{
+    made_table(alloc, file, scopes)
+}
