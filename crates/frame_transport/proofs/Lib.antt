@@ -6,4 +6,5 @@ mod KeptFacts
 mod Advancing
 mod FaultFacts
 mod Splitting
+mod StandingFrames
 mod Rows

@@ -1,7 +1,8 @@
 //! Frames: how calls and replies stand on a byte stream, and how they're found in it however it is cut.
 //!
 //! [`frame`] writes the bytes of a frame, a [`ByteLink`] sends them over a sink, and a [`Feed`] takes a
-//! stream in any pieces and gives its frames. The format is this project's own: a header of 16 bytes
+//! stream in any pieces and gives its frames; [`frame_at`] reads the frame at the front of a stream that
+//! is there as a whole. The format is this project's own: a header of 16 bytes
 //! (the payload's length, the kind, the version, the method, the connection and the number, each
 //! number big-endian) and then the payload. It stands on `mrpc_base` for links and sinks, on
 //! `mrpc_table` for lists of bytes and on `byteorder` for the header's numbers. The layer above uses
@@ -21,6 +22,7 @@ mod handed;
 mod header;
 mod laws;
 mod split;
+mod standing;
 mod written;
 
 pub use byte_link::ByteLink;
@@ -28,4 +30,5 @@ pub use fault::FeedFault;
 pub use feed::Feed;
 pub use format::{Frame, HEADER_LEN, HELLO, HELLO_VERSION, MAX_PAYLOAD, REPLY, REQUEST, VERSION};
 pub use laws::{frames_join, one_frame, one_split};
+pub use standing::{FrameRef, frame_at};
 pub use written::{frame, hello_frame};

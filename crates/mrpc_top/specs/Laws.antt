@@ -10,7 +10,7 @@ use Rattle.table_text.specs.declared.fault.TableReason.{TableReason}
 use Rattle.wire_decode.specs.Means.{Means}
 use Rattle.wire_decode.specs.Faults.{IsFirstFault}
 use Rattle.wire_decode.specs.declared.fault.DecodeReason.{DecodeReason}
-use Rattle.frame_transport.specs.Frames.{SplitsOnce, FaultStays, EndsOnce, IsFrame, bytes_of, joined, StandFrom, IsPartial, IsFaultAt, Splits}
+use Rattle.frame_transport.specs.Frames.{SplitsOnce, EndsOnce, IsFrame, bytes_of, joined, StandFrom, IsPartial, IsFaultAt, Splits}
 use Rattle.frame_transport.specs.declared.format.Frame.{Frame}
 use Rattle.frame_transport.specs.declared.fault.FeedFault.{FeedFault}
 use Rattle.proto_file.specs.declared.file.File.{File}
@@ -36,7 +36,6 @@ pub record TextLaw : Type 0 where
 -- a stream splits in one way, and ends in one
 pub record FrameLaw : Type 0 where
   pub splits_once : SplitsOnce
-  pub fault_stays : FaultStays
   pub ends_once : EndsOnce
   pub one_frame : (f g : Frame) (more others : List ℕ) → IsFrame f → IsFrame g
       → bytes_of f ++ more ≡ bytes_of g ++ others

@@ -1,28 +1,28 @@
 //! Decoding a stream of frames: a line for each frame, up to the first fault.
 
-ghost use Rattle.std.specs.Prelude.{◌≡◌, ◌≢◌, ◌<◌, ◌+◌, ◌^◌, ◌++◌, [], List, ℕ, codes, length, OnOk, IfErr, Err};
+ghost use Rattle.std.specs.Prelude.{◌≡◌, ◌≢◌, ◌<◌, ◌^◌, ◌++◌, [], List, ℕ, length, drop, OnOk, IfOk, IfErr, Err};
 ghost use Rattle.std.specs.Io.KnownBytes.{Appends};
 ghost use Rattle.mrpc_base.specs.Faults.{HasCause};
 ghost use Rattle.mrpc_table.specs.Valid.{IsValid};
 ghost use Rattle.frame_transport.specs.Frames.{IsFrame};
-ghost use Rattle.frame_transport.specs.Feed.{total};
+ghost use Rattle.frame_transport.specs.Standing.{frame_of};
 ghost use Rattle.mrpc_top.specs.DecodeInput.{OnFault};
 ghost use Rattle.mrpc_top.specs.Decoding.{IsLineOf, IsFaultIn, IsFaultOfHeader, IsDecoded, IsCutAt, hello, hello_line, message_in, call_line};
-ghost use Rattle.mrpc_top.specs.Telling.{Gave, StopsIn, Tells};
+ghost use Rattle.mrpc_top.specs.Telling.{Tells};
 
 use crate::laws::frame_law;
 use call_ledger::{put_hex, put_number};
-use frame_transport::{Feed, FeedFault, Frame, HEADER_LEN, HELLO, REQUEST};
+use frame_transport::{FeedFault, FrameRef, HEADER_LEN, HELLO, REQUEST, frame_at};
 use mrpc_base::{Sink, write_all};
 use mrpc_table::{Bytes, Memory, Table};
 use std::alloc::Global;
-use wire_decode::{DecodeFault, decode};
-use wire_encode::encode;
+use wire_decode::{DecodeFault, Spare, decode_with};
+use wire_encode::{Output, encode_into};
 
 /// Where the method stands in a frame.
 const METHOD_PLACE: u64 = 6;
 
-/// How many bytes of a stream are fed at once. Their lines are written in one piece.
+/// How many bytes of lines are gathered at the least before they are written.
 const PIECE: usize = 65_536;
 
 /// Why a decoding stops before the end of its input.
@@ -64,12 +64,11 @@ pub(crate) fn decode_stream<K: Sink>(
     ensures out_cause { HasCause (result ≡ Err Cut.Out) (K.faults out.old) (K.faults out.new) }
 {
     frame_law();
-    let mut feed = Feed::new(alloc);
-    let mut rest = stream;
-    while !rest.is_empty() {
-        let (piece, behind) = rest.split_at(rest.len().min(PIECE));
+    let mut room = Room::new(alloc)?;
+    let mut place = 0;
+    while place < stream.len() {
         let mut lines = Bytes::new(alloc);
-        let told = tell_piece(alloc, table, &mut feed, piece, &mut lines);
+        let told = tell_piece(alloc, table, stream, place, &mut room, &mut lines);
         // Without memory the lines may be cut anywhere, and none of them is written.
         if matches!(told, Err(Cut::Memory)) {
             return Err(Cut::Memory);
@@ -77,54 +76,88 @@ pub(crate) fn decode_stream<K: Sink>(
         if !write_all(out, lines.as_slice()) {
             return Err(Cut::Out);
         }
-        told?;
-        rest = behind;
+        place = told?;
     }
-    end_of(&feed)
+    Ok(())
 }
 
-// The fault of a stream that ends here.
-fn end_of(feed: &Feed) -> Result<(), Cut>
-    requires none_behind { feed.now.behind ≡ 0 }
-    ensures done { OnOk result (feed.now.bytes ≡ []) }
-    ensures cut { IfErr result (OnFault (λ place word. (feed.now.bytes ≢ []) × (place ≡ feed.now.place)
-        × (word ≡ codes "Short"))) }
-    ensures not_out { result ≢ Err Cut.Out }
-{
-    let rest = feed.rest();
-    if rest == 0 {
-        Ok(())
-    } else {
-        Err(Cut::Fault {
-            place: feed.fed() - rest,
-            word: "Short",
+/// Room that is used again for each frame.
+#[derive(Drop)]
+struct Room {
+    /// The encoding of a message.
+    encoded: Output,
+    /// What the trees of earlier messages were made of.
+    spare: Spare,
+}
+
+impl Room {
+    fn new(alloc: Global) -> Result<Room, Memory> {
+        Ok(Room {
+            encoded: Output::new(alloc)?,
+            spare: Spare::new(alloc),
         })
     }
 }
 
-// Appends the lines of the frames that a piece of the stream ends.
+// Appends the lines of the frames of a stream from this place on, until they are a piece or the stream ends, and
+// answers the place behind these frames.
 fn tell_piece(
     alloc: Global,
     table: &Table,
-    feed: &mut Feed,
-    piece: &[u8],
+    stream: &[u8],
+    from: usize,
+    room: &mut Room,
     lines: &mut Bytes,
-) -> Result<(), Cut>
+) -> Result<usize, Cut>
     requires valid { IsValid table.now }
-    requires countable { total feed.old + length piece.now < 2 ^ 63 }
-    requires none_behind { feed.old.behind ≡ 0 }
-    ensures told { OnOk result ((text : List ℕ) × (lines.new ≡ lines.old ++ text)
-        × Tells table.now feed.old.place (feed.old.bytes ++ piece.now) text feed.new) }
+    requires countable { length stream.now < 2 ^ 63 }
+    requires some { from < length stream.now }
+    ensures told { IfOk result (λ to. (text : List ℕ) × (lines.new ≡ lines.old ++ text)
+        × Tells table.now stream.now from to text) }
+    ensures further { IfOk result (λ to. from < to) }
     ensures cut { IfErr result (OnFault (λ place word. (text : List ℕ) × (lines.new ≡ lines.old ++ text)
-        × ((more : List ℕ)
-        → IsCutAt table.now feed.old.place (feed.old.bytes ++ (piece.now ++ more)) text place word))) }
+        × IsCutAt table.now from (drop from stream.now) text place word)) }
     ensures not_out { result ≢ Err Cut.Out }
 {
     frame_law();
-    let fed = feed.feed(piece);
-    tell_waiting(alloc, table, feed, lines)?;
-    match fed {
-        Ok(()) => Ok(()),
+    let mut place = from;
+    loop {
+        place = tell_frame(alloc, table, stream, place, room, lines)?;
+        if place >= stream.len() || lines.len() >= PIECE {
+            return Ok(place);
+        }
+    }
+}
+
+// Appends the line of the frame at this place of a stream, and answers the place behind it.
+fn tell_frame(
+    alloc: Global,
+    table: &Table,
+    stream: &[u8],
+    from: usize,
+    room: &mut Room,
+    lines: &mut Bytes,
+) -> Result<usize, Cut>
+    requires valid { IsValid table.now }
+    requires countable { length stream.now < 2 ^ 63 }
+    requires some { from < length stream.now }
+    ensures told { IfOk result (λ to. (text : List ℕ) × (lines.new ≡ lines.old ++ text)
+        × Tells table.now stream.now from to text) }
+    ensures further { IfOk result (λ to. from < to) }
+    ensures cut { IfErr result (OnFault (λ place word. (lines.new ≡ lines.old)
+        × IsCutAt table.now from (drop from stream.now) [] place word)) }
+    ensures not_out { result ≢ Err Cut.Out }
+{
+    frame_law();
+    match frame_at(from as u64, &stream[from..]) {
+        Ok(Some(frame)) => {
+            tell(alloc, table, &frame, room, lines)?;
+            Ok(from + HEADER_LEN + frame.payload.len())
+        }
+        Ok(None) => Err(Cut::Fault {
+            place: from as u64,
+            word: "Short",
+        }),
         Err(fault) => Err(cut_by(fault)),
     }
 }
@@ -151,30 +184,20 @@ fn cut_by(fault: FeedFault) -> Cut
     }
 }
 
-// Appends the lines of the frames that wait in the feed.
-fn tell_waiting(alloc: Global, table: &Table, feed: &mut Feed, lines: &mut Bytes) -> Result<(), Cut>
-    requires valid { IsValid table.now }
-    requires countable { total feed.old < 2 ^ 63 }
-    ensures gave { OnOk result ((text : List ℕ) × (lines.new ≡ lines.old ++ text)
-        × Gave table.now feed.old text feed.new) }
-    ensures cut { IfErr result (OnFault (λ place word. (text : List ℕ) × (lines.new ≡ lines.old ++ text)
-        × StopsIn table.now feed.old text place word)) }
-    ensures not_out { result ≢ Err Cut.Out }
-{
-    frame_law();
-    while let Some(frame) = feed.next() {
-        tell(alloc, table, &frame, lines)?;
-    }
-    Ok(())
-}
-
 // Appends the line of a frame.
-fn tell(alloc: Global, table: &Table, frame: &Frame, lines: &mut Bytes) -> Result<(), Cut>
+fn tell(
+    alloc: Global,
+    table: &Table,
+    frame: &FrameRef,
+    room: &mut Room,
+    lines: &mut Bytes,
+) -> Result<(), Cut>
     requires valid { IsValid table.now }
-    requires frame { IsFrame frame.now }
+    requires frame { IsFrame (frame_of frame.now) }
     requires near { frame.now.place < 2 ^ 63 }
-    ensures told { OnOk result ((text : List ℕ) × IsLineOf table.now frame.now text × (lines.new ≡ lines.old ++ text)) }
-    ensures cut { IfErr result (OnFault (λ place word. IsFaultIn table.now frame.now place word
+    ensures told { OnOk result ((text : List ℕ) × IsLineOf table.now (frame_of frame.now) text
+        × (lines.new ≡ lines.old ++ text)) }
+    ensures cut { IfErr result (OnFault (λ place word. IsFaultIn table.now (frame_of frame.now) place word
         × (lines.new ≡ lines.old))) }
     ensures not_out { result ≢ Err Cut.Out }
 {
@@ -188,27 +211,35 @@ fn tell(alloc: Global, table: &Table, frame: &Frame, lines: &mut Bytes) -> Resul
             word: "NoMethod",
         });
     }
-    tell_call(alloc, table, frame, lines)
+    tell_call(alloc, table, frame, room, lines)
 }
 
-// Appends the line of a request or a reply.
-fn tell_call(alloc: Global, table: &Table, frame: &Frame, lines: &mut Bytes) -> Result<(), Cut>
+// Appends the line of a request or a reply, whose message is encoded in the place of the one before.
+fn tell_call(
+    alloc: Global,
+    table: &Table,
+    frame: &FrameRef,
+    room: &mut Room,
+    lines: &mut Bytes,
+) -> Result<(), Cut>
     requires valid { IsValid table.now }
-    requires frame { IsFrame frame.now }
+    requires frame { IsFrame (frame_of frame.now) }
     requires near { frame.now.place < 2 ^ 63 }
     requires call { frame.now.kind ≢ hello }
     requires known { frame.now.method < length table.now.methods }
-    ensures told { OnOk result ((text : List ℕ) × IsLineOf table.now frame.now text × (lines.new ≡ lines.old ++ text)) }
-    ensures cut { IfErr result (OnFault (λ place word. IsFaultIn table.now frame.now place word
+    ensures told { OnOk result ((text : List ℕ) × IsLineOf table.now (frame_of frame.now) text
+        × (lines.new ≡ lines.old ++ text)) }
+    ensures cut { IfErr result (OnFault (λ place word. IsFaultIn table.now (frame_of frame.now) place word
         × (lines.new ≡ lines.old))) }
     ensures not_out { result ≢ Err Cut.Out }
 {
     let number = if frame.kind == REQUEST { 0 } else { 1 };
     let message = table.message_of(frame.method, number);
-    match decode(alloc, frame.payload.as_slice(), table, message) {
+    match decode_with(alloc, &mut room.spare, frame.payload, table, message) {
         Ok(tree) => {
-            let bytes = encode(alloc, &tree, table, message)?;
-            put_call(alloc, frame, bytes.as_slice(), lines)?;
+            encode_into(&mut room.encoded, &tree, table, message)?;
+            put_call(alloc, frame, room.encoded.as_slice(), lines)?;
+            room.spare.take_back(tree);
             Ok(())
         }
         Err(DecodeFault::At { reason, place }) => Err(Cut::Fault {
@@ -220,8 +251,8 @@ fn tell_call(alloc: Global, table: &Table, frame: &Frame, lines: &mut Bytes) -> 
 }
 
 // Appends the line of a hello.
-fn put_hello(frame: &Frame, lines: &mut Bytes) -> Result<(), Memory>
-    ensures { OnOk result (lines.new ≡ lines.old ++ hello_line frame.now) }
+fn put_hello(frame: &FrameRef, lines: &mut Bytes) -> Result<(), Memory>
+    ensures { OnOk result (lines.new ≡ lines.old ++ hello_line (frame_of frame.now)) }
 {
     lines.append(b"hello")?;
     put_number(lines, u64::from(frame.conn))?;
@@ -230,8 +261,8 @@ fn put_hello(frame: &Frame, lines: &mut Bytes) -> Result<(), Memory>
 }
 
 // Appends the line of a request or a reply whose message has this encoding.
-fn put_call(alloc: Global, frame: &Frame, bytes: &[u8], lines: &mut Bytes) -> Result<(), Memory>
-    ensures { OnOk result (lines.new ≡ lines.old ++ call_line frame.now bytes.now) }
+fn put_call(alloc: Global, frame: &FrameRef, bytes: &[u8], lines: &mut Bytes) -> Result<(), Memory>
+    ensures { OnOk result (lines.new ≡ lines.old ++ call_line (frame_of frame.now) bytes.now) }
 {
     lines.append(b"frame")?;
     put_number(lines, u64::from(frame.kind))?;

@@ -34,5 +34,6 @@ mod Taken
 mod Unique
 mod UsableTables
 mod Views
+mod Weights
 mod WireLaws
 mod WordForms

@@ -59,7 +59,9 @@ AreAtMost n (field m c t) = (m ≤ n) × AreAtMost n t
 -- the contents of fields with one content more of the number n, where contents of one number are in one
 pub record IsAdded (form : Form) (old : Node) (n : ℕ) (c : Content) (new : Node) : Type 0 where
   pub others : (m : ℕ) → m ≢ n → contents_of m new ≡ contents_of m old
-  pub same : (label : Label) (k : Kind) → form_of label k ≡ form → (inner : ℕ → Node → Node) (after : List Content) → field_content inner label k (contents_of n new ++ after) ≡ field_content inner label k (contents_of n old ++ c ∷ after)
+  pub same : (label : Label) (k : Kind) → form_of label k ≡ form → (inner : ℕ → Node → Node) (after : List Content)
+      → field_content inner label k (contents_of n new ++ after)
+      ≡ field_content inner label k (contents_of n old ++ c ∷ after)
   pub rise : Rise old → AreAtMost n old → Rise new
   pub most : (m : ℕ) → n ≤ m → AreAtMost m old → AreAtMost m new
 
@@ -72,7 +74,9 @@ NeverFallFrom last (field n c t) = (last ≤ n) × NeverFallFrom n t
 pub record IsGathered (fs : List Field) (raw held : Node) : Type 0 where
   pub rise : Rise held
   pub most : (m : ℕ) → AreAtMost m raw → AreAtMost m held
-  pub same : (n : ℕ) (f : Field) → field_at fs n ≡ Some f → (inner : ℕ → Node → Node) (after : List Content) → field_content inner f.label f.kind (contents_of n held ++ after) ≡ field_content inner f.label f.kind (contents_of n raw ++ after)
+  pub same : (n : ℕ) (f : Field) → field_at fs n ≡ Some f → (inner : ℕ → Node → Node) (after : List Content)
+      → field_content inner f.label f.kind (contents_of n held ++ after)
+      ≡ field_content inner f.label f.kind (contents_of n raw ++ after)
 
 -- what a field has, from one content
 abbrev pub finish_at : (ℕ → Node → Node) → List Field → ℕ → Content → Option Content

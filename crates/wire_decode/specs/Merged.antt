@@ -143,7 +143,8 @@ with_content n (Some c) t = field n c t
 -- the fields by ascending number, each with what its records give
 abbrev pub with_fields : (ℕ → Node → Node) → Node → List Field → Node
 with_fields inner raw [] = no_fields
-with_fields inner raw (f ∷ fs) = with_content f.number (field_content inner f.label f.kind (contents_of f.number raw)) (with_fields inner raw fs)
+with_fields inner raw (f ∷ fs) =
+    with_content f.number (field_content inner f.label f.kind (contents_of f.number raw)) (with_fields inner raw fs)
 
 -- the message of what its records have, where no more messages than this stand in one another
 unfoldable pub merged : Table → ℕ → ℕ → Node → Node

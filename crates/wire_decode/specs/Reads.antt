@@ -29,7 +29,8 @@ numbers (w ∷ ws) = item (number w) (numbers ws)
 
 -- an entry of a map is a message with the key as field 1 and the value as field 2
 abbrev pub entry_fields : Kind → Kind → List Field
-entry_fields key k = record { number = 1; name = []; kind = key; label = Optional } ∷ record { number = 2; name = []; kind = k; label = Optional } ∷ []
+entry_fields key k = record { number = 1; name = []; kind = key; label = Optional }
+    ∷ record { number = 2; name = []; kind = k; label = Optional } ∷ []
 
 abbrev pub is_message : Kind → Bool
 is_message (OfMessage i) = true

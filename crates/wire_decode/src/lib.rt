@@ -1,12 +1,12 @@
 //! The decoder: the message that Protocol Buffers bytes mean, or the first fault in them.
 //!
 //! The format is that of the Protocol Buffers encoding guide. Where the records come in the order of
-//! the fields, as encoders write them, they are read straight into the tree. Others are read in one
-//! pass into the contents of their records, in order; then each field has its value from its own
-//! records, and the tree comes with its fields by ascending number. All takes time in proportion to
-//! the bytes, but for sorting the entries of maps. `specs/Meaning.antt` says what bytes mean, rule by rule, and
-//! `specs/Faults.antt` which fault is the first one. It stands on `mrpc_table` and `wire_base`. The layers above use one
-//! contract: the answer is the meaning, or the first fault exactly where there is no meaning.
+//! the fields, as encoders write them, they are read straight into the tree, in vectors of earlier trees where some were
+//! taken back ([`Spare`]). Others are read in one pass into the contents of their records, in order; then each field
+//! has its value from its own records, and the tree comes with its fields by ascending number. All takes time in
+//! proportion to the bytes, but for sorting the entries of maps. `specs/Meaning.antt` says what bytes mean, rule by
+//! rule, and `specs/Faults.antt` which fault is the first one. It stands on `mrpc_table` and `wire_base`. The layers
+//! above use one contract: the answer is the meaning, or the first fault exactly where there is no meaning.
 #![tactic(auto)]
 
 ghost use Rattle.std.specs.Prelude.{◌≡◌, ◌<◌, ◌≤◌, length, IfOk, IfErr, MatchResult};
@@ -28,6 +28,7 @@ mod number;
 mod oneof;
 mod ordered;
 mod read;
+mod reuse;
 
 use crate::laws::one_merging;
 use crate::merge::merged;
@@ -39,6 +40,7 @@ pub use laws::{
     one_meaning, rules_and_reader_agree,
 };
 use mrpc_table::{Table, Tree};
+pub use reuse::Spare;
 use std::alloc::Global;
 
 /// How many messages may stand in one another, the outermost counting 1.
@@ -61,13 +63,41 @@ pub fn decode(alloc: Global, bytes: &[u8], table: &Table, msg: u32) -> Result<Tr
     ensures only { (t : Node) → Means table.now msg bytes.now t
         → MatchResult result (λ u. u ≡ t) (λ f. f ≡ DecodeFault.Memory) }
 {
+    decode_with(alloc, &mut Spare::new(alloc), bytes, table, msg)
+}
+
+/// What [`decode`] gives, in vectors of the trees that `spare` took back, as far as they go.
+pub fn decode_with(
+    alloc: Global,
+    spare: &mut Spare,
+    bytes: &[u8],
+    table: &Table,
+    msg: u32,
+) -> Result<Tree, DecodeFault>
+    requires valid { IsValid table.now }
+    requires known { msg < length table.now.messages }
+    ensures means { IfOk result (λ t. Means table.now msg bytes.now t) }
+    ensures normal { IfOk result (λ t. IsNormal table.now msg t) }
+    ensures fault { IfErr result (FaultsAs (IsFirstFault table.now msg bytes.now)) }
+    ensures within { IfErr result (FaultsAs (λ reason place. place ≤ length bytes.now)) }
+
+    // Bytes that have a meaning are read, unless no memory was found.
+    ensures only { (t : Node) → Means table.now msg bytes.now t
+        → MatchResult result (λ u. u ≡ t) (λ f. f ≡ DecodeFault.Memory) }
+{
     meaning_is_normal();
     rules_and_reader_agree();
-    decoded(alloc, bytes, table, msg)
+    decoded(alloc, spare, bytes, table, msg)
 }
 
 /// The same for any table whose fields stand in order.
-fn decoded(alloc: Global, bytes: &[u8], table: &Table, msg: u32) -> Result<Tree, DecodeFault>
+fn decoded(
+    alloc: Global,
+    spare: &mut Spare,
+    bytes: &[u8],
+    table: &Table,
+    msg: u32,
+) -> Result<Tree, DecodeFault>
     requires { AllAscend table.now }
     ensures means { IfOk result (λ t. Merges table.now msg bytes.now t) }
     ensures fault { IfErr result
@@ -77,7 +107,7 @@ fn decoded(alloc: Global, bytes: &[u8], table: &Table, msg: u32) -> Result<Tree,
 {
     one_merging();
     let fields = table.fields(msg);
-    match ordered_message(alloc, bytes, 0, table, fields, MAX_DEPTH - 1) {
+    match ordered_message(alloc, spare, bytes, 0, table, fields, MAX_DEPTH - 1) {
         Some(fields) => Ok(Tree { fields }),
         None => merged_records(alloc, bytes, table, msg),
     }

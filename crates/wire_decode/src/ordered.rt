@@ -19,19 +19,20 @@ ghost use Rattle.wire_decode.specs.Ordered.{IsWhole, IsValue, IsFieldRead, AreVa
 use crate::merge::{many, pairs, present, present_if_set, push_content};
 use crate::number::{wire_type_of, word_of};
 use crate::read::{element, elements, is_text};
+use crate::reuse::Spare;
 use map_entries::last_of_each;
 use mrpc_table::{
-    Bytes, Entries, Field, FieldValue, Kind, Label, Numbered, Table, Tree, Value, Values,
-    find_field,
+    Entries, Field, FieldValue, Kind, Label, Numbered, Table, Tree, Value, Values, find_field,
 };
 use std::alloc::Global;
 use wire_base::{read_tag, read_varint};
 
 /// The fields of the message, from the place `start` to the end of the bytes, where its records come in order.
-/// `room` more messages may stand in one another inside.
+/// `room` more messages may stand in one another inside. Vectors come from `spare` where it has some.
 #[cycle(ordered)]
 pub fn ordered_message(
     alloc: Global,
+    spare: &mut Spare,
     bytes: &[u8],
     start: usize,
     table: &Table,
@@ -44,7 +45,7 @@ pub fn ordered_message(
     ensures { IfSome result (λ parts. IsWhole table.now room fields.now bytes.now start (node_of parts.items)) }
 {
     let most = fields.len().min((bytes.len() - start) / 2);
-    let mut whole = Vec::with_capacity(alloc, most).ok()?;
+    let mut whole = spare.fields(alloc, most)?;
     let mut at = start;
     let mut last = 0;
     let mut hint = 0;
@@ -59,7 +60,7 @@ pub fn ordered_message(
         }
         let (label, kind) = (field.label, field.kind);
         at = ordered_field(
-            alloc, &mut whole, bytes, behind, tag, table, label, kind, room,
+            alloc, spare, &mut whole, bytes, behind, tag, table, label, kind, room,
         )?;
         oneofs = oneofs_with(field.label, oneofs);
         last = number;
@@ -92,6 +93,7 @@ fn oneofs_with(label: Label, oneofs: u64) -> u64
 #[cycle(ordered)]
 fn ordered_field(
     alloc: Global,
+    spare: &mut Spare,
     whole: &mut Numbered,
     bytes: &[u8],
     start: usize,
@@ -111,10 +113,16 @@ fn ordered_field(
 {
     match label {
         Label::Repeated | Label::Packed => {
-            ordered_list(alloc, whole, bytes, start, tag, table, label, kind, room)
+            ordered_list(
+                alloc, spare, whole, bytes, start, tag, table, label, kind, room,
+            )
         }
-        Label::Map(key) => ordered_map(alloc, whole, bytes, start, tag, table, key, kind, room),
-        _ => ordered_single(alloc, whole, bytes, start, tag, table, label, kind, room),
+        Label::Map(key) => ordered_map(
+            alloc, spare, whole, bytes, start, tag, table, key, kind, room,
+        ),
+        _ => ordered_single(
+            alloc, spare, whole, bytes, start, tag, table, label, kind, room,
+        ),
     }
 }
 
@@ -123,6 +131,7 @@ fn ordered_field(
 #[inline(always)]
 fn ordered_single(
     alloc: Global,
+    spare: &mut Spare,
     whole: &mut Numbered,
     bytes: &[u8],
     start: usize,
@@ -144,7 +153,7 @@ fn ordered_single(
     if kind.is_numeric() {
         return ordered_number(whole, bytes, start, tag, table, label, kind, room);
     }
-    let (value, next) = ordered_value(alloc, bytes, start, tag, table, kind, room)?;
+    let (value, next) = ordered_value(alloc, spare, bytes, start, tag, table, kind, room)?;
     push_content(whole, tag / 8, single_content(label, value)).ok()?;
     Some(next)
 }
@@ -192,6 +201,7 @@ fn single_content(label: Label, value: Value) -> Option<FieldValue>
 #[inline(never)]
 fn ordered_list(
     alloc: Global,
+    spare: &mut Spare,
     whole: &mut Numbered,
     bytes: &[u8],
     start: usize,
@@ -211,9 +221,11 @@ fn ordered_list(
     ensures within { IfSome result (λ next. next ≤ length bytes.now) }
 {
     if tag % 8 == 2 && kind.is_numeric() {
-        return ordered_piece(alloc, whole, bytes, start, tag, table, label, kind, room);
+        return ordered_piece(
+            alloc, spare, whole, bytes, start, tag, table, label, kind, room,
+        );
     }
-    let (values, next) = ordered_values(alloc, bytes, start, tag, table, kind, room)?;
+    let (values, next) = ordered_values(alloc, spare, bytes, start, tag, table, kind, room)?;
     push_content(whole, tag / 8, many(values)).ok()?;
     Some(next)
 }
@@ -221,6 +233,7 @@ fn ordered_list(
 /// The same for numbers in one packed piece.
 fn ordered_piece(
     alloc: Global,
+    spare: &mut Spare,
     whole: &mut Numbered,
     bytes: &[u8],
     start: usize,
@@ -241,7 +254,7 @@ fn ordered_piece(
     ensures within { IfSome result (λ next. next ≤ length bytes.now) }
 {
     let (first, end) = span_at(bytes, start)?;
-    let values = elements(alloc, &bytes[..end], first, kind).ok()?;
+    let values = elements(spare.list(alloc), &bytes[..end], first, kind).ok()?;
     push_content(whole, tag / 8, many(values)).ok()?;
     Some(end)
 }
@@ -251,6 +264,7 @@ fn ordered_piece(
 #[inline(never)]
 fn ordered_map(
     alloc: Global,
+    spare: &mut Spare,
     whole: &mut Numbered,
     bytes: &[u8],
     start: usize,
@@ -268,7 +282,7 @@ fn ordered_map(
     ensures ahead { IfSome result (λ next. start < next) }
     ensures within { IfSome result (λ next. next ≤ length bytes.now) }
 {
-    let (entries, next) = ordered_entries(alloc, bytes, start, tag, table, key, kind, room)?;
+    let (entries, next) = ordered_entries(alloc, spare, bytes, start, tag, table, key, kind, room)?;
     let kept = last_of_each(alloc, entries, key).ok()?;
     push_content(whole, tag / 8, pairs(kept)).ok()?;
     Some(next)
@@ -278,6 +292,7 @@ fn ordered_map(
 #[cycle(ordered)]
 fn ordered_values(
     alloc: Global,
+    spare: &mut Spare,
     bytes: &[u8],
     start: usize,
     tag: u32,
@@ -291,17 +306,37 @@ fn ordered_values(
     ensures ahead { IfSome result (λ r. start < r.1) }
     ensures within { IfSome result (λ r. r.1 ≤ length bytes.now) }
 {
-    let mut values = Vec::with_capacity(alloc, records_ahead(bytes, start, tag)).ok()?;
+    let mut values = spare.list(alloc);
     let mut first = start;
     while first <= bytes.len() {
-        let (value, next) = ordered_value(alloc, bytes, first, tag, table, kind, room)?;
+        let (value, next) = ordered_value(alloc, spare, bytes, first, tag, table, kind, room)?;
+        let again = tag_again(bytes, next, tag);
+        room_ahead(&mut values, bytes, again, tag)?;
         values.push(value).ok()?;
-        match tag_again(bytes, next, tag) {
+        match again {
             Some(behind) => first = behind,
             None => return Some((values, next)),
         }
     }
     None
+}
+
+/// Makes room in a new vector, for what the record in front has and for what those behind it have, of which the tag of
+/// the next one ends at `again`. Mostly there is none, and the bytes are not looked at. A vector that was used before
+/// grows as it needs to.
+#[inline(always)]
+fn room_ahead<T>(vector: &mut Vec<T>, bytes: &[u8], again: Option<usize>, tag: u32) -> Option<()>
+    requires { IfSome again (λ first. first ≤ length bytes.now) }
+    ensures { vector.new.items ≡ vector.old.items }
+{
+    if vector.capacity() == 0 {
+        let more = match again {
+            Some(first) => records_ahead(bytes, first, tag),
+            None => 0,
+        };
+        vector.reserve_exact(more.saturating_add(1)).ok()?;
+    }
+    Some(())
 }
 
 /// The place behind the same tag, where it stands at a place.
@@ -346,6 +381,7 @@ fn record_behind(bytes: &[u8], start: usize, tag: u32) -> Option<usize>
 #[cycle(ordered)]
 fn ordered_entries(
     alloc: Global,
+    spare: &mut Spare,
     bytes: &[u8],
     start: usize,
     tag: u32,
@@ -364,13 +400,15 @@ fn ordered_entries(
     if tag % 8 != 2 {
         return None;
     }
-    let mut entries = Vec::with_capacity(alloc, records_ahead(bytes, start, tag)).ok()?;
+    let mut entries = spare.entries(alloc);
     let mut first = start;
     while first <= bytes.len() {
         let (inside, next) = span_at(bytes, first)?;
-        let entry = ordered_entry(alloc, &bytes[..next], inside, table, key, kind, room)?;
+        let entry = ordered_entry(alloc, spare, &bytes[..next], inside, table, key, kind, room)?;
+        let again = tag_again(bytes, next, tag);
+        room_ahead(&mut entries, bytes, again, tag)?;
         entries.push(entry).ok()?;
-        match tag_again(bytes, next, tag) {
+        match again {
             Some(behind) => first = behind,
             None => return Some((entries, next)),
         }
@@ -382,6 +420,7 @@ fn ordered_entries(
 #[cycle(ordered)]
 fn ordered_entry(
     alloc: Global,
+    spare: &mut Spare,
     bytes: &[u8],
     start: usize,
     table: &Table,
@@ -397,12 +436,12 @@ fn ordered_entry(
     if tag / 8 != 1 {
         return None;
     }
-    let (entry_key, middle) = ordered_value(alloc, bytes, first, tag, table, key, room)?;
+    let (entry_key, middle) = ordered_value(alloc, spare, bytes, first, tag, table, key, room)?;
     let (tag, second) = read_tag(bytes, middle).ok()?;
     if tag / 8 != 2 {
         return None;
     }
-    let (value, next) = ordered_value(alloc, bytes, second, tag, table, kind, room)?;
+    let (value, next) = ordered_value(alloc, spare, bytes, second, tag, table, kind, room)?;
     if next == bytes.len() {
         Some((entry_key, value))
     } else {
@@ -415,6 +454,7 @@ fn ordered_entry(
 #[inline(never)]
 fn ordered_value(
     alloc: Global,
+    spare: &mut Spare,
     bytes: &[u8],
     start: usize,
     tag: u32,
@@ -429,9 +469,9 @@ fn ordered_value(
     ensures within { IfSome result (λ r. r.1 ≤ length bytes.now) }
 {
     match kind {
-        Kind::Message(place) => ordered_node(alloc, bytes, start, tag, table, place, room),
-        Kind::Text => ordered_text(alloc, bytes, start, tag, table, room),
-        Kind::Octets => ordered_octets(alloc, bytes, start, tag, table, room),
+        Kind::Message(place) => ordered_node(alloc, spare, bytes, start, tag, table, place, room),
+        Kind::Text => ordered_text(alloc, spare, bytes, start, tag, table, room),
+        Kind::Octets => ordered_octets(alloc, spare, bytes, start, tag, table, room),
         _ => number_value(bytes, start, tag, table, kind, room),
     }
 }
@@ -457,6 +497,7 @@ fn number_value(
 /// Text behind its length.
 fn ordered_text(
     alloc: Global,
+    spare: &mut Spare,
     bytes: &[u8],
     start: usize,
     tag: u32,
@@ -476,13 +517,14 @@ fn ordered_text(
     if !is_text(run) {
         return None;
     }
-    let run = Bytes::from_slice(alloc, run).ok()?;
+    let run = spare.run(alloc, run)?;
     Some((Value::Run(run), end))
 }
 
 /// Bytes behind its length.
 fn ordered_octets(
     alloc: Global,
+    spare: &mut Spare,
     bytes: &[u8],
     start: usize,
     tag: u32,
@@ -499,7 +541,7 @@ fn ordered_octets(
     }
     let (first, end) = span_at(bytes, start)?;
     let run = &bytes[first..end];
-    let run = Bytes::from_slice(alloc, run).ok()?;
+    let run = spare.run(alloc, run)?;
     Some((Value::Run(run), end))
 }
 
@@ -507,6 +549,7 @@ fn ordered_octets(
 #[cycle(ordered)]
 fn ordered_node(
     alloc: Global,
+    spare: &mut Spare,
     bytes: &[u8],
     start: usize,
     tag: u32,
@@ -526,7 +569,15 @@ fn ordered_node(
     }
     let (first, end) = span_at(bytes, start)?;
     let inside = &bytes[..end];
-    let fields = ordered_message(alloc, inside, first, table, table.fields(place), room - 1)?;
+    let fields = ordered_message(
+        alloc,
+        spare,
+        inside,
+        first,
+        table,
+        table.fields(place),
+        room - 1,
+    )?;
     Some((Value::Node(Tree { fields }), end))
 }
 

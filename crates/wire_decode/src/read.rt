@@ -1,6 +1,6 @@
 //! Reading: what stands in each record of a known field, in the order of the bytes.
 
-ghost use Rattle.std.specs.Prelude.{◌≡◌, ℕ, ◌+◌, ◌<◌, ◌≤◌, length, true, false, slice_range, IfOk, IfErr, IfSome, IfNone, List};
+ghost use Rattle.std.specs.Prelude.{◌≡◌, ℕ, ◌+◌, ◌<◌, ◌≤◌, length, true, false, slice_range, IfOk, IfErr, IfSome, IfNone, List, []};
 ghost use Rattle.mrpc_table.specs.View.{items_of, content_of, node_of};
 ghost use Rattle.mrpc_table.specs.Node.{one, run, number as number_item};
 ghost use Rattle.mrpc_table.specs.Words.{is_numeric};
@@ -226,17 +226,18 @@ fn packed(alloc: Global, bytes: &[u8], start: usize, kind: Kind) -> Result<Field
     ensures fault { IfErr result
         (FaultsAs (λ reason at. (reason ≡ PackedLength) × (at ≡ start) × NoPiece kind bytes.now start)) }
 {
-    let values = elements(alloc, bytes, start, kind)?;
+    let values = elements(Vec::new(alloc), bytes, start, kind)?;
     Ok(FieldValue::Many(values))
 }
 
-/// The elements of a packed piece.
+/// The elements of a packed piece, in a vector that is empty so far.
 pub fn elements(
-    alloc: Global,
+    mut values: Values,
     bytes: &[u8],
     start: usize,
     kind: Kind,
 ) -> Result<Values, DecodeFault>
+    requires empty { values.items ≡ [] }
     requires place { start ≤ length bytes.now }
     requires numeric { is_numeric kind ≡ true }
     ensures found { IfOk result
@@ -246,7 +247,7 @@ pub fn elements(
 {
     payload_or_reason();
     let wire_type = wire_type_of(kind);
-    let mut values = Vec::with_capacity(alloc, element_count(&bytes[start..], wire_type))?;
+    values.reserve_exact(element_count(&bytes[start..], wire_type))?;
     let mut at = start;
     while at < bytes.len() {
         let (v, next) = match element(bytes, at, wire_type) {

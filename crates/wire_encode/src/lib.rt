@@ -7,7 +7,7 @@
 //! proportion to the output. It stands on `mrpc_table` and `wire_base`.
 #![tactic(auto)]
 
-ghost use Rattle.std.specs.Prelude.{◌≡◌, ◌<◌, length, IfOk};
+ghost use Rattle.std.specs.Prelude.{◌≡◌, ◌<◌, length, IfOk, OnOk};
 ghost use Rattle.mrpc_table.specs.Valid.{IsValid};
 ghost use Rattle.mrpc_table.specs.Normal.{IsNormal};
 ghost use Rattle.wire_base.specs.Encoding.{encoding, fields_bytes};
@@ -19,10 +19,10 @@ mod output;
 mod size;
 mod write;
 
-use crate::output::Output;
 use crate::size::message_len;
 use crate::write::write_message;
 use mrpc_table::{Bytes, Field, Memory, Table, Tree};
+pub use output::Output;
 use std::alloc::Global;
 
 /// The encoding of a normal tree of the message at the place `msg` of the table.
@@ -36,6 +36,17 @@ pub fn encode(alloc: Global, tree: &Tree, table: &Table, msg: u32) -> Result<Byt
     ensures { IfOk result (λ bytes. bytes ≡ encoding table.now msg tree.now) }
 {
     encoded(alloc, tree, table, table.fields(msg))
+}
+
+/// The same, written in place of what `out` has. Its room is used again, so that a caller with many trees takes memory
+/// for it once.
+pub fn encode_into(out: &mut Output, tree: &Tree, table: &Table, msg: u32) -> Result<(), Memory>
+    requires valid { IsValid table.now }
+    requires known { msg < length table.now.messages }
+    requires normal { IsNormal table.now msg tree.now }
+    ensures { OnOk result (out.new ≡ encoding table.now msg tree.now) }
+{
+    encoded_into(out, tree, table, table.fields(msg))
 }
 
 /// The length in bytes of the encoding of a normal tree of the message at the place `msg` of the
@@ -58,4 +69,19 @@ fn encoded(alloc: Global, tree: &Tree, table: &Table, fields: &[Field]) -> Resul
     let mut out = Output::new(alloc)?;
     write_message(&mut out, tree, table, fields)?;
     Ok(out.into_bytes())
+}
+
+/// The same, in place of what `out` has.
+fn encoded_into(
+    out: &mut Output,
+    tree: &Tree,
+    table: &Table,
+    fields: &[Field],
+) -> Result<(), Memory>
+    requires all { AllAscend table.now }
+    requires ascend { FieldsAscend fields.now }
+    ensures { OnOk result (out.new ≡ fields_bytes table.now fields.now tree.now) }
+{
+    out.clear();
+    write_message(out, tree, table, fields)
 }

@@ -1,6 +1,6 @@
 //! Bytes that are written from the last one to the first.
 
-ghost use Rattle.std.specs.Prelude.{◌≡◌, ℕ, ◌+◌, ◌-◌, ◌≤◌, [], ◌++◌, length, drop, IfOk, OnOk};
+ghost use Rattle.std.specs.Prelude.{◌≡◌, ℕ, ◌+◌, ◌-◌, ◌<◌, ◌≤◌, [], ◌++◌, length, drop, IfOk, OnOk};
 ghost use Rattle.wire_base.specs.Encoding.{varint};
 ghost use Rattle.wire_encode.specs.Written.{StandBefore};
 
@@ -44,15 +44,29 @@ impl Output {
         })
     }
 
+    /// What was written.
+    pub fn as_slice(&self) -> &[u8]
+        ensures { result.now ≡ self.now }
+    {
+        &self.bytes[self.start..]
+    }
+
+    /// Nothing again. The room is kept.
+    pub(crate) fn clear(&mut self)
+        ensures { self.new ≡ [] }
+    {
+        self.start = self.bytes.len();
+    }
+
     /// How many bytes were written.
-    pub fn len(&self) -> usize
+    pub(crate) fn len(&self) -> usize
         ensures { result ≡ length self.now }
     {
         self.bytes.len() - self.start
     }
 
-    /// What was written.
-    pub fn into_bytes(self) -> Bytes
+    /// What was written, in a list of its own.
+    pub(crate) fn into_bytes(self) -> Bytes
         ensures { result ≡ self }
     {
         let mut bytes = self.bytes;
@@ -63,7 +77,7 @@ impl Output {
     }
 
     /// Writes bytes.
-    pub fn put(&mut self, bytes: &[u8]) -> Result<(), Memory>
+    pub(crate) fn put(&mut self, bytes: &[u8]) -> Result<(), Memory>
         ensures { OnOk result (self.new ≡ bytes.now ++ self.old) }
     {
         if self.start < bytes.len() {
@@ -73,8 +87,21 @@ impl Output {
         Ok(())
     }
 
-    /// Writes the shortest varint of a number.
-    pub fn put_varint(&mut self, v: u64) -> Result<(), Memory>
+    /// Writes the shortest varint of a number. Mostly it has one byte, and room in hand.
+    #[inline(always)]
+    pub(crate) fn put_varint(&mut self, v: u64) -> Result<(), Memory>
+        ensures { OnOk result (self.new ≡ varint v ++ self.old) }
+    {
+        if v < 128 && self.start > 0 {
+            self.start = write_byte(&mut self.bytes, self.start, v);
+            return Ok(());
+        }
+        self.put_long_varint(v)
+    }
+
+    /// The same, for any number.
+    #[inline(never)]
+    fn put_long_varint(&mut self, v: u64) -> Result<(), Memory>
         ensures { OnOk result (self.new ≡ varint v ++ self.old) }
     {
         varint_is_read_back();
@@ -112,15 +139,26 @@ fn make_room(
     Ok(())
 }
 
-/// Writes the shortest varint of a number, so that it ends before the place `end`, and says where it begins.
+/// Writes the varint of a number below 128, so that it ends before the place `end`, and says where it begins.
+#[inline(always)]
+fn write_byte(out: &mut [u8], end: usize, v: u64) -> usize
+    requires small { v < 128 }
+    requires room { 0 < end }
+    requires within { end ≤ length out.old }
+    ensures { StandBefore out.old out.new end result (varint v) }
+{
+    out[end - 1] = v as u8;
+    end - 1
+}
+
+/// The same for the shortest varint of any number.
 fn write_varint(out: &mut [u8], end: usize, v: u64) -> usize
     requires room { length (varint v) ≤ end }
     requires within { end ≤ length out.old }
     ensures { StandBefore out.old out.new end result (varint v) }
 {
     if v < 128 {
-        out[end - 1] = v as u8;
-        return end - 1;
+        return write_byte(out, end, v);
     }
     let start = end - varint_len(v);
     fill_varint(&mut out[start..end], v);

@@ -37,6 +37,7 @@ pub fn write_message(
 
 /// Writes what a field of this kind and label has.
 #[cycle(write)]
+#[inline(always)]
 fn write_field(
     out: &mut Output,
     content: &FieldValue,
@@ -63,6 +64,7 @@ fn write_field(
 
 /// Writes the record of a packed field.
 #[cycle(write)]
+#[inline(never)]
 fn write_packed(
     out: &mut Output,
     values: &Values,
@@ -95,6 +97,7 @@ fn write_joined(out: &mut Output, values: &Values, table: &Table, kind: Kind) ->
 
 /// Writes a record for each element.
 #[cycle(write)]
+#[inline(never)]
 fn write_records(
     out: &mut Output,
     values: &Values,
@@ -114,6 +117,7 @@ fn write_records(
 
 /// Writes the record of a value.
 #[cycle(write)]
+#[inline(always)]
 fn write_record(
     out: &mut Output,
     value: &Value,
@@ -130,6 +134,7 @@ fn write_record(
 
 /// Writes a record for each entry.
 #[cycle(write)]
+#[inline(never)]
 fn write_entries(
     out: &mut Output,
     entries: &Entries,
@@ -171,6 +176,7 @@ fn write_entry(
 
 /// Writes a value without its tag.
 #[cycle(write)]
+#[inline(always)]
 fn write_value(out: &mut Output, value: &Value, table: &Table, kind: Kind) -> Result<(), Memory>
     requires { AllAscend table.now }
     ensures { OnOk result (out.new ≡ item_bytes table.now kind (item_of value.now) ++ out.old) }
@@ -199,6 +205,7 @@ fn write_length(out: &mut Output, behind: usize) -> Result<(), Memory>
 }
 
 /// Writes a number of the kind.
+#[inline(always)]
 fn write_number(out: &mut Output, kind: Kind, n: u64) -> Result<(), Memory>
     ensures { OnOk result (out.new ≡ number_bytes kind n ++ out.old) }
 {

@@ -1,22 +1,19 @@
-use Rattle.std.proofs.Common.{◌≡◌, ◌++◌, List, ℕ, Option, length}
+use Rattle.std.proofs.Common.{◌≡◌, ◌-◌, List, ℕ, Option, length}
 use Rattle.std.specs.Io.KnownBytes.{Appends}
 use Rattle.mrpc_table.specs.declared.table.Table.{Table}
-use Rattle.frame_transport.specs.Feed.{Fed}
 use Rattle.mrpc_top.specs.Telling.{Tells}
 use Rattle.mrpc_top.proofs.decoding.decode_stream.Given as goal
 
--- the lines of the frames so far were written
-pub record Written (T : Table) (stream rest : List ℕ) (old new : Option (List ℕ)) (fed : Fed) : Type 0 where
-  pub done : List ℕ
+-- the lines of the frames in front of a place were written
+pub record Written (T : Table) (stream : List ℕ) (place : ℕ) (old new : Option (List ℕ)) : Type 0 where
   pub text : List ℕ
-  pub stream_is : stream ≡ done ++ rest
-  pub tells : Tells T 0 done text fed
+  pub tells : Tells T stream 0 place text
   pub appends : Appends old new text
 
-abbrev pub invariant-loop-rest : goal.invariant-loop-rest
-invariant-loop-rest g l =
-    Written l.table l.stream l.rest (g.K.Sink.written l.fn.out) (g.K.Sink.written l.out) l.feed
+abbrev pub invariant-loop-place : goal.invariant-loop-place
+invariant-loop-place g l =
+    Written l.table l.stream l.place (g.K.Sink.written l.fn.out) (g.K.Sink.written l.out)
     × (g.K.Sink.faults l.out ≡ g.K.Sink.faults l.fn.out)
 
-abbrev pub decreases-loop-rest : goal.decreases-loop-rest
-decreases-loop-rest g l = length l.rest
+abbrev pub decreases-loop-place : goal.decreases-loop-place
+decreases-loop-place g l = length l.stream - l.place

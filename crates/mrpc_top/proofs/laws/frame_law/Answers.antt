@@ -3,7 +3,6 @@ use Rattle.mrpc_top.proofs.laws.frame_law.Goals as goal
 pub returns : goal.returns
 returns c = record {
   splits_once = c.one_split.ensures.once;
-  fault_stays = c.one_split.ensures.stays;
   ends_once = c.one_split.ensures.one_end;
   one_frame = c.one_frame.ensures.once;
   size_of_one = c.one_frame.ensures.size;

@@ -17,15 +17,16 @@ use Rattle.wire_decode.proofs.ordered.+ordered.Goals as goal
 
 pub ordered_entries-loop-first-init : goal.ordered_entries-loop-first-init
 ordered_entries-loop-first-init t c =
-    let none = ok-has c.with_capacity.result c.in_ok-entries.entries (λ v. v.items ≡ []) c.in_ok-entries.ensures.value c.with_capacity.ensures.items in
     let P : List (Value × Value) → Type 0 = λ xs. EntriesBefore c.args.table.now c.args.room c.args.key c.args.kind c.args.bytes.now c.args.tag c.args.start c.args.start (map items_of_entry xs) in
-    (omega arith, subst P (sym none) (entries-start c.args.table.now c.args.room c.args.key c.args.kind c.args.bytes.now c.args.tag c.args.start))
+    (omega arith, subst P (sym c.entries-entries.ensures) (entries-start c.args.table.now c.args.room c.args.key c.args.kind c.args.bytes.now c.args.tag c.args.start))
 
 pub ordered_entries-returns-in-None-clause-found : goal.ordered_entries-returns-in-None-clause-found
 ordered_entries-returns-in-None-clause-found t c =
     let es = c.loop-first.entries.items in
     let e = c.in_ok-entry.entry in
-    let all : c.push.new.self.items ≡ es ++ e ∷ [] = subst (λ b. c.push.new.self.items ≡ cond b (es ++ e ∷ []) es) (sym c.in_ok-ok.ensures.variant) c.push.ensures.items in
+    let roomy = c.room_ahead.new.vector.items in
+    let pushed : c.push.new.self.items ≡ roomy ++ e ∷ [] = subst (λ b. c.push.new.self.items ≡ cond b (roomy ++ e ∷ []) roomy) (sym c.in_ok-ok.ensures.variant) c.push.ensures.items in
+    let all : c.push.new.self.items ≡ es ++ e ∷ [] = pushed ∙ ap (λ xs. xs ++ e ∷ []) c.room_ahead.ensures in
     let P : List (Item × Item) → Type 0 = λ xs. AreEntries c.args.table.now c.args.room c.args.key c.args.kind c.args.bytes.now c.args.tag c.args.start c.in_ok-inside.next xs in
     subst P (sym (ap (map items_of_entry) all ∙ map-pushed items_of_entry es e))
     (entries-more c.args.table.now c.args.room c.args.key c.args.kind c.args.bytes.now c.args.tag c.args.start c.loop-first.first c.in_ok-inside.inside c.in_ok-inside.next (map items_of_entry es) (items_of_entry e) c.if-tag-ne2.false c.loop-first.invariant.1 c.in_ok-inside.ensures.found c.in_ok-entry.ensures)
@@ -34,7 +35,9 @@ pub ordered_entries-loop-first-preserved : goal.ordered_entries-loop-first-prese
 ordered_entries-loop-first-preserved t c =
     let es = c.loop-first.entries.items in
     let e = c.in_ok-entry.entry in
-    let all : c.push.new.self.items ≡ es ++ e ∷ [] = subst (λ b. c.push.new.self.items ≡ cond b (es ++ e ∷ []) es) (sym c.in_ok-ok.ensures.variant) c.push.ensures.items in
+    let roomy = c.room_ahead.new.vector.items in
+    let pushed : c.push.new.self.items ≡ roomy ++ e ∷ [] = subst (λ b. c.push.new.self.items ≡ cond b (roomy ++ e ∷ []) roomy) (sym c.in_ok-ok.ensures.variant) c.push.ensures.items in
+    let all : c.push.new.self.items ≡ es ++ e ∷ [] = pushed ∙ ap (λ xs. xs ++ e ∷ []) c.room_ahead.ensures in
     let P : List (Item × Item) → Type 0 = λ xs. AreEntries c.args.table.now c.args.room c.args.key c.args.kind c.args.bytes.now c.args.tag c.args.start c.in_ok-inside.next xs in
     let more = subst P (sym (ap (map items_of_entry) all ∙ map-pushed items_of_entry es e))
     (entries-more c.args.table.now c.args.room c.args.key c.args.kind c.args.bytes.now c.args.tag c.args.start c.loop-first.first c.in_ok-inside.inside c.in_ok-inside.next (map items_of_entry es) (items_of_entry e) c.if-tag-ne2.false c.loop-first.invariant.1 c.in_ok-inside.ensures.found c.in_ok-entry.ensures) in (
@@ -44,15 +47,16 @@ ordered_entries-loop-first-preserved t c =
 
 pub ordered_values-loop-first-init : goal.ordered_values-loop-first-init
 ordered_values-loop-first-init t c =
-    let none = ok-has c.with_capacity.result c.in_ok-values.values (λ v. v.items ≡ []) c.in_ok-values.ensures.value c.with_capacity.ensures.items in
     let P : List Value → Type 0 = λ xs. ValuesBefore c.args.table.now c.args.room c.args.kind c.args.bytes.now c.args.tag c.args.start c.args.start (map item_of xs) in
-    (omega arith, subst P (sym none) (values-start c.args.table.now c.args.room c.args.kind c.args.bytes.now c.args.tag c.args.start))
+    (omega arith, subst P (sym c.list-values.ensures) (values-start c.args.table.now c.args.room c.args.kind c.args.bytes.now c.args.tag c.args.start))
 
 pub ordered_values-returns-in-None-clause-found : goal.ordered_values-returns-in-None-clause-found
 ordered_values-returns-in-None-clause-found t c =
     let vs = c.loop-first.values.items in
     let v = c.in_ok-value.value in
-    let all : c.push.new.self.items ≡ vs ++ v ∷ [] = subst (λ b. c.push.new.self.items ≡ cond b (vs ++ v ∷ []) vs) (sym c.in_ok-ok.ensures.variant) c.push.ensures.items in
+    let roomy = c.room_ahead.new.vector.items in
+    let pushed : c.push.new.self.items ≡ roomy ++ v ∷ [] = subst (λ b. c.push.new.self.items ≡ cond b (roomy ++ v ∷ []) roomy) (sym c.in_ok-ok.ensures.variant) c.push.ensures.items in
+    let all : c.push.new.self.items ≡ vs ++ v ∷ [] = pushed ∙ ap (λ xs. xs ++ v ∷ []) c.room_ahead.ensures in
     let P : List Item → Type 0 = λ xs. AreValues c.args.table.now c.args.room c.args.kind c.args.bytes.now c.args.tag c.args.start c.in_ok-value.next xs in
     subst P (sym (ap (map item_of) all ∙ map-pushed item_of vs v))
     (values-more c.args.table.now c.args.room c.args.kind c.args.bytes.now c.args.tag c.args.start c.loop-first.first c.in_ok-value.next (map item_of vs) (item_of v) c.loop-first.invariant.1 c.in_ok-value.ensures.found)
@@ -61,7 +65,9 @@ pub ordered_values-loop-first-preserved : goal.ordered_values-loop-first-preserv
 ordered_values-loop-first-preserved t c =
     let vs = c.loop-first.values.items in
     let v = c.in_ok-value.value in
-    let all : c.push.new.self.items ≡ vs ++ v ∷ [] = subst (λ b. c.push.new.self.items ≡ cond b (vs ++ v ∷ []) vs) (sym c.in_ok-ok.ensures.variant) c.push.ensures.items in
+    let roomy = c.room_ahead.new.vector.items in
+    let pushed : c.push.new.self.items ≡ roomy ++ v ∷ [] = subst (λ b. c.push.new.self.items ≡ cond b (roomy ++ v ∷ []) roomy) (sym c.in_ok-ok.ensures.variant) c.push.ensures.items in
+    let all : c.push.new.self.items ≡ vs ++ v ∷ [] = pushed ∙ ap (λ xs. xs ++ v ∷ []) c.room_ahead.ensures in
     let P : List Item → Type 0 = λ xs. AreValues c.args.table.now c.args.room c.args.kind c.args.bytes.now c.args.tag c.args.start c.in_ok-value.next xs in
     let more = subst P (sym (ap (map item_of) all ∙ map-pushed item_of vs v))
     (values-more c.args.table.now c.args.room c.args.kind c.args.bytes.now c.args.tag c.args.start c.loop-first.first c.in_ok-value.next (map item_of vs) (item_of v) c.loop-first.invariant.1 c.in_ok-value.ensures.found) in (
@@ -111,9 +117,8 @@ ordered_node-returns-clause-found t c =
 pub ordered_message-loop-at-init : goal.ordered_message-loop-at-init
 ordered_message-loop-at-init t c =
     let T = c.args.table.now in
-    let none = ok-has c.with_capacity.result c.in_ok-whole.whole (λ v. v.items ≡ []) c.in_ok-whole.ensures.value c.with_capacity.ensures.items in
     let P : List (ℕ × FieldValue) → Type 0 = λ xs. SoFar T c.args.room c.args.fields.now c.args.bytes.now c.args.start c.args.start 0 0 (node_of xs) in
-    (omega arith, c.requires.place, subst P (sym none) (sofar-first T c.args.room c.args.fields.now c.args.bytes.now c.args.start))
+    (omega arith, c.requires.place, subst P (sym c.in_ok-whole.ensures) (sofar-first T c.args.room c.args.fields.now c.args.bytes.now c.args.start))
 
 pub ordered_message-loop-at-preserved : goal.ordered_message-loop-at-preserved
 ordered_message-loop-at-preserved t c =

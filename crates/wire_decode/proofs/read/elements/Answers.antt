@@ -30,4 +30,4 @@ returns-clause-found c =
     (c.loop-at.invariant.1, sofar-end c.args.kind c.args.bytes.now c.args.start c.loop-at.at c.loop-at.invariant.1 ends c.loop-at.invariant.2, c.loop-at.invariant.3)
 
 pub loop-at-init : goal.loop-at-init
-loop-at-init c = (c.requires.place, [], sofar-start c.args.kind c.args.bytes.now c.args.start, ap items_of c.in_ok-values.ensures.items)
+loop-at-init c = (c.requires.place, [], sofar-start c.args.kind c.args.bytes.now c.args.start, ap items_of (c.reserve_exact.ensures.items ∙ c.requires.empty))

@@ -1,7 +1,6 @@
-use Rattle.std.proofs.Common.{◌≡◌, ◌++◌, length, List, ℕ, sym, ap, subst, arith}
+use Rattle.std.proofs.Common.{◌≡◌, length, sym, ap, subst, arith}
 use Rattle.frame_transport.specs.Feed.{Fed}
-use Rattle.frame_transport.specs.Frames.{Splits, joined}
-use Rattle.frame_transport.specs.declared.format.Frame.{Frame}
+use Rattle.frame_transport.specs.Frames.{Splits}
 use Rattle.frame_transport.proofs.KeptFacts.{kept_split}
 use Rattle.frame_transport.proofs.feed.Feed.left_over.Goals as goal
 

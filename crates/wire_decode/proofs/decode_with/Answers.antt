@@ -5,7 +5,7 @@ use Rattle.wire_decode.proofs.WordForms.{AreBytes}
 use Rattle.wire_decode.proofs.FaultPlaces.{fault-within}
 use Rattle.wire_decode.proofs.Faulty.{faults_as}
 use Rattle.wire_decode.proofs.UsableTables.{valid-ascends}
-use Rattle.wire_decode.proofs.decode.Goals as goal
+use Rattle.wire_decode.proofs.decode_with.Goals as goal
 
 pub returns-clause-normal : goal.returns-clause-normal
 returns-clause-normal c =

@@ -1,0 +1,23 @@
+-- Frames where they stand in the bytes of a stream.
+use Rattle.std.specs.Prelude.{◌≡◌, ℕ, ◌+◌, List, ◌++◌, length, drop}
+use Rattle.frame_transport.specs.Frames.{IsFrame, bytes_of}
+use Rattle.frame_transport.specs.declared.format.Frame.{Frame}
+use Rattle.frame_transport.specs.declared.standing.FrameRef.{FrameRef}
+
+-- the frame, with the payload that is borrowed
+abbrev pub frame_of : FrameRef → Frame
+frame_of f = record {
+  kind = f.kind;
+  version = f.version;
+  method = f.method;
+  conn = f.conn;
+  number = f.number;
+  payload = f.payload.now;
+  place = f.place;
+}
+
+-- this frame stands at the front of the bytes of a stream from this place on
+pub record StandsAt (place : ℕ) (bytes : List ℕ) (f : Frame) : Type 0 where
+  pub frame : IsFrame f
+  pub stands : f.place ≡ place
+  pub whole : bytes ≡ bytes_of f ++ drop (16 + length f.payload) bytes

@@ -1,0 +1,56 @@
+//! A frame where it stands in the bytes of a stream.
+
+ghost use Rattle.std.specs.Prelude.{◌<◌, ◌^◌, IfOk, IfErr, IfSome, IfNone, Some, None};
+ghost use Rattle.frame_transport.specs.Parts.{HasNoFrame};
+ghost use Rattle.frame_transport.specs.Standing.{StandsAt, frame_of};
+
+use crate::fault::FeedFault;
+use crate::format::HEADER_LEN;
+use crate::header::{fault_in, read_header};
+
+/// A frame whose payload is borrowed from the bytes of its stream.
+#[derive(Clone, Copy, Debug)]
+pub struct FrameRef<'a> {
+    /// 1 for a request, 2 for a reply, 3 for a hello.
+    pub kind: u8,
+    /// 1, or in a hello also 2.
+    pub version: u8,
+    /// The method's index; 0 in a hello.
+    pub method: u16,
+    /// The sender's connection.
+    pub conn: u32,
+    /// The sequence number of a request, the answered number of a reply, 0 in a hello.
+    pub number: u32,
+    /// The payload, at most 262144 bytes.
+    pub payload: &'a [u8],
+    /// The place of the frame's first byte in its stream, from 0.
+    pub place: u64,
+}
+
+/// The frame at the front of the bytes of a stream from this place on, or None where they end inside a frame that has
+/// no fault so far. The error is the first fault of its header. It takes no memory, and `Memory` never comes.
+pub fn frame_at<'a>(place: u64, bytes: &'a [u8]) -> Result<Option<FrameRef<'a>>, FeedFault>
+    requires room { place < 2 ^ 63 }
+    ensures frame { IfOk result (λ front. IfSome front (λ frame. StandsAt place bytes.now (frame_of frame))) }
+    ensures partial { IfOk result (λ front. IfNone front (HasNoFrame place bytes.now None)) }
+    ensures fault { IfErr result (λ fault. HasNoFrame place bytes.now (Some fault)) }
+{
+    if let Some(fault) = fault_in(place, bytes) {
+        return Err(fault);
+    }
+    let Some(header) = read_header(bytes) else {
+        return Ok(None);
+    };
+    if bytes.len() - HEADER_LEN < header.length {
+        return Ok(None);
+    }
+    Ok(Some(FrameRef {
+        kind: header.kind,
+        version: header.version,
+        method: header.method,
+        conn: header.conn,
+        number: header.number,
+        payload: &bytes[HEADER_LEN..HEADER_LEN + header.length],
+        place,
+    }))
+}
