@@ -28,13 +28,17 @@ pub(crate) fn usage(alloc: Global) -> Result<String, AllocError> {
     let decode = Command::new(alloc, "decode").about(
         "Reads a table and frames from standard input, and writes a line for each frame",
     );
+    let check = Command::new(alloc, "check").about(
+        "Reads a proto file from standard input, and writes its table",
+    );
     let mut program = Command::new(alloc, "mrpc")
         .override_usage(USAGE)
         .disable_help_subcommand(true)
         .disable_help_flag(true)
         .after_help(BEHIND)
         .subcommand(replay)?
-        .subcommand(decode)?;
+        .subcommand(decode)?
+        .subcommand(check)?;
     program.render_help()
 }
 

@@ -7,7 +7,7 @@ use Rattle.script_lang.specs.Texts.{Spells, IsFault}
 use Rattle.script_lang.specs.declared.fault.ScriptReason.{ScriptReason}
 use Rattle.mrpc_top.specs.Reading.{IsAllOf}
 use Rattle.mrpc_top.specs.declared.command.Command.{Command}
-use Rattle.mrpc_top.specs.declared.command.Command.TheVariants.{Replay, Decode}
+use Rattle.mrpc_top.specs.declared.command.Command.TheVariants.{Replay, Decode, Check}
 use Rattle.mrpc_top.specs.Command.{IsInput, HasFault, Names, command_word}
 
 -- a text isn't both a script's and at fault
@@ -24,13 +24,19 @@ no_script not_both left text found s told fault input spelled =
 first_byte : List (List ℕ) → ℕ
 first_byte words = get_or (get_or words 0 []) 0 0
 
-other_words : command_word Replay ∷ [] ≡ command_word Decode ∷ [] → ⊥
-unfolding first_byte
-other_words same = let bytes : 114 ≡ 100 = ap first_byte same in omega (arith, bytes)
+-- the first bytes of the words of commands that the same words name
+one_front : (words : List (String Global)) (a b : Command) → Names words a → Names words b → first_byte (command_word a ∷ []) ≡ first_byte (command_word b ∷ [])
+one_front words a b named other = ap first_byte (sym named ∙ other)
 
 -- words name one command
 pub one_command : (words : List (String Global)) (a b : Command) → Names words a → Names words b → a ≡ b
+unfolding first_byte
 one_command words Replay Replay named other = refl
-one_command words Replay Decode named other = absurd (other_words (sym named ∙ other))
-one_command words Decode Replay named other = absurd (other_words (sym other ∙ named))
+one_command words Replay Decode named other = let bytes : 114 ≡ 100 = one_front words Replay Decode named other in absurd (omega (arith, bytes))
+one_command words Replay Check named other = let bytes : 114 ≡ 99 = one_front words Replay Check named other in absurd (omega (arith, bytes))
+one_command words Decode Replay named other = let bytes : 100 ≡ 114 = one_front words Decode Replay named other in absurd (omega (arith, bytes))
 one_command words Decode Decode named other = refl
+one_command words Decode Check named other = let bytes : 100 ≡ 99 = one_front words Decode Check named other in absurd (omega (arith, bytes))
+one_command words Check Replay named other = let bytes : 99 ≡ 114 = one_front words Check Replay named other in absurd (omega (arith, bytes))
+one_command words Check Decode named other = let bytes : 99 ≡ 100 = one_front words Check Decode named other in absurd (omega (arith, bytes))
+one_command words Check Check named other = refl

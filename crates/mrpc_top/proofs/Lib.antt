@@ -3,5 +3,6 @@ mod DecodeTexts
 mod Decodings
 mod Faults
 mod KnownBytes
+mod OneCheck
 mod OneDecoding
 mod TextAnswers

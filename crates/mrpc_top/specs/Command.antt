@@ -8,17 +8,21 @@ use Rattle.script_lang.specs.declared.script.Script.{Script}
 use Rattle.script_lang.specs.Texts.{Spells, IsFault}
 use Rattle.script_lang.specs.Reason.{reason_word}
 use Rattle.script_run.specs.Replays.{Replays}
+use Rattle.mrpc_top.specs.Checking.{ChecksAs, IsProtoFault}
 use Rattle.mrpc_top.specs.Reading.{IsAllOf, ReadsPast}
 use Rattle.mrpc_top.specs.DecodeInput.{Holds, IsTextFault}
 use Rattle.mrpc_top.specs.Decoding.{IsDecoded, IsCutAt}
 use Rattle.mrpc_top.specs.declared.command.Command.{Command}
-use Rattle.mrpc_top.specs.declared.command.Command.TheVariants.{Replay, Decode}
+use Rattle.mrpc_top.specs.declared.command.Command.TheVariants.{Replay, Decode, Check}
 use Rattle.mrpc_table.specs.declared.table.Table.{Table}
+use Rattle.mrpc_table.specs.Text.{table_text}
+use Rattle.proto_file.specs.declared.file.File.{File}
 
 -- the word of a command
 abbrev pub command_word : Command → List ℕ
 command_word Replay = codes "replay"
 command_word Decode = codes "decode"
+command_word Check = codes "check"
 
 -- the words are that of the command alone
 abbrev pub Names : List (String Global) → Command → Type 0
@@ -29,6 +33,9 @@ IsReplay words = Names words Replay
 
 abbrev pub IsDecode : List (String Global) → Type 0
 IsDecode words = Names words Decode
+
+abbrev pub IsCheck : List (String Global) → Type 0
+IsCheck words = Names words Check
 
 abbrev pub IsCommand : List (String Global) → Type 0
 IsCommand words = (command : Command) × Names words command
@@ -111,3 +118,31 @@ pub data HasDecodeFault (text : List ℕ) : Type 0 where
   fault_in_text : (line : ℕ) (word : List ℕ) → IsTextFault text line word → HasDecodeFault text
   fault_in_stream : (table : Table) (stream lines : List ℕ) (place : ℕ) (word : List ℕ) → Holds text table stream
       → IsCutAt table 0 stream lines place word → HasDecodeFault text
+
+-- a text is a proto file, and the text of its table was written
+pub record ChecksText (text : List ℕ) (out out' : Option (List ℕ)) : Type 0 where
+  pub file : File
+  pub table : Table
+  pub checks : ChecksAs text file table
+  pub written : Appends out out' (table_text table)
+
+-- an input is such a text
+abbrev pub Checks : Option (List ℕ) → Option (List ℕ) → Option (List ℕ) → Type 0
+Checks left out out' = (text : List ℕ) × IsInput left text × ChecksText text out out'
+
+-- a text was refused as a proto file: its first fault was written
+pub record RefusesProto (text : List ℕ) (out out' : Option (List ℕ)) : Type 0 where
+  pub line : ℕ
+  pub word : List ℕ
+  pub fault : IsProtoFault text line word
+  pub written : Appends out out' (fault_line line word)
+
+-- an input has a fault: it is too long, or its text has a first fault; the fault's line was written
+abbrev pub IsUnchecked : Option (List ℕ) → Option (List ℕ) → Option (List ℕ) → Option (List ℕ) → Type 0
+IsUnchecked left left' out out' =
+    (ReadsPast input_limit left left' × Appends out out' (fault_line input_limit (codes "Input")))
+    ⊎ ((text : List ℕ) × IsInput left text × RefusesProto text out out')
+
+-- a text has a fault: it is too long for an input, or no proto file that has a table
+abbrev pub HasCheckFault : List ℕ → Type 0
+HasCheckFault text = (input_limit < length text) ⊎ ((line : ℕ) × (word : List ℕ) × IsProtoFault text line word)

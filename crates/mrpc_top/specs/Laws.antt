@@ -1,5 +1,5 @@
 -- The laws of the crates below, as the proofs here use them together.
-use Rattle.std.specs.Prelude.{◌≡◌, ℕ, ◌+◌, ◌<◌, List, [], ◌++◌, length, All}
+use Rattle.std.specs.Prelude.{◌≡◌, ℕ, ◌+◌, ◌<◌, List, [], ◌∷◌, ◌++◌, length, All}
 use Rattle.mrpc_table.specs.Node.{Node}
 use Rattle.mrpc_table.specs.Text.{table_text}
 use Rattle.mrpc_table.specs.Valid.{IsValid, HaveOneTextEach}
@@ -13,6 +13,15 @@ use Rattle.wire_decode.specs.declared.fault.DecodeReason.{DecodeReason}
 use Rattle.frame_transport.specs.Frames.{SplitsOnce, EndsOnce, IsFrame, bytes_of, joined, StandFrom, IsPartial, IsFaultAt, Splits}
 use Rattle.frame_transport.specs.declared.format.Frame.{Frame}
 use Rattle.frame_transport.specs.declared.fault.FeedFault.{FeedFault}
+use Rattle.proto_file.specs.declared.file.File.{File}
+use Rattle.proto_file.specs.declared.file.Span.{Span}
+use Rattle.proto_schema.specs.Faults.{IsTextOf, HasFault}
+use Rattle.proto_schema.specs.declared.fault.ProtoReason.{ProtoReason}
+use Rattle.schema_offences.specs.Sources.{alone}
+use Rattle.schema_offences.specs.Offences.{HasOffence}
+use Rattle.schema_offences.specs.declared.reason.ResolveReason.{ResolveReason}
+use Rattle.schema_resolve.specs.Resolving.{Resolves}
+use Rattle.schema_resolve.specs.Tables.{IsTableOf}
 
 -- one table's text stands behind a head at most, it has one first fault at most, and none where it is canonical
 pub record TextLaw : Type 0 where
@@ -51,3 +60,17 @@ pub record MeaningLaw : Type 0 where
   pub not_both : (T : Table) (msg : ℕ) (bytes : List ℕ) (t : Node) (reason : DecodeReason) (place : ℕ)
       → Means T msg bytes t → IsFirstFault T msg bytes reason place → ⊥
   pub frames : FrameLaw
+
+-- a text is of one file at most, has one first fault at most, and never both; and a file has one table at most, one
+-- first offence at most, and never both
+pub record FileLaw : Type 0 where
+  pub one_file : (text : List ℕ) (f g : File) → IsTextOf text f → IsTextOf text g → f ≡ g
+  pub one_fault : (text : List ℕ) (q r : ProtoReason) (s t : Span) → HasFault text q s → HasFault text r t
+      → (q ≡ r) × (s ≡ t)
+  pub file_or_fault : (text : List ℕ) (f : File) (q : ProtoReason) (s : Span) → IsTextOf text f → HasFault text q s
+      → ⊥
+  pub one_table : (text : List ℕ) (F : File) (T U : Table) → IsTextOf text F → IsTableOf (alone F ∷ []) T
+      → IsTableOf (alone F ∷ []) U → T ≡ U
+  pub one_offence : (text : List ℕ) (F : File) (q r : ResolveReason) (s t : Span) → IsTextOf text F
+      → HasOffence F q s → HasOffence F r t → (q ≡ r) × (s ≡ t)
+  pub table_or_offence : (F : File) (T : Table) (q : ResolveReason) (s : Span) → Resolves F T → HasOffence F q s → ⊥

@@ -1,3 +1,4 @@
+pub mod Checking
 pub mod Command
 pub mod DecodeInput
 pub mod Decoding

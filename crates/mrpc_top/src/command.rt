@@ -9,8 +9,9 @@ ghost use Rattle.script_lang.specs.Texts.{Spells};
 ghost use Rattle.script_run.specs.Replays.{Replays};
 ghost use Rattle.mrpc_top.specs.DecodeInput.{Holds, IsTextFault};
 ghost use Rattle.mrpc_top.specs.Decoding.{IsDecoded, IsCutAt};
-ghost use Rattle.mrpc_top.specs.Command.{command_word, IsReplay, IsDecode, IsCommand, Names, IsRefused, IsScript, Refuses, Runs, HasFault, Decodes, DecodesText, IsCutShort, CutsText, HasDecodeFault, fault_line};
+ghost use Rattle.mrpc_top.specs.Command.{command_word, IsReplay, IsDecode, IsCheck, IsCommand, Names, IsRefused, IsScript, Refuses, Runs, HasFault, Decodes, DecodesText, IsCutShort, CutsText, HasDecodeFault, Checks, ChecksText, IsUnchecked, RefusesProto, HasCheckFault, fault_line};
 
+use crate::check::{CheckFault, checked_text, one_check};
 use crate::decode_input::read_head;
 use crate::decoding::{Cut, decode_stream};
 use crate::laws::{meaning_law, text_law};
@@ -56,7 +57,11 @@ pub const WIRE_FAILED: u8 = 6;
 /// `fault LINE REASON`; one of the frames as `fault PLACE REASON` behind the lines of the frames in front
 /// of it, PLACE counting bytes from the first behind the `end` line.
 ///
-/// An input of more than 16777216 bytes is `fault 16777216 Input` in either command, and nothing else is
+/// `check` reads a proto file, and writes the canonical text of its table to `out`. A text that is none, or whose names
+/// and numbers don't go together (`proto_schema` and `schema_offences` say which), is written as one line `fault LINE
+/// REASON`, its first fault; the reasons of the first kind count before those of the second.
+///
+/// An input of more than 16777216 bytes is `fault 16777216 Input` in each command, and nothing else is
 /// written. Without memory a command ends with `NO_MEMORY`, and what it wrote by then stands.
 pub fn run_command<S: Source, K: Sink, W: Sink>(
     alloc: Global,
@@ -80,12 +85,17 @@ pub fn run_command<S: Source, K: Sink, W: Sink>(
     // At the end of a decoding: the input is a table's text and whole frames; their lines were written.
     ensures decoded { result ≡ DONE → IsDecode words.now.items
         → Decodes (S.left input.old) (K.written out.old) (K.written out.new) }
+    // At the end of a check: the input is a proto file's text; the text of its table was written.
+    ensures checked { result ≡ DONE → IsCheck words.now.items
+        → Checks (S.left input.old) (K.written out.old) (K.written out.new) }
 
     // A faulty input: its first fault was written, and nothing else but the lines of frames in front of it.
     ensures faulty { result ≡ FAULTY_INPUT → IsReplay words.now.items
         → IsRefused (S.left input.old) (S.left input.new) (K.written out.old) (K.written out.new) }
     ensures cut_short { result ≡ FAULTY_INPUT → IsDecode words.now.items
         → IsCutShort (S.left input.old) (S.left input.new) (K.written out.old) (K.written out.new) }
+    ensures unchecked { result ≡ FAULTY_INPUT → IsCheck words.now.items
+        → IsUnchecked (S.left input.old) (S.left input.new) (K.written out.old) (K.written out.new) }
     ensures faulty_unsent { result ≡ FAULTY_INPUT → wire.new ≡ wire.old }
 
     // No work is done on an input that has a fault.
@@ -93,9 +103,12 @@ pub fn run_command<S: Source, K: Sink, W: Sink>(
         → (result ≢ DONE) × (result ≢ WIRE_FAILED) }
     ensures undecoded { (text : List ℕ) → S.left input.old ≡ Some text → IsDecode words.now.items → HasDecodeFault text
         → result ≢ DONE }
+    ensures check_faults { (text : List ℕ) → S.left input.old ≡ Some text → IsCheck words.now.items → HasCheckFault text
+        → result ≢ DONE }
 
-    // A decoding sends nothing.
+    // A decoding sends nothing, nor does a check.
     ensures decode_unsent { IsDecode words.now.items → wire.new ≡ wire.old }
+    ensures check_unsent { IsCheck words.now.items → wire.new ≡ wire.old }
 
     // Each device is answered for by its own status, and by no other.
     ensures input_cause { HasCause (result ≡ INPUT_FAILED) (S.faults input.old) (S.faults input.new) }
@@ -137,6 +150,7 @@ pub fn one_decoding()
 enum Command {
     Replay,
     Decode,
+    Check,
 }
 
 // Reads the whole input, and runs the command on it.
@@ -153,16 +167,23 @@ fn run<S: Source, K: Sink, W: Sink>(
         → Runs (S.left input.old) (K.written out.old) (K.written out.new) (W.written wire.old) (W.written wire.new) }
     ensures decoded { result ≡ DONE → command ≡ Command.Decode
         → Decodes (S.left input.old) (K.written out.old) (K.written out.new) }
+    ensures checked { result ≡ DONE → command ≡ Command.Check
+        → Checks (S.left input.old) (K.written out.old) (K.written out.new) }
     ensures faulty { result ≡ FAULTY_INPUT → command ≡ Command.Replay
         → IsRefused (S.left input.old) (S.left input.new) (K.written out.old) (K.written out.new) }
     ensures cut_short { result ≡ FAULTY_INPUT → command ≡ Command.Decode
         → IsCutShort (S.left input.old) (S.left input.new) (K.written out.old) (K.written out.new) }
+    ensures unchecked { result ≡ FAULTY_INPUT → command ≡ Command.Check
+        → IsUnchecked (S.left input.old) (S.left input.new) (K.written out.old) (K.written out.new) }
     ensures faulty_unsent { result ≡ FAULTY_INPUT → wire.new ≡ wire.old }
     ensures refused { (text : List ℕ) → S.left input.old ≡ Some text → command ≡ Command.Replay → HasFault text
         → (result ≢ DONE) × (result ≢ WIRE_FAILED) }
     ensures undecoded { (text : List ℕ) → S.left input.old ≡ Some text → command ≡ Command.Decode → HasDecodeFault text
         → result ≢ DONE }
+    ensures check_faults { (text : List ℕ) → S.left input.old ≡ Some text → command ≡ Command.Check → HasCheckFault text
+        → result ≢ DONE }
     ensures decode_unsent { command ≡ Command.Decode → wire.new ≡ wire.old }
+    ensures check_unsent { command ≡ Command.Check → wire.new ≡ wire.old }
     ensures input_cause { HasCause (result ≡ INPUT_FAILED) (S.faults input.old) (S.faults input.new) }
     ensures out_cause { HasCause (result ≡ OUTPUT_FAILED) (K.faults out.old) (K.faults out.new) }
     ensures wire_cause { HasCause (result ≡ WIRE_FAILED) (W.faults wire.old) (W.faults wire.new) }
@@ -172,10 +193,12 @@ fn run<S: Source, K: Sink, W: Sink>(
 {
     one_answer();
     one_decoding();
+    one_check();
     match read_input(alloc, input) {
         Input::Whole(text) => match command {
             Command::Replay => replay_text(alloc, &text, out, wire),
             Command::Decode => decode_text(alloc, &text, out),
+            Command::Check => check_text(alloc, &text, out),
         },
         Input::TooLong => refuse(alloc, INPUT_LIMIT as u64, b"Input", out),
         Input::Failed => INPUT_FAILED,
@@ -202,6 +225,8 @@ fn command_named(word: &str) -> Option<Command>
         Some(Command::Replay)
     } else if word == "decode" {
         Some(Command::Decode)
+    } else if word == "check" {
+        Some(Command::Check)
     } else {
         None
     }
@@ -252,6 +277,28 @@ fn decode_text<K: Sink>(alloc: Global, text: &[u8], out: &mut K) -> u8
         Err(Cut::Fault { place, word }) => refuse(alloc, place, word.as_bytes(), out),
         Err(Cut::Memory) => NO_MEMORY,
         Err(Cut::Out) => OUTPUT_FAILED,
+    }
+}
+
+// Reads a proto file, and writes the text of its table.
+fn check_text<K: Sink>(alloc: Global, text: &[u8], out: &mut K) -> u8
+    requires short { length text.now ≤ INPUT_LIMIT }
+    ensures statuses { result ≤ OUTPUT_FAILED }
+    ensures some { (result ≢ NO_COMMAND) × (result ≢ INPUT_FAILED) }
+    ensures done { result ≡ DONE → ChecksText text.now (K.written out.old) (K.written out.new) }
+    ensures faulty { result ≡ FAULTY_INPUT → RefusesProto text.now (K.written out.old) (K.written out.new) }
+    ensures out_cause { HasCause (result ≡ OUTPUT_FAILED) (K.faults out.old) (K.faults out.new) }
+{
+    match checked_text(alloc, text) {
+        Ok(lines) => {
+            if write_all(out, lines.as_slice()) {
+                DONE
+            } else {
+                OUTPUT_FAILED
+            }
+        }
+        Err(CheckFault::At { line, word }) => refuse(alloc, line, word.as_bytes(), out),
+        Err(CheckFault::Memory) => NO_MEMORY,
     }
 }
 

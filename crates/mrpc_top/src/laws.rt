@@ -1,8 +1,10 @@
 //! The laws of the crates below, as the proofs here use them together. These functions do nothing; their clauses hold.
 
-ghost use Rattle.mrpc_top.specs.Laws.{FrameLaw, MeaningLaw, TextLaw};
+ghost use Rattle.mrpc_top.specs.Laws.{FileLaw, FrameLaw, MeaningLaw, TextLaw};
 
 use frame_transport::{frames_join, one_frame, one_split};
+use proto_schema::{file_or_fault, one_fault as one_proto_fault, one_file};
+use schema_resolve::{one_offence, one_table, table_or_offence};
 use table_text::{one_fault as one_table_fault, one_table_behind, one_text};
 use wire_decode::{meaning_or_fault, one_fault, one_meaning};
 
@@ -32,4 +34,16 @@ pub(crate) fn meaning_law()
     one_meaning();
     one_fault();
     meaning_or_fault();
+}
+
+/// What holds of proto files and their tables.
+pub(crate) fn file_law()
+    ensures { FileLaw }
+{
+    one_file();
+    one_proto_fault();
+    file_or_fault();
+    one_table();
+    one_offence();
+    table_or_offence();
 }

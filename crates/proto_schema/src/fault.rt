@@ -52,6 +52,26 @@ pub enum ProtoFault {
     Memory,
 }
 
+impl ProtoReason {
+    ghost use Rattle.proto_schema.specs.Reason.{proto_word};
+
+    /// The word that names the reason in a printed fault.
+    pub fn word(self) -> &'static str
+        ensures { result.now ≡ proto_word self }
+    {
+        match self {
+            ProtoReason::Token => "Token",
+            ProtoReason::Expected => "Expected",
+            ProtoReason::Import => "Import",
+            ProtoReason::Stream => "Stream",
+            ProtoReason::Group => "Group",
+            ProtoReason::Extend => "Extend",
+            ProtoReason::Syntax2 => "Syntax2",
+            ProtoReason::Nesting => "Nesting",
+        }
+    }
+}
+
 impl From<Memory> for ProtoFault {
     ghost from_gives = { λ _ e. e ≡ NoMemory };
 

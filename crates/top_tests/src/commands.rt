@@ -2,7 +2,8 @@
 
 use mrpc_base::{MemSink, MemSource};
 use mrpc_top::{
-    DONE, INPUT_FAILED, NO_COMMAND, OUTPUT_FAILED, WIRE_FAILED, one_decoding, run_command,
+    DONE, INPUT_FAILED, NO_COMMAND, OUTPUT_FAILED, WIRE_FAILED, one_check, one_decoding,
+    run_command,
 };
 use std::alloc::{AllocError, Global};
 use std::test::Fail;
@@ -97,5 +98,16 @@ fn a_frame_is_decoded(rt: HostRuntime) -> Result<(), Fail> {
     one_decoding();
     assert_eq!(rt; left.status, DONE);
     assert_eq!(rt; left.out.written(), b"frame 1 0 1 1 -\n".as_slice());
+    Ok(())
+}
+
+#[test]
+fn a_proto_file_is_checked(rt: HostRuntime) -> Result<(), Fail> {
+    let input = b"syntax='proto3';message M{}";
+    let left = run(rt.alloc(), "check", input, &[], &[], &[])?;
+    one_check();
+    assert_eq!(rt; left.status, DONE);
+    assert_eq!(rt; left.out.written(), b"message M\n".as_slice());
+    assert!(rt; left.wire.written().is_empty());
     Ok(())
 }

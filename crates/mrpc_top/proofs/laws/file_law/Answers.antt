@@ -1,0 +1,11 @@
+use Rattle.mrpc_top.proofs.laws.file_law.Goals as goal
+
+pub returns : goal.returns
+returns c = record {
+  one_file = c.one_file.ensures;
+  one_fault = c.one_fault.ensures;
+  file_or_fault = c.file_or_fault.ensures.not_both;
+  one_table = c.one_table.ensures;
+  one_offence = c.one_offence.ensures;
+  table_or_offence = c.table_or_offence.ensures.not_both;
+}
