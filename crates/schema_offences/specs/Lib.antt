@@ -10,3 +10,4 @@ pub mod Forms
 pub mod ReservedNames
 pub mod Lengths
 pub mod Entries
+pub mod Reason

@@ -1,5 +1,7 @@
 //! What can stand against a file.
 
+ghost use Rattle.std.specs.Prelude.{◌≡◌};
+
 use thiserror::Error;
 
 /// What stands against a name or a number of a file. Of several reasons at one place the first of this list counts.
@@ -36,4 +38,26 @@ pub enum ResolveReason {
     /// An import: a file alone has no other.
     #[error("Import")]
     Import,
+}
+
+impl ResolveReason {
+    ghost use Rattle.schema_offences.specs.Reason.{resolve_word};
+
+    /// The word that names the reason in a printed fault.
+    pub fn word(self) -> &'static str
+        ensures { result.now ≡ resolve_word self }
+    {
+        match self {
+            ResolveReason::UnknownName => "UnknownName",
+            ResolveReason::NumberRange => "NumberRange",
+            ResolveReason::DuplicateNumber => "DuplicateNumber",
+            ResolveReason::DuplicateName => "DuplicateName",
+            ResolveReason::Reserved => "Reserved",
+            ResolveReason::FirstEnum => "FirstEnum",
+            ResolveReason::MapKey => "MapKey",
+            ResolveReason::MapPlace => "MapPlace",
+            ResolveReason::Limit => "Limit",
+            ResolveReason::Import => "Import",
+        }
+    }
 }

@@ -74,7 +74,7 @@ one_scope {F} (of_message i m {outer} at up) (of_message j n {outer = outer'} at
     let f : outer ≡ outer' = one_scope up up2 in
     cc
 
-parent_below : (n p : ℕ) (place : Option ℕ) → place ≡ Some p → IsPlaceBelow n place → p < n
+pub parent_below : (n p : ℕ) (place : Option ℕ) → place ≡ Some p → IsPlaceBelow n place → p < n
 parent_below n p place e h = subst (IsPlaceBelow n) e h
 
 pub parent_scope : {F : File} (p : Option ℕ)

@@ -1,3 +1,4 @@
+mod Answering
 mod CleanFiles
 mod EnumTables
 mod FieldTables

@@ -8,6 +8,7 @@ ghost use Rattle.schema_resolve.specs.Resolving.{Resolves, IsFaultOf};
 ghost use Rattle.schema_resolve.specs.declared.fault.ResolveFault.TheVariants as faults;
 
 use crate::fault::ResolveFault;
+use crate::laws::one_table;
 use crate::table::table_of;
 use mrpc_table::Table;
 use proto_file::File;
@@ -35,6 +36,7 @@ pub fn resolve(alloc: Global, file: &File) -> Result<Table, ResolveFault>
     ensures offence { IfErr result (λ e. IsFaultOf file.now e) }
 {
     file_is_ordered();
+    one_table();
     let scopes = Scopes::new(alloc, file)?;
     match first_offence(alloc, file, &scopes)? {
         Some(Offence { reason, span }) => Err(ResolveFault::At {
