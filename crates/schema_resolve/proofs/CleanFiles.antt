@@ -88,8 +88,8 @@ scope_below formed zero i l here = absurd (omega arith)
 scope_below {F} formed (suc n) i l here =
     let m = some_at F.messages i here in
     let up = parent_scope {F = F} m.0.parent
-        (λ q e. scope_below formed n q (omega (arith, parent_below i q m.0.parent e (formed.parents i m.0 m.1)))
-        (omega (arith, parent_below i q m.0.parent e (formed.parents i m.0 m.1)))) in
+    (λ q e. scope_below formed n q (omega (arith, parent_below i q m.0.parent e (formed.parents i m.0 m.1)))
+    (omega (arith, parent_below i q m.0.parent e (formed.parents i m.0 m.1)))) in
     (up.0 ++ m.0.name.name ∷ [], of_message i m.0 m.1 up.1)
 
 pub scope_at : {F : File} → IsFormed F → (i : ℕ) → i < length F.messages → (s : List (List ℕ)) × IsScope F (Some i) s
@@ -126,9 +126,9 @@ one_declaration F x y a b f g s t ordered clean d e p q m n same =
     elim (cases_order s.start t.start) [
       | inl h ↦ (ordered.apart x y its_name its_name s t p q h).0
       | inr h ↦ elim h [
-          | inl l ↦ absurd (not_twice F a b g s t clean d2 e l)
-          | inr l ↦ absurd (not_twice F b a g t s clean e d2 l)
-        ]
+        | inl l ↦ absurd (not_twice F a b g s t clean d2 e l)
+        | inr l ↦ absurd (not_twice F b a g t s clean e d2 l)
+      ]
     ]
 
 same_message : (i j : ℕ) → message_decl i ≡ message_decl j → i ≡ j
@@ -167,11 +167,11 @@ messages_more {F} names more front name i m formed e count at is grown h =
             let d : p.decl ≡ m = same_Some p.decl m (sym p.at ∙ ap (slice_get F.messages) s ∙ at) in
             let up : IsScope F m.parent p.outer = subst (λ (x : MessageDecl). IsScope F x.parent p.outer) d p.up in
             let f : full ≡ p.outer ++ m.name.name ∷ [] =
-                p.is ∙ ap (λ (x : MessageDecl). p.outer ++ x.name.name ∷ []) d in
+            p.is ∙ ap (λ (x : MessageDecl). p.outer ++ x.name.name ∷ []) d in
             let t : name ≡ text_of full =
-                is ∙ full_text names front m.name.name m.parent p.outer formed e h
-                (subst (λ (n : ℕ). IsPlaceBelow n m.parent) (sym count) (formed.parents i m at)) up
-                ∙ ap text_of (sym f) in
+            is ∙ full_text names front m.name.name m.parent p.outer formed e h
+            (subst (λ (n : ℕ). IsPlaceBelow n m.parent) (sym count) (formed.parents i m at)) up
+            ∙ ap text_of (sym f) in
             push_new names name k (count ∙ sym s) ∙ ap Some t
       ];
     })
@@ -190,12 +190,12 @@ enums_more {F} messages names more front name i e formed front_is all known coun
             let same : d ≡ e = same_Some d e (sym there ∙ ap (slice_get F.enums) s ∙ at) in
             let up2 : IsScope F e.parent outer = subst (λ (x : EnumDecl). IsScope F x.parent outer) same up in
             let below : IsPlaceBelow (length F.messages) e.parent =
-                All-contains (λ (x : EnumDecl). IsPlaceBelow (length F.messages) x.parent) F.enums e
-                formed.enum_parents (in_list F.enums i e at) in
+            All-contains (λ (x : EnumDecl). IsPlaceBelow (length F.messages) x.parent) F.enums e
+            formed.enum_parents (in_list F.enums i e at) in
             let t : name ≡ text_of (outer ++ d.name.name ∷ []) =
-                is ∙ full_text messages front e.name.name e.parent outer formed front_is known
-                (subst (λ (n : ℕ). IsPlaceBelow n e.parent) (sym all) below) up2
-                ∙ ap (λ (x : EnumDecl). text_of (outer ++ x.name.name ∷ [])) (sym same) in
+            is ∙ full_text messages front e.name.name e.parent outer formed front_is known
+            (subst (λ (n : ℕ). IsPlaceBelow n e.parent) (sym all) below) up2
+            ∙ ap (λ (x : EnumDecl). text_of (outer ++ x.name.name ∷ [])) (sym same) in
             push_new names name k (count ∙ sym s) ∙ ap Some t
       ];
     })

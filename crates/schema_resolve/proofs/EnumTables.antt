@@ -60,7 +60,7 @@ pub map_contains : {X Y : Type 0} (f : X → Y) (xs : List X) (y : Y) → Contai
 map_contains f xs y c =
     let e = some_at xs c.0 (omega (arith, c.1, length-map xs f)) in
     let s : Some (f e.0) ≡ Some y =
-        sym (ap (option_map f) e.1) ∙ sym (slice_get-map f xs c.0) ∙ at_in (map f xs) y c in
+    sym (ap (option_map f) e.1) ∙ sym (slice_get-map f xs c.0) ∙ at_in (map f xs) y c in
     (e.0, in_list xs c.0 e.0 e.1, same_Some (f e.0) y s)
 
 -- ---- values by number and name
@@ -93,22 +93,22 @@ value_step sorted apart ascends k d m =
     let x = element sorted k n in
     let y = element sorted (suc k) m in
     let xv : get_or (map value_pair sorted) k d ≡ value_pair x.0 =
-        get_or-map value_pair sorted k x.0 d n ∙ ap value_pair (x.1 x.0) in
+    get_or-map value_pair sorted k x.0 d n ∙ ap value_pair (x.1 x.0) in
     let yv : get_or (map value_pair sorted) (suc k) d ≡ value_pair y.0 =
-        get_or-map value_pair sorted (suc k) y.0 d m ∙ ap value_pair (y.1 y.0) in
+    get_or-map value_pair sorted (suc k) y.0 d m ∙ ap value_pair (y.1 y.0) in
     let xt : get_or (map text_at sorted) k [] ≡ x.0.1.now =
-        get_or-map text_at sorted k x.0 [] n ∙ ap text_at (x.1 x.0) in
+    get_or-map text_at sorted k x.0 [] n ∙ ap text_at (x.1 x.0) in
     let yt : get_or (map text_at sorted) (suc k) [] ≡ y.0.1.now =
-        get_or-map text_at sorted (suc k) y.0 [] m ∙ ap text_at (y.1 y.0) in
+    get_or-map text_at sorted (suc k) y.0 [] m ∙ ap text_at (y.1 y.0) in
     let apart_here : y.0.1.now ≡ x.0.1.now → ⊥ =
-        λ f. let g : suc k ≡ k = apart (suc k) k [] (omega (arith, length-map sorted text_at))
-            (omega (arith, length-map sorted text_at)) (yt ∙ f ∙ sym xt) in
-        omega arith in
+    λ f. let g : suc k ≡ k = apart (suc k) k [] (omega (arith, length-map sorted text_at))
+    (omega (arith, length-map sorted text_at)) (yt ∙ f ∙ sym xt) in
+    omega arith in
     let less : is_lt (value_cmp y.0 x.0) ≡ false =
-        subst (λ (p : ℤ × Bor (List ℕ)). is_lt (value_cmp y.0 p) ≡ false) (x.1 x.0)
-        (subst (λ (p : ℤ × Bor (List ℕ)). is_lt (value_cmp p (get_or sorted k x.0)) ≡ false) (y.1 x.0)
-        (subst (λ (i : ℕ). is_lt (value_cmp (get_or sorted i x.0) (get_or sorted k x.0)) ≡ false) (add-one k)
-        (ascends k x.0 (omega arith) (omega (arith, add-one k))))) in
+    subst (λ (p : ℤ × Bor (List ℕ)). is_lt (value_cmp y.0 p) ≡ false) (x.1 x.0)
+    (subst (λ (p : ℤ × Bor (List ℕ)). is_lt (value_cmp p (get_or sorted k x.0)) ≡ false) (y.1 x.0)
+    (subst (λ (i : ℕ). is_lt (value_cmp (get_or sorted i x.0) (get_or sorted k x.0)) ≡ false) (add-one k)
+    (ascends k x.0 (omega arith) (omega (arith, add-one k))))) in
     subst (λ (v : ℤ × List ℕ). IsValueBelow v (get_or (map value_pair sorted) (suc k) d)) (sym xv)
     (subst (λ (w : ℤ × List ℕ). IsValueBelow (value_pair x.0) w) (sym yv) (value_below x.0 y.0 apart_here less))
 
@@ -122,28 +122,28 @@ pub values_of : (decls : List ValueDecl) (values sorted : List (ℤ × Bor (List
 values_of decls values sorted distinct same moved ascends =
     let named : ℤ × List ℕ → List ℕ = λ v. v.1 in
     let pairs : IsPermutation (map value_pair values) (map value_pair sorted) =
-        IsPermutation-map value_pair values sorted moved in
+    IsPermutation-map value_pair values sorted moved in
     let pairs2 : IsPermutation (map value_in decls) (map value_pair sorted) =
-        subst (λ (vs : List (ℤ × List ℕ)). IsPermutation vs (map value_pair sorted)) same pairs in
+    subst (λ (vs : List (ℤ × List ℕ)). IsPermutation vs (map value_pair sorted)) same pairs in
     let names : map (λ (v : ValueDecl). v.name.name) decls ≡ map named (map value_in decls) =
-        sym (map_twice value_in named decls) in
+    sym (map_twice value_in named decls) in
     let apart : AreApart (map named (map value_pair sorted)) =
-        apart_moved (map named (map value_in decls)) (map named (map value_pair sorted))
-        (IsPermutation-map named (map value_in decls) (map value_pair sorted) pairs2)
-        (subst (λ (ns : List (List ℕ)). AreApart ns) names
-        (distinct_apart (map (λ (v : ValueDecl). v.name.name) decls) distinct)) in
+    apart_moved (map named (map value_in decls)) (map named (map value_pair sorted))
+    (IsPermutation-map named (map value_in decls) (map value_pair sorted) pairs2)
+    (subst (λ (ns : List (List ℕ)). AreApart ns) names
+    (distinct_apart (map (λ (v : ValueDecl). v.name.name) decls) distinct)) in
     record {
       count = length_permutation (map value_in decls) (map value_pair sorted) pairs2 ∙ length-map decls value_in;
       those = record {
         each = λ v c. (
           value_in v,
           Contains-permutation (map value_in decls) (map value_pair sorted) (value_in v) pairs2
-          (contains_map value_in decls v c),
+              (contains_map value_in decls v c),
           (refl, refl),
         );
         alone = λ w c.
             let b = Contains-permutation (map value_pair sorted) (map value_in decls) w
-                (IsPermutation-sym (map value_in decls) (map value_pair sorted) pairs2) c in
+            (IsPermutation-sym (map value_in decls) (map value_pair sorted) pairs2) c in
             let x = map_contains value_in decls w b in
             (x.0, x.1, (ap (λ (v : ℤ × List ℕ). v.0) (sym x.2), ap (λ (v : ℤ × List ℕ). v.1) (sym x.2)));
       };
@@ -199,11 +199,11 @@ values_distinct F i e formed ordered clean at =
     let xs : Contains e.values x.0 = in_list e.values j x.0 x.1 in
     let ys : Contains e.values y.0 = in_list e.values k y.0 y.1 in
     let xn : get_or (map name e.values) j d ≡ x.0.name.name =
-        get_or-map name e.values j x.0 d (omega (arith, length-map e.values name))
-        ∙ ap name (get_or_from_slice_get e.values j x.0 x.0 x.1) in
+    get_or-map name e.values j x.0 d (omega (arith, length-map e.values name))
+    ∙ ap name (get_or_from_slice_get e.values j x.0 x.0 x.1) in
     let yn : get_or (map name e.values) k d ≡ y.0.name.name =
-        get_or-map name e.values k y.0 d (omega (arith, length-map e.values name))
-        ∙ ap name (get_or_from_slice_get e.values k y.0 y.0 y.1) in
+    get_or-map name e.values k y.0 d (omega (arith, length-map e.values name))
+    ∙ ap name (get_or_from_slice_get e.values k y.0 y.0 y.1) in
     let formed_values = (enum_formed F i e formed at).values in
     same_value i j k
     (one_declaration F (value_decl i j) (value_decl i k) no_type no_type (here.outer ++ x.0.name.name ∷ [])
@@ -244,10 +244,13 @@ few_values F i e clean at = elim (cases_lt MAX_VALUES (length e.values)) [
 pub first_zero : (F : File) (i : ℕ) (e : EnumDecl) → IsFormed F → IsClean F → slice_get F.enums i ≡ Some e
     → (v : ValueDecl) × Contains e.values v × (value_of v.number ≡ pos 0)
 first_zero F i e formed clean at =
-    let v = some_at e.values 0 (enum_formed F i e formed at).filled in
-    (v.0, in_list e.values 0 v.0 v.1, zero_at (value_of v.0.number)
-    (λ not. clean FirstEnum v.0.number.span (offends (Offences.of_enum i e at
-    (of_value 0 (first_not_zero v.0 v.1 refl not (refl, refl)))))))
+    let v = some_at e.values 0 (enum_formed F i e formed at).filled in (
+      v.0,
+      in_list e.values 0 v.0 v.1,
+      zero_at (value_of v.0.number)
+          (λ not. clean FirstEnum v.0.number.span (offends (Offences.of_enum i e at
+          (of_value 0 (first_not_zero v.0 v.1 refl not (refl, refl)))))),
+    )
 
 -- ---- full names
 
@@ -260,7 +263,7 @@ package_short_at : (F : File) (word : Option Word) → F.package ≡ word → Is
 package_short_at F None e clean = refl
 package_short_at F (Some w) e clean =
     let t : is_short_full w.name ≡ true = true_from (is_short_full w.name)
-        (λ f. clean Limit w.span (offends (Offences.of_package w e f (refl, refl)))) in
+    (λ f. clean Limit w.span (offends (Offences.of_package w e f (refl, refl)))) in
     (and_parts (list_all is_short (parts_of w.name)) (nat_le (length w.name) MAX_FULL_NAME) t).0
 
 pub short_more : (outer : List (List ℕ)) (name : List ℕ) → list_all is_short outer ≡ true → is_short name ≡ true
@@ -312,12 +315,12 @@ enum_at F p i e c formed ordered clean plan at name values =
     let same : here.decl ≡ e = same_Some here.decl e (sym here.at ∙ at) in
     let up : IsScope F e.parent here.outer = subst (λ (x : EnumDecl). IsScope F x.parent here.outer) same here.up in
     let text : c.name ≡ text_of (here.outer ++ here.decl.name.name ∷ []) =
-        name ∙ enum_text F p.enums.names.items i here plan.enums
-        (omega (arith, plan.all_enums, slice_get_within F.enums i e at)) [] in
+    name ∙ enum_text F p.enums.names.items i here plan.enums
+    (omega (arith, plan.all_enums, slice_get_within F.enums i e at)) [] in
     let text2 : c.name ≡ text_of (here.outer ++ e.name.name ∷ []) =
-        text ∙ ap (λ (x : EnumDecl). text_of (here.outer ++ x.name.name ∷ [])) same in
+    text ∙ ap (λ (x : EnumDecl). text_of (here.outer ++ x.name.name ∷ [])) same in
     let short : is_short here.decl.name.name ≡ true = true_from (is_short here.decl.name.name)
-        (λ f. clean Limit here.decl.name.span (offends (Offences.of_enum i here.decl here.at (Members.long_enum (f, (refl, refl)))))) in
+    (λ f. clean Limit here.decl.name.span (offends (Offences.of_enum i here.decl here.at (Members.long_enum (f, (refl, refl)))))) in
     record {
       is = λ d there.
           let one : e ≡ d = same_Some e d (sym at ∙ there) in

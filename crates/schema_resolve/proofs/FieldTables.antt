@@ -89,18 +89,18 @@ module _ (F : File) (i : ℕ) (m : MessageDecl) (scope : List (List ℕ)) (f : F
       → ((label : Label) (word : List ℕ) → HasForm (F ∷ []) scope f label word → ⊥) → ⊥
   map_form key value is label oneof none =
       let key_scalar : (k : Kind) → IsScalar key.name k → is_key k ≡ true → ⊥ =
-          λ k s keyed.
-          let t = has_type value
-              (λ word is_message packable h. none _ _ (a_map key value k word is_message packable is label oneof s keyed h)) in
-          well_typed UnknownName value.span
-          (unknown_value key value is (record { no_scalar = t.0; unknown = t.1; is = (refl, refl) })) in
+      λ k s keyed.
+      let t = has_type value
+      (λ word is_message packable h. none _ _ (a_map key value k word is_message packable is label oneof s keyed h)) in
+      well_typed UnknownName value.span
+      (unknown_value key value is (record { no_scalar = t.0; unknown = t.1; is = (refl, refl) })) in
       let no_key : IsNoScalar key.name =
-          λ k s. elim (cases_Bool (is_key k)) [
-            | inl t ↦ key_scalar k s t
-            | inr t ↦ well_typed MapKey key.span (bad_key key value is (scalar_key k s t (refl, refl)))
-          ] in
+      λ k s. elim (cases_Bool (is_key k)) [
+        | inl t ↦ key_scalar k s t
+        | inr t ↦ well_typed MapKey key.span (bad_key key value is (scalar_key k s t (refl, refl)))
+      ] in
       let no_names : IsUnknown (F ∷ []) scope key.name =
-          λ sort full names. well_typed MapKey key.span (bad_key key value is (type_key sort full no_key names (refl, refl))) in
+      λ sort full names. well_typed MapKey key.span (bad_key key value is (type_key sort full no_key names (refl, refl))) in
       well_typed UnknownName key.span
       (bad_key key value is (unknown_key (record { no_scalar = no_key; unknown = no_names; is = (refl, refl) })))
 
@@ -143,8 +143,8 @@ pub judged_more : (F : File) (place i : ℕ) (fs : List FieldDecl) (f : FieldDec
 judged_more F place i fs f js more j at is e h =
     let decl : Judged → FieldDecl = λ x. x.decl.now in
     let grown : take (i + 1) fs ≡ take i fs ++ f ∷ [] =
-        take_more fs i f (slice_get_within fs i f at)
-        ∙ ap (λ (x : FieldDecl). take i fs ++ x ∷ []) (get_or_from_slice_get fs i f f at) in
+    take_more fs i f (slice_get_within fs i f at)
+    ∙ ap (λ (x : FieldDecl). take i fs ++ x ∷ []) (get_or_from_slice_get fs i f f at) in
     subst (λ (l : List FieldDecl). AreJudgedInOrder F place l more) (sym grown)
     (subst (AreJudgedInOrder F place (take i fs ++ f ∷ [])) (sym e) (record {
       decls = map-append decl js (j ∷ []) ∙ ap (λ (l : List FieldDecl). l ++ decl j ∷ []) h.decls
@@ -195,19 +195,19 @@ numbers_apart F place m js formed clean at h i k d a b e =
     let x = judged_at F place m js i h (omega (arith, length-map js number)) in
     let y = judged_at F place m js k h (omega (arith, length-map js number)) in
     let xn : get_or (map number js) i d ≡ x.0.number =
-        get_or-map number js i x.0 d (omega (arith, length-map js number))
-        ∙ ap number (get_or_from_slice_get js i x.0 x.0 x.1) in
+    get_or-map number js i x.0 d (omega (arith, length-map js number))
+    ∙ ap number (get_or_from_slice_get js i x.0 x.0 x.1) in
     let yn : get_or (map number js) k d ≡ y.0.number =
-        get_or-map number js k y.0 d (omega (arith, length-map js number))
-        ∙ ap number (get_or_from_slice_get js k y.0 y.0 y.1) in
+    get_or-map number js k y.0 d (omega (arith, length-map js number))
+    ∙ ap number (get_or_from_slice_get js k y.0 y.0 y.1) in
     let same : value_of x.0.decl.now.number ≡ value_of y.0.decl.now.number =
-        x.2.number_is ∙ ap pos (sym xn ∙ e ∙ yn) ∙ sym y.2.number_is in
+    x.2.number_is ∙ ap pos (sym xn ∙ e ∙ yn) ∙ sym y.2.number_is in
     elim (cases_order i k) [
       | inl s ↦ s
       | inr s ↦ elim s [
-          | inl l ↦ absurd (met_twice F place m scope i k x.0.decl.now y.0.decl.now clean at up x.3 y.3 same l)
-          | inr l ↦ absurd (met_twice F place m scope k i y.0.decl.now x.0.decl.now clean at up y.3 x.3 (sym same) l)
-        ]
+        | inl l ↦ absurd (met_twice F place m scope i k x.0.decl.now y.0.decl.now clean at up x.3 y.3 same l)
+        | inr l ↦ absurd (met_twice F place m scope k i y.0.decl.now x.0.decl.now clean at up y.3 x.3 (sym same) l)
+      ]
     ]
 
 names_apart : (F : File) (place : ℕ) (m : MessageDecl) → IsFormed F → IsOrdered F → IsClean F
@@ -224,11 +224,11 @@ names_apart F place m formed ordered clean at j k d a b s =
     let xs : Contains m.fields x.0 = in_list m.fields j x.0 x.1 in
     let ys : Contains m.fields y.0 = in_list m.fields k y.0 y.1 in
     let xn : get_or (map name m.fields) j d ≡ x.0.name.name =
-        get_or-map name m.fields j x.0 d (omega (arith, length-map m.fields name))
-        ∙ ap name (get_or_from_slice_get m.fields j x.0 x.0 x.1) in
+    get_or-map name m.fields j x.0 d (omega (arith, length-map m.fields name))
+    ∙ ap name (get_or_from_slice_get m.fields j x.0 x.0 x.1) in
     let yn : get_or (map name m.fields) k d ≡ y.0.name.name =
-        get_or-map name m.fields k y.0 d (omega (arith, length-map m.fields name))
-        ∙ ap name (get_or_from_slice_get m.fields k y.0 y.0 y.1) in
+    get_or-map name m.fields k y.0 d (omega (arith, length-map m.fields name))
+    ∙ ap name (get_or_from_slice_get m.fields k y.0 y.0 y.1) in
     let fs = (message_formed F place m formed at).fields in
     let full : FieldDecl → List (List ℕ) = λ f. here.outer ++ m.name.name ∷ f.name.name ∷ [] in
     same_field place j k
@@ -248,12 +248,12 @@ number_step sorted apart ascends k d l =
     let number : Judged → ℕ = λ j. j.number in
     let x : get_or (map number sorted) k 0 ≡ (get_or sorted k d).number = get_or-map number sorted k d 0 (omega arith) in
     let y : get_or (map number sorted) (suc k) 0 ≡ (get_or sorted (suc k) d).number =
-        get_or-map number sorted (suc k) d 0 l in
+    get_or-map number sorted (suc k) d 0 l in
     let below : (get_or sorted k d).number ≤ (get_or sorted (suc k) d).number = ascends k (suc k) d (omega arith) l in
     let differ : (get_or sorted k d).number ≢ (get_or sorted (suc k) d).number = λ e.
-        let same : k ≡ suc k = apart k (suc k) 0 (omega (arith, length-map sorted number))
-            (omega (arith, length-map sorted number)) (x ∙ e ∙ sym y) in
-        omega arith in
+    let same : k ≡ suc k = apart k (suc k) 0 (omega (arith, length-map sorted number))
+    (omega (arith, length-map sorted number)) (x ∙ e ∙ sym y) in
+    omega arith in
     omega arith
 
 pub judged_of : (F : File) (place : ℕ) (m : MessageDecl) (js sorted : List Judged) → IsFormed F → IsOrdered F
@@ -264,19 +264,19 @@ judged_of F place m js sorted formed ordered clean at h moved ascends =
     let number : Judged → ℕ = λ j. j.number in
     let name : FieldDecl → List ℕ = λ f. f.name.name in
     let decls : IsPermutation m.fields (map decl sorted) =
-        subst (λ (fs : List FieldDecl). IsPermutation fs (map decl sorted)) h.decls (IsPermutation-map decl js sorted moved) in
+    subst (λ (fs : List FieldDecl). IsPermutation fs (map decl sorted)) h.decls (IsPermutation-map decl js sorted moved) in
     let apart : AreApart (map number sorted) =
-        apart_moved (map number js) (map number sorted) (IsPermutation-map number js sorted moved)
-        (numbers_apart F place m js formed clean at h) in
+    apart_moved (map number js) (map number sorted) (IsPermutation-map number js sorted moved)
+    (numbers_apart F place m js formed clean at h) in
     let names : AreApart (map name (map decl sorted)) =
-        apart_moved (map name m.fields) (map name (map decl sorted)) (IsPermutation-map name m.fields (map decl sorted) decls)
-        (names_apart F place m formed ordered clean at) in
+    apart_moved (map name m.fields) (map name (map decl sorted)) (IsPermutation-map name m.fields (map decl sorted) decls)
+    (names_apart F place m formed ordered clean at) in
     record {
       count = sym (length-map sorted decl) ∙ length_permutation m.fields (map decl sorted) decls;
       each = λ j c. (
         h.each j (Contains-permutation sorted js j (IsPermutation-sym js sorted moved) c),
         Contains-permutation (map decl sorted) m.fields (decl j) (IsPermutation-sym m.fields (map decl sorted) decls)
-        (contains_map decl sorted j c),
+            (contains_map decl sorted j c),
       );
       all = λ f c. map_contains decl sorted f (Contains-permutation m.fields (map decl sorted) f decls c);
       ascend = ascends_from (λ j k. j.number < k.number) sorted (λ k d l. number_step sorted apart ascends k d l);

@@ -340,10 +340,10 @@ enum_kind F p T i full span plan has (Numbers.enum j x {outer} there up) =
     let place : get_or p.enums.places.items i 0 ≡ at.0 = get_or_from_slice_get p.enums.places.items i at.0 0 at.1.back in
     let r = name_read (λ (c : Choices). c.name) T.enums p.enums i at.0 has.enums at.1 in
     let known : slice_get p.enums.names.items i ≡ Some (text_of (outer ++ x.name.name ∷ [])) =
-        plan.enums.each i x outer (omega (arith, plan.all_enums)) there up in
+    plan.enums.each i x outer (omega (arith, plan.all_enums)) there up in
     let text : enum_name T at.0 ≡ text_of (outer ++ x.name.name ∷ []) =
-        ap (λ (o : Option (List ℕ)). unwrap_or o []) r.0
-        ∙ get_or_from_slice_get p.enums.names.items i (text_of (outer ++ x.name.name ∷ [])) [] known in (
+    ap (λ (o : Option (List ℕ)). unwrap_or o []) r.0
+    ∙ get_or_from_slice_get p.enums.names.items i (text_of (outer ++ x.name.name ∷ [])) [] known in (
       ap (λ (k : ℕ). codes "enum:" ++ enum_name T k) place ∙ ap (λ (t : List ℕ). codes "enum:" ++ t) text,
       subst (λ (k : ℕ). k < length T.enums) (sym place) r.1,
     )

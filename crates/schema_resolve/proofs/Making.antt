@@ -29,15 +29,14 @@ pub within_messages : (F : File) (p : Plan) (xs : List ℕ) (i : ℕ) → IsPlan
     → i < length xs → get_or xs i 0 < length F.messages
 within_messages F p xs i plan e l =
     let h : get_or p.messages.order.items i 0 < length p.messages.names.items =
-        All-get_or (λ (k : ℕ). k < length p.messages.names.items) p.messages.order.items i 0 (omega (arith, ap length e))
-        plan.message_places.order.within in
+    All-get_or (λ (k : ℕ). k < length p.messages.names.items) p.messages.order.items i 0 (omega (arith, ap length e))
+    plan.message_places.order.within in
     omega (arith, plan.all_messages, ap (λ (zs : List ℕ). get_or zs i 0) e)
 
 pub within_enums : (F : File) (p : Plan) (xs : List ℕ) (i : ℕ) → IsPlan F p → xs ≡ p.enums.order.items
     → i < length xs → get_or xs i 0 < length F.enums
 within_enums F p xs i plan e l =
     let h : get_or p.enums.order.items i 0 < length p.enums.names.items =
-        All-get_or (λ (k : ℕ). k < length p.enums.names.items) p.enums.order.items i 0 (omega (arith, ap length e))
-        plan.enum_places.order.within in
+    All-get_or (λ (k : ℕ). k < length p.enums.names.items) p.enums.order.items i 0 (omega (arith, ap length e))
+    plan.enum_places.order.within in
     omega (arith, plan.all_enums, ap (λ (zs : List ℕ). get_or zs i 0) e)
-

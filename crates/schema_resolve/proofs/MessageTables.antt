@@ -188,8 +188,8 @@ pub made_more : (plan : Plan) (words : List Word) (js : List Judged) (i : ℕ) (
 made_more plan words js i j old new g gs more at plain is e h few =
     let step = step_of words j.decl.now.oneof j.form.label old new g.label plain is.label_is in
     let grown : take (i + 1) js ≡ take i js ++ j ∷ [] =
-        take_more js i j (slice_get_within js i j at)
-        ∙ ap (λ (x : Judged). take i js ++ x ∷ []) (get_or_from_slice_get js i j j at) in
+    take_more js i j (slice_get_within js i j at)
+    ∙ ap (λ (x : Judged). take i js ++ x ∷ []) (get_or_from_slice_get js i j j at) in
     let made : IsMade plan words new.names j g = record {
       number_is = is.number_is;
       name_is = is.name_is;
@@ -197,12 +197,12 @@ made_more plan words js i j old new g gs more at plain is e h few =
       label_is = step.label_is;
     } in (
       subst (λ (l : List Judged). AreMade plan words l new more) (sym grown)
-      (subst (AreMade plan words (take i js ++ j ∷ []) new) (sym e) (record {
-        keeps = is.keeps;
-        made = in_order_push (IsMade plan words new.names) j g
-            (made_grown plan words old.names new.names (take i js) gs step.grown h.made) made;
-        follow = follow_more gs 0 (length old.names) (length new.names) g h.follow step.joins;
-      })),
+          (subst (AreMade plan words (take i js ++ j ∷ []) new) (sym e) (record {
+            keeps = is.keeps;
+            made = in_order_push (IsMade plan words new.names) j g
+                (made_grown plan words old.names new.names (take i js) gs step.grown h.made) made;
+            follow = follow_more gs 0 (length old.names) (length new.names) g h.follow step.joins;
+          })),
       (let n : length new.names ≤ length old.names + 1 = step.few in omega arith),
     )
 
@@ -386,8 +386,8 @@ oneofs_distinct F place m o formed ordered clean at keeps =
     let x = met_oneof m.oneofs o p keeps a in
     let y = met_oneof m.oneofs o q keeps b in
     let names : x.word.name ≡ y.word.name =
-        sym (get_or_from_slice_get o.names p x.word.name d x.named) ∙ e
-        ∙ get_or_from_slice_get o.names q y.word.name d y.named in
+    sym (get_or_from_slice_get o.names p x.word.name d x.named) ∙ e
+    ∙ get_or_from_slice_get o.names q y.word.name d y.named in
     let s : x.at ≡ y.at = one_oneof F place m x.at y.at x.word y.word formed ordered clean at x.here y.here names in
     same_place p q (sym x.placed ∙ ap (slice_get o.places.items) s ∙ y.placed))
 
@@ -411,20 +411,20 @@ message_at F p place m js o gs name formed ordered clean plan at judged made nam
     let scope : List (List ℕ) = here.outer ++ m.name.name ∷ [] in
     let its : IsScope F (Some place) scope = of_message place m at up in
     let text : name ≡ text_of (here.outer ++ here.decl.name.name ∷ []) =
-        named ∙ message_text F p.messages.names.items place here plan.messages
-        (omega (arith, plan.all_messages, slice_get_within F.messages place m at)) [] in
+    named ∙ message_text F p.messages.names.items place here plan.messages
+    (omega (arith, plan.all_messages, slice_get_within F.messages place m at)) [] in
     let text2 : name ≡ text_of scope =
-        text ∙ ap (λ (d : MessageDecl). text_of (here.outer ++ d.name.name ∷ [])) same in
+    text ∙ ap (λ (d : MessageDecl). text_of (here.outer ++ d.name.name ∷ [])) same in
     let short : is_short here.decl.name.name ≡ true = true_from (is_short here.decl.name.name)
-        (λ no. clean Limit here.decl.name.span (offends (Offences.of_message place here.decl here.at
-        (of_message place here.decl here.at here.up) (long_message (no, (refl, refl)))))) in
+    (λ no. clean Limit here.decl.name.span (offends (Offences.of_message place here.decl here.at
+    (of_message place here.decl here.at here.up) (long_message (no, (refl, refl)))))) in
     let R : Judged → Field → Type 0 = IsMade p m.oneofs o.names in
     let back : (k : ℕ) (g : Field) → slice_get gs k ≡ Some g
-            → (j : Judged) × (slice_get js k ≡ Some j) × IsMade p m.oneofs o.names j g =
-        λ k g e. in_order_back R made.made k g e in
+    → (j : Judged) × (slice_get js k ≡ Some j) × IsMade p m.oneofs o.names j g =
+    λ k g e. in_order_back R made.made k g e in
     let parts : (T : Table) → HasNames p T → (k : ℕ) (j : Judged) (g : Field) → slice_get js k ≡ Some j
-            → IsMade p m.oneofs o.names j g → FieldParts F T scope m t j.decl.now g =
-        λ T has k j g e h. field_of F p T place m scope j g t formed plan has its (judged.each j (in_list js k j e)).0 h in
+    → IsMade p m.oneofs o.names j g → FieldParts F T scope m t j.decl.now g =
+    λ T has k j g e h. field_of F p T place m scope j g t formed plan has its (judged.each j (in_list js k j e)).0 h in
     record {
       is = λ T has d there.
           let one : m ≡ d = same_Some m d (sym at ∙ there) in
@@ -440,7 +440,7 @@ message_at F p place m js o gs name formed ordered clean plan at judged made nam
                     g.0,
                     in_list gs j.1.0 g.0 g.1,
                     subst (λ (x : FieldDecl). IsFieldOf T (alone F) scope m t x g.0) j.2
-                    (parts T has j.1.0 j.0 g.0 e g.2).of_field,
+                        (parts T has j.1.0 j.0 g.0 e g.2).of_field,
                   );
               alone = λ g c.
                   let j = back c.0 g (at_in gs g c) in (
@@ -472,9 +472,13 @@ message_at F p place m js o gs name formed ordered clean plan at judged made nam
         name = subst IsFullName (sym text)
             (type_valid F a_message here.outer here.decl.name.name here.decl.name.span clean here.declares refl here.names
             (short_more here.outer here.decl.name.name (scope_short clean here.up) short));
-        few = omega (arith, few_fields F place m formed clean at, judged.count,
-            sym (length-map js (λ (j : Judged). j.number)) ∙ ap length (in_order_map R (λ (j : Judged). j.number)
-            (λ (g : Field). g.number) (λ j g h. sym h.number_is) made.made) ∙ length-map gs (λ (g : Field). g.number));
+        few = omega (
+          arith,
+          few_fields F place m formed clean at,
+          judged.count,
+          sym (length-map js (λ (j : Judged). j.number)) ∙ ap length (in_order_map R (λ (j : Judged). j.number)
+              (λ (g : Field). g.number) (λ j g h. sym h.number_is) made.made) ∙ length-map gs (λ (g : Field). g.number),
+        );
         fields = λ k d l.
             let g : Field = get_or gs k d in
             let e : slice_get gs k ≡ Some g = slice_get-get_or gs k d l in

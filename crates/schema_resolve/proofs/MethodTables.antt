@@ -60,9 +60,9 @@ pub name_read : {X : Type 0} (name : X → List ℕ) (xs : List X) (p : Placed) 
     → (option_map name (slice_get xs place) ≡ Some (name_at p.names.items i)) × (place < length xs)
 name_read name xs p i place e at =
     let s : slice_get (names_in_order p) place ≡ Some (name_at p.names.items i) =
-        slice_get-map (name_at p.names.items) p.order.items place ∙ ap (option_map (name_at p.names.items)) at.order in
+    slice_get-map (name_at p.names.items) p.order.items place ∙ ap (option_map (name_at p.names.items)) at.order in
     let t : slice_get (map name xs) place ≡ Some (name_at p.names.items i) =
-        ap (λ (ns : List (List ℕ)). slice_get ns place) e ∙ s in (
+    ap (λ (ns : List (List ℕ)). slice_get ns place) e ∙ s in (
       sym (slice_get-map name xs place) ∙ t,
       omega (arith, slice_get_within (map name xs) place (name_at p.names.items i) t, length-map xs name),
     )
@@ -73,9 +73,9 @@ pub message_named : (F : File) (p : Plan) (T : Table) (i place : ℕ) (full : Li
 message_named F p T i place full plan names l scope at =
     let r = name_read (λ (m : Message). m.name) T.messages p.messages i place names.messages at in
     let known : slice_get p.messages.names.items i ≡ Some (text_of full) =
-        plan.messages.each i full (omega (arith, plan.all_messages)) scope in (
+    plan.messages.each i full (omega (arith, plan.all_messages)) scope in (
       ap (λ (o : Option (List ℕ)). unwrap_or o []) r.0
-      ∙ get_or_from_slice_get p.messages.names.items i (text_of full) [] known,
+          ∙ get_or_from_slice_get p.messages.names.items i (text_of full) [] known,
       r.1,
     )
 
@@ -110,7 +110,7 @@ flat_at (t ∷ ss) zero s r e c =
       c.0,
       omega (arith, c.1, length-map {B = ServiceDecl × RpcDecl} s.rpcs (λ (x : RpcDecl). (s, x))),
       get_or_from_slice_get (service_rpcs s) c.0 (s, r) (s, r)
-      (slice_get-map (λ (x : RpcDecl). (s, x)) s.rpcs c.0 ∙ ap (option_map (λ (x : RpcDecl). (s, x))) (at_in s.rpcs r c)),
+          (slice_get-map (λ (x : RpcDecl). (s, x)) s.rpcs c.0 ∙ ap (option_map (λ (x : RpcDecl). (s, x))) (at_in s.rpcs r c)),
     ) in
     Contains-append_left (service_rpcs t) (flat_map service_rpcs ss) (s, r)
     (subst (λ (u : ServiceDecl). Contains (service_rpcs u) (s, r)) (sym same) here)
@@ -144,7 +144,7 @@ service_valid : (F : File) (s : ServiceDecl) → IsFormed F → IsClean F → Co
     → IsFullName (text_of (package_of F ++ s.name.name ∷ []))
 service_valid F s formed clean c =
     let short : is_short s.name.name ≡ true = true_from (is_short s.name.name)
-        (λ f. clean Limit s.name.span (offends (Offences.of_service c.0 s (at_in F.services s c) (f, (refl, refl))))) in
+    (λ f. clean Limit s.name.span (offends (Offences.of_service c.0 s (at_in F.services s c) (f, (refl, refl))))) in
     full_valid (package_of F ++ s.name.name ∷ []) (omega (arith, length-append (package_of F) (s.name.name ∷ [])))
     (names_more (package_of F) s.name.name (package_names F formed)
     (All-contains IsFormedService F.services s formed.services c).name)
@@ -203,11 +203,11 @@ more_methods F p s i r done ms more m at is e h =
     let pair : RpcDecl → ServiceDecl × RpcDecl = λ x. (s, x) in
     let front : List (ServiceDecl × RpcDecl) = map pair (take i s.rpcs) in
     let grown : map pair (take (i + 1) s.rpcs) ≡ front ++ (s, r) ∷ [] =
-        ap (map pair) (take_more s.rpcs i r (slice_get_within s.rpcs i r at)
-        ∙ ap (λ (x : RpcDecl). take i s.rpcs ++ x ∷ []) (get_or_from_slice_get s.rpcs i r r at))
-        ∙ map-append pair (take i s.rpcs) (r ∷ []) in
+    ap (map pair) (take_more s.rpcs i r (slice_get_within s.rpcs i r at)
+    ∙ ap (λ (x : RpcDecl). take i s.rpcs ++ x ∷ []) (get_or_from_slice_get s.rpcs i r r at))
+    ∙ map-append pair (take i s.rpcs) (r ∷ []) in
     let whole : done ++ map pair (take (i + 1) s.rpcs) ≡ (done ++ front) ++ (s, r) ∷ [] =
-        ap (λ (l : List (ServiceDecl × RpcDecl)). done ++ l) grown ∙ sym (append_assoc done front ((s, r) ∷ [])) in
+    ap (λ (l : List (ServiceDecl × RpcDecl)). done ++ l) grown ∙ sym (append_assoc done front ((s, r) ∷ [])) in
     subst (λ (l : List (ServiceDecl × RpcDecl)). AreMethods F p l more) (sym whole)
     (subst (AreMethods F p ((done ++ front) ++ (s, r) ∷ [])) (sym e)
     (record { each = λ T has. in_order_push (IsMethodIn F T) (s, r) m (h.each T has) (is T has) }))
@@ -226,8 +226,8 @@ pub next_service : (F : File) (p : Plan) (i : ℕ) (s : ServiceDecl) (ms more : 
     → AreMethods F p (flat_map service_rpcs (take (i + 1) F.services)) more
 next_service F p i s ms more at step h =
     let grown : take (i + 1) F.services ≡ take i F.services ++ s ∷ [] =
-        take_more F.services i s (slice_get_within F.services i s at)
-        ∙ ap (λ (x : ServiceDecl). take i F.services ++ x ∷ []) (get_or_from_slice_get F.services i s s at) in
+    take_more F.services i s (slice_get_within F.services i s at)
+    ∙ ap (λ (x : ServiceDecl). take i F.services ++ x ∷ []) (get_or_from_slice_get F.services i s s at) in
     subst (λ (l : List (ServiceDecl × RpcDecl)). AreMethods F p l more)
     (sym (ap (flat_map service_rpcs) grown ∙ flat_more (take i F.services) s))
     (step (flat_map service_rpcs (take i F.services)) h)

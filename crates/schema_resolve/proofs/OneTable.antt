@@ -75,19 +75,19 @@ same_sorted {X} R trans strict (x ∷ xs) (y ∷ ys) a b f g =
     let head : y ≡ x = elim (cases_of y ys x (f x (0, omega arith, refl))) [
       | inl e ↦ e
       | inr c ↦ elim (cases_of x xs y (g y (0, omega arith, refl))) [
-          | inl e ↦ sym e
-          | inr d ↦ absurd (strict x (trans x y x (before R trans x xs y a d) (before R trans y ys x b c)))
-        ]
+        | inl e ↦ sym e
+        | inr d ↦ absurd (strict x (trans x y x (before R trans x xs y a d) (before R trans y ys x b c)))
+      ]
     ] in
     let rest : xs ≡ ys = same_sorted R trans strict xs ys (ascends_rest R x xs a) (ascends_rest R y ys b)
-        (λ z c. elim (cases_of y ys z (f z (shifted x xs z c))) [
-          | inl e ↦ absurd (strict x (subst (R x) (sym e ∙ head) (before R trans x xs z a c)))
-          | inr d ↦ d
-        ])
-        (λ z c. elim (cases_of x xs z (g z (shifted y ys z c))) [
-          | inl e ↦ absurd (strict y (subst (R y) (sym e ∙ sym head) (before R trans y ys z b c)))
-          | inr d ↦ d
-        ]) in
+    (λ z c. elim (cases_of y ys z (f z (shifted x xs z c))) [
+      | inl e ↦ absurd (strict x (subst (R x) (sym e ∙ head) (before R trans x xs z a c)))
+      | inr d ↦ d
+    ])
+    (λ z c. elim (cases_of x xs z (g z (shifted y ys z c))) [
+      | inl e ↦ absurd (strict y (subst (R y) (sym e ∙ sym head) (before R trans y ys z b c)))
+      | inr d ↦ d
+    ]) in
     ap (λ z. z ∷ xs) (sym head) ∙ ap (λ zs. y ∷ zs) rest
 
 record Match {K A B : Type 0} (keyA : A → K) (keyB : B → K) (lineA : A → List ℕ) (lineB : B → List ℕ) (a : A)
@@ -122,18 +122,18 @@ same_texts {K} R {A} {B} keyA keyB lineA lineB ls bs trans strict a b f g =
     let pa : A → K × List ℕ = λ x. (keyA x, lineA x) in
     let pb : B → K × List ℕ = λ x. (keyB x, lineB x) in
     let same : map pa ls ≡ map pb bs =
-        same_sorted (λ (p q : K × List ℕ). R p.0 q.0) (λ x y z l m. trans x.0 y.0 z.0 l m) (λ x l. strict x.0 l) (map pa ls)
-        (map pb bs) (pairs_ascend R keyA lineA ls a) (pairs_ascend R keyB lineB bs b)
-        (λ p c.
-        let x = map_contains pa ls p c in
-        let m = f x.0 x.1 in
-        subst (Contains (map pb bs)) (sym (pair_same (keyA x.0) (keyB m.other) (lineA x.0) (lineB m.other) m.key m.text) ∙ x.2)
-        (contains_map pb bs m.other m.inside))
-        (λ p c.
-        let x = map_contains pb bs p c in
-        let m = g x.0 x.1 in
-        subst (Contains (map pa ls)) (sym (pair_same (keyB x.0) (keyA m.other) (lineB x.0) (lineA m.other) m.key m.text) ∙ x.2)
-        (contains_map pa ls m.other m.inside)) in
+    same_sorted (λ (p q : K × List ℕ). R p.0 q.0) (λ x y z l m. trans x.0 y.0 z.0 l m) (λ x l. strict x.0 l) (map pa ls)
+    (map pb bs) (pairs_ascend R keyA lineA ls a) (pairs_ascend R keyB lineB bs b)
+    (λ p c.
+    let x = map_contains pa ls p c in
+    let m = f x.0 x.1 in
+    subst (Contains (map pb bs)) (sym (pair_same (keyA x.0) (keyB m.other) (lineA x.0) (lineB m.other) m.key m.text) ∙ x.2)
+    (contains_map pb bs m.other m.inside))
+    (λ p c.
+    let x = map_contains pb bs p c in
+    let m = g x.0 x.1 in
+    subst (Contains (map pa ls)) (sym (pair_same (keyB x.0) (keyA m.other) (lineB x.0) (lineA m.other) m.key m.text) ∙ x.2)
+    (contains_map pa ls m.other m.inside)) in
     pairs_text keyA lineA ls ∙ ap (flat_map (λ (p : K × List ℕ). p.1)) same ∙ sym (pairs_text keyB lineB bs)
 
 -- ---- values
@@ -155,20 +155,20 @@ same_enum : (e : EnumDecl) (S : Source) (c d : Choices) → IsEnum c → IsEnum 
     → (c.name ≡ d.name) × (enum_lines c ≡ enum_lines d)
 same_enum e S c d cv dv a b =
     let name : c.name ≡ d.name =
-        a.name ∙ ap (λ (o : List (List ℕ)). text_of (o ++ e.name.name ∷ [])) (one_scope a.stands b.stands) ∙ sym b.name in
+    a.name ∙ ap (λ (o : List (List ℕ)). text_of (o ++ e.name.name ∷ [])) (one_scope a.stands b.stands) ∙ sym b.name in
     let values : c.values ≡ d.values =
-        same_sorted IsValueBelow value_trans value_strict c.values d.values cv.ascend dv.ascend
-        (λ w k.
-        let v = a.values.alone w k in
-        let u = b.values.each v.0 v.1 in
-        subst (Contains d.values) (value_same u.0 w (u.2.0 ∙ sym v.2.0) (u.2.1 ∙ sym v.2.1)) u.1)
-        (λ w k.
-        let v = b.values.alone w k in
-        let u = a.values.each v.0 v.1 in
-        subst (Contains c.values) (value_same u.0 w (u.2.0 ∙ sym v.2.0) (u.2.1 ∙ sym v.2.1)) u.1) in (
+    same_sorted IsValueBelow value_trans value_strict c.values d.values cv.ascend dv.ascend
+    (λ w k.
+    let v = a.values.alone w k in
+    let u = b.values.each v.0 v.1 in
+    subst (Contains d.values) (value_same u.0 w (u.2.0 ∙ sym v.2.0) (u.2.1 ∙ sym v.2.1)) u.1)
+    (λ w k.
+    let v = b.values.alone w k in
+    let u = a.values.each v.0 v.1 in
+    subst (Contains c.values) (value_same u.0 w (u.2.0 ∙ sym v.2.0) (u.2.1 ∙ sym v.2.1)) u.1) in (
       name,
       ap (λ (n : List ℕ). line (codes "enum" ∷ n ∷ []) ++ flat_map value_line c.values) name
-      ∙ ap (λ (vs : List (ℤ × List ℕ)). line (codes "enum" ∷ d.name ∷ []) ++ flat_map value_line vs) values,
+          ∙ ap (λ (vs : List (ℤ × List ℕ)). line (codes "enum" ∷ d.name ∷ []) ++ flat_map value_line vs) values,
     )
 
 -- ---- forms
@@ -225,9 +225,9 @@ same_form : (F : File) (scope : List (List ℕ)) (f : FieldDecl) (a b : Label) (
 same_form F scope f a b word other one (single w x im pk is typ) (single v y jm qk is2 typ2) =
     let s : w ≡ v = same_named w v (sym is ∙ is2) in
     let t = same_type F scope v x y im jm pk qk one
-        (subst (λ (u : Word). HasType (F ∷ []) scope u x im pk) s typ) typ2 in (
+    (subst (λ (u : Word). HasType (F ∷ []) scope u x im pk) s typ) typ2 in (
       ap (λ (m : Bool). label_in f.oneof (single_label f.label f.packed m pk)) t.messages
-      ∙ ap (λ (p : Bool). label_in f.oneof (single_label f.label f.packed jm p)) t.packables,
+          ∙ ap (λ (p : Bool). label_in f.oneof (single_label f.label f.packed jm p)) t.packables,
       t.words,
     )
 same_form F scope f a b word other one (single w x im pk is typ) (a_map k v l y jm qk is2 plain o s keyed typ2) =
@@ -238,7 +238,7 @@ same_form F scope f a b word other one (a_map k v l x im pk is plain o s keyed t
     (a_map i w n y jm qk is2 plain2 o2 t keyed2 typ2) =
     let e = same_map k v i w (sym is ∙ is2) in
     let u = same_type F scope w x y im jm pk qk one
-        (subst (λ (z : Word). HasType (F ∷ []) scope z x im pk) e.1 typ) typ2 in (
+    (subst (λ (z : Word). HasType (F ∷ []) scope z x im pk) e.1 typ) typ2 in (
       ap labels.Map (same_scalar l n s.is_one t.is_one (s.named ∙ ap (λ (z : Word). z.name) e.0 ∙ sym t.named)),
       u.words,
     )
@@ -255,21 +255,21 @@ same_field : (F : File) (T U : Table) (scope other : List (List ℕ)) (m : Messa
 same_field F T U scope other m t u f g h one same a b =
     let ns : List (List ℕ) = map (λ o. o.name) m.oneofs in
     let form : HasForm (F ∷ []) other f a.label a.word =
-        subst (λ (s : List (List ℕ)). HasForm (F ∷ []) s f a.label a.word) same a.form in
+    subst (λ (s : List (List ℕ)). HasForm (F ∷ []) s f a.label a.word) same a.form in
     let e = same_form F other f a.label b.label a.word b.word one form b.form in
     let number : g.number ≡ h.number = same_pos g.number h.number (a.number ∙ sym b.number) in
     let name : g.name ≡ h.name = a.name ∙ sym b.name in
     let label : label_text T t.oneofs g.label ≡ label_text U u.oneofs h.label =
-        a.same ∙ form_alike T ns (F ∷ []) other f a.label a.word form ∙ ap (label_text no_table ns) e.0
-        ∙ sym (form_alike U ns (F ∷ []) other f b.label b.word b.form) ∙ sym b.same in
+    a.same ∙ form_alike T ns (F ∷ []) other f a.label a.word form ∙ ap (label_text no_table ns) e.0
+    ∙ sym (form_alike U ns (F ∷ []) other f b.label b.word b.form) ∙ sym b.same in
     let kind : kind_text T g.kind ≡ kind_text U h.kind = a.kind ∙ e.1 ∙ sym b.kind in
     let L : ℕ → List ℕ → List ℕ → List ℕ → List ℕ =
-        λ n x y z. line (codes "field" ∷ decimal n ∷ x ∷ y ∷ z ∷ []) in (
+    λ n x y z. line (codes "field" ∷ decimal n ∷ x ∷ y ∷ z ∷ []) in (
       number,
       ap (λ (n : ℕ). L n (label_text T t.oneofs g.label) (kind_text T g.kind) g.name) number
-      ∙ ap (λ (x : List ℕ). L h.number x (kind_text T g.kind) g.name) label
-      ∙ ap (λ (y : List ℕ). L h.number (label_text U u.oneofs h.label) y g.name) kind
-      ∙ ap (λ (z : List ℕ). L h.number (label_text U u.oneofs h.label) (kind_text U h.kind) z) name,
+          ∙ ap (λ (x : List ℕ). L h.number x (kind_text T g.kind) g.name) label
+          ∙ ap (λ (y : List ℕ). L h.number (label_text U u.oneofs h.label) y g.name) kind
+          ∙ ap (λ (z : List ℕ). L h.number (label_text U u.oneofs h.label) (kind_text U h.kind) z) name,
     )
 
 less_trans : (x y z : ℕ) → x < y → y < z → x < z
@@ -284,25 +284,25 @@ same_message : (F : File) (T U : Table) (m : MessageDecl) (t u : Message) → Na
 same_message F T U m t u one tv uv a b =
     let outer = one_scope a.stands b.stands in
     let scope : a.outer ++ m.name.name ∷ [] ≡ b.outer ++ m.name.name ∷ [] =
-        ap (λ (o : List (List ℕ)). o ++ m.name.name ∷ []) outer in
+    ap (λ (o : List (List ℕ)). o ++ m.name.name ∷ []) outer in
     let name : t.name ≡ u.name = a.name ∙ ap text_of scope ∙ sym b.name in
     let number : Field → ℕ = λ g. g.number in
     let fields : flat_map (field_line T t.oneofs) t.fields ≡ flat_map (field_line U u.oneofs) u.fields =
-        same_texts (λ x y. x < y) number number (field_line T t.oneofs) (field_line U u.oneofs) t.fields u.fields less_trans
-        less_strict tv.ascend uv.ascend
-        (λ g c.
-        let f = a.fields.alone g c in
-        let h = b.fields.each f.0 f.1 in
-        let e = same_field F T U (a.outer ++ m.name.name ∷ []) (b.outer ++ m.name.name ∷ []) m t u f.0 g h.0 one scope f.2 h.2 in
-        record { other = h.0; inside = h.1; key = e.0; text = e.1 })
-        (λ h c.
-        let f = b.fields.alone h c in
-        let g = a.fields.each f.0 f.1 in
-        let e = same_field F U T (b.outer ++ m.name.name ∷ []) (a.outer ++ m.name.name ∷ []) m u t f.0 h g.0 one (sym scope) f.2 g.2 in
-        record { other = g.0; inside = g.1; key = e.0; text = e.1 }) in (
+    same_texts (λ x y. x < y) number number (field_line T t.oneofs) (field_line U u.oneofs) t.fields u.fields less_trans
+    less_strict tv.ascend uv.ascend
+    (λ g c.
+    let f = a.fields.alone g c in
+    let h = b.fields.each f.0 f.1 in
+    let e = same_field F T U (a.outer ++ m.name.name ∷ []) (b.outer ++ m.name.name ∷ []) m t u f.0 g h.0 one scope f.2 h.2 in
+    record { other = h.0; inside = h.1; key = e.0; text = e.1 })
+    (λ h c.
+    let f = b.fields.alone h c in
+    let g = a.fields.each f.0 f.1 in
+    let e = same_field F U T (b.outer ++ m.name.name ∷ []) (a.outer ++ m.name.name ∷ []) m u t f.0 h g.0 one (sym scope) f.2 g.2 in
+    record { other = g.0; inside = g.1; key = e.0; text = e.1 }) in (
       name,
       ap (λ (n : List ℕ). line (codes "message" ∷ n ∷ []) ++ flat_map (field_line T t.oneofs) t.fields) name
-      ∙ ap (λ (x : List ℕ). line (codes "message" ∷ u.name ∷ []) ++ x) fields,
+          ∙ ap (λ (x : List ℕ). line (codes "message" ∷ u.name ∷ []) ++ x) fields,
     )
 
 -- ---- methods
@@ -311,11 +311,11 @@ same_method : (F : File) (T U : Table) (q : ServiceDecl × RpcDecl) (m n : Metho
     → IsMethodOf T (alone F, q) m → IsMethodOf U (alone F, q) n → method_line T (i, m) ≡ method_line U (i, n)
 same_method F T U q m n i one a b =
     let input : a.input ≡ b.input =
-        (one (package_of F) q.1.input.name a_message a_message a.input b.input a.takes b.takes).1 in
+    (one (package_of F) q.1.input.name a_message a_message a.input b.input a.takes b.takes).1 in
     let output : a.output ≡ b.output =
-        (one (package_of F) q.1.output.name a_message a_message a.output b.output a.gives b.gives).1 in
+    (one (package_of F) q.1.output.name a_message a_message a.output b.output a.gives b.gives).1 in
     let L : List ℕ → List ℕ → List ℕ → List ℕ → List ℕ =
-        λ x y z w. line (codes "method" ∷ decimal i ∷ x ∷ y ∷ z ∷ w ∷ []) in
+    λ x y z w. line (codes "method" ∷ decimal i ∷ x ∷ y ∷ z ∷ w ∷ []) in
     ap (λ (x : List ℕ). L x m.name (message_name T m.input) (message_name T m.output)) (a.service ∙ sym b.service)
     ∙ ap (λ (y : List ℕ). L n.service y (message_name T m.input) (message_name T m.output)) (a.name ∙ sym b.name)
     ∙ ap (λ (z : List ℕ). L n.service n.name z (message_name T m.output)) (a.input_place ∙ ap text_of input ∙ sym b.input_place)
@@ -329,8 +329,8 @@ same_methods F T U qs ms ns i one none none known = refl
 same_methods F T U qs ms ns i one (next {x = q} {y = m} {xs} {ys} r rest) (next {y = n} {ys = zs} s more) known =
     let p = known q (0, omega arith, refl) in
     let e = same_method F T U p.0 m n i one
-        (subst (λ (z : Source × (ServiceDecl × RpcDecl)). IsMethodOf T z m) p.1 r)
-        (subst (λ (z : Source × (ServiceDecl × RpcDecl)). IsMethodOf U z n) p.1 s) in
+    (subst (λ (z : Source × (ServiceDecl × RpcDecl)). IsMethodOf T z m) p.1 r)
+    (subst (λ (z : Source × (ServiceDecl × RpcDecl)). IsMethodOf U z n) p.1 s) in
     let later = same_methods F T U xs ys zs (i + 1) one rest more (λ z c. known z (shifted q xs z c)) in
     ap (λ (t : List ℕ). t ++ flat_map (method_line T) (enumerate_from (i + 1) ys)) e
     ∙ ap (λ (t : List ℕ). method_line U (i, n) ++ t) later
@@ -351,36 +351,36 @@ one_text_of F T U one a b =
     let en : Choices → List ℕ = λ c. c.name in
     let mn : Message → List ℕ = λ m. m.name in
     let enum_of : (V W : Table) → IsTableOf (S ∷ []) V → IsTableOf (S ∷ []) W → (c : Choices) → Contains V.enums c
-            → Match en en enum_lines enum_lines c W.enums =
-        λ V W v w c k.
-        let q = v.enums.alone c k in
-        let d = w.enums.each q.0 q.1 in
-        let e = same_enum q.0.1 q.0.0 c d.0 (All-contains IsEnum V.enums c v.valid.enums k)
-            (All-contains IsEnum W.enums d.0 w.valid.enums d.1) q.2 d.2 in
-        record { other = d.0; inside = d.1; key = e.0; text = e.1 } in
+    → Match en en enum_lines enum_lines c W.enums =
+    λ V W v w c k.
+    let q = v.enums.alone c k in
+    let d = w.enums.each q.0 q.1 in
+    let e = same_enum q.0.1 q.0.0 c d.0 (All-contains IsEnum V.enums c v.valid.enums k)
+    (All-contains IsEnum W.enums d.0 w.valid.enums d.1) q.2 d.2 in
+    record { other = d.0; inside = d.1; key = e.0; text = e.1 } in
     let message_of : (V W : Table) → IsTableOf (S ∷ []) V → IsTableOf (S ∷ []) W → (t : Message) → Contains V.messages t
-            → Match mn mn (message_lines V) (message_lines W) t W.messages =
-        λ V W v w t k.
-        let q = v.messages.alone t k in
-        let d = w.messages.each q.0 q.1 in
-        let m = map_contains mp F.messages q.0 (subst (λ (l : List (Source × MessageDecl)). Contains l q.0) ms q.1) in
-        let e = same_message F V W m.0 t d.0 one (All-contains (IsMessage V) V.messages t v.valid.messages k)
-            (All-contains (IsMessage W) W.messages d.0 w.valid.messages d.1)
-            (subst (λ (z : Source × MessageDecl). IsMessageOf V z t) (sym m.2) q.2)
-            (subst (λ (z : Source × MessageDecl). IsMessageOf W z d.0) (sym m.2) d.2) in
-        record { other = d.0; inside = d.1; key = e.0; text = e.1 } in
+    → Match mn mn (message_lines V) (message_lines W) t W.messages =
+    λ V W v w t k.
+    let q = v.messages.alone t k in
+    let d = w.messages.each q.0 q.1 in
+    let m = map_contains mp F.messages q.0 (subst (λ (l : List (Source × MessageDecl)). Contains l q.0) ms q.1) in
+    let e = same_message F V W m.0 t d.0 one (All-contains (IsMessage V) V.messages t v.valid.messages k)
+    (All-contains (IsMessage W) W.messages d.0 w.valid.messages d.1)
+    (subst (λ (z : Source × MessageDecl). IsMessageOf V z t) (sym m.2) q.2)
+    (subst (λ (z : Source × MessageDecl). IsMessageOf W z d.0) (sym m.2) d.2) in
+    record { other = d.0; inside = d.1; key = e.0; text = e.1 } in
     let enums : flat_map enum_lines T.enums ≡ flat_map enum_lines U.enums =
-        same_texts IsBelow en en enum_lines enum_lines T.enums U.enums below_trans below_strict a.valid.enums_ascend
-        b.valid.enums_ascend (enum_of T U a b) (enum_of U T b a) in
+    same_texts IsBelow en en enum_lines enum_lines T.enums U.enums below_trans below_strict a.valid.enums_ascend
+    b.valid.enums_ascend (enum_of T U a b) (enum_of U T b a) in
     let messages : flat_map (message_lines T) T.messages ≡ flat_map (message_lines U) U.messages =
-        same_texts IsBelow mn mn (message_lines T) (message_lines U) T.messages U.messages below_trans below_strict
-        a.valid.messages_ascend b.valid.messages_ascend (message_of T U a b) (message_of U T b a) in
+    same_texts IsBelow mn mn (message_lines T) (message_lines U) T.messages U.messages below_trans below_strict
+    a.valid.messages_ascend b.valid.messages_ascend (message_of T U a b) (message_of U T b a) in
     let methods : flat_map (method_line T) (enumerate_from 0 T.methods) ≡ flat_map (method_line U) (enumerate_from 0 U.methods) =
-        same_methods F T U (methods_of (S ∷ [])) T.methods U.methods 0 one a.methods b.methods
-        (λ q c.
-        let r = map_contains rp (rpcs_of F) q
-            (subst (λ (l : List (Source × (ServiceDecl × RpcDecl))). Contains l q) rs c) in
-        (r.0, sym r.2)) in
+    same_methods F T U (methods_of (S ∷ [])) T.methods U.methods 0 one a.methods b.methods
+    (λ q c.
+    let r = map_contains rp (rpcs_of F) q
+    (subst (λ (l : List (Source × (ServiceDecl × RpcDecl))). Contains l q) rs c) in
+    (r.0, sym r.2)) in
     ap (λ (x : List ℕ). (x ++ flat_map (message_lines T) T.messages) ++ flat_map (method_line T) (enumerate_from 0 T.methods)) enums
     ∙ ap (λ (x : List ℕ). (flat_map enum_lines U.enums ++ x) ++ flat_map (method_line T) (enumerate_from 0 T.methods)) messages
     ∙ ap (λ (x : List ℕ). (flat_map enum_lines U.enums ++ flat_map (message_lines U) U.messages) ++ x) methods
@@ -403,10 +403,10 @@ apart_types F ordered a b f g s t (Numbers.enum i m at up) (Numbers.enum j n at2
     (Order.enum j n at2 refl) e).0)
 apart_types F ordered a b f g s t (Numbers.message i m at up) (Numbers.enum j n at2 up2) e =
     absurd (let d = (ordered.apart (message_decl i) (enum_decl j) its_name its_name m.name.span n.name.span
-        (Order.message i m at refl) (Order.enum j n at2 refl) e).0 in cc)
+    (Order.message i m at refl) (Order.enum j n at2 refl) e).0 in cc)
 apart_types F ordered a b f g s t (Numbers.enum i m at up) (Numbers.message j n at2 up2) e =
     absurd (let d = (ordered.apart (enum_decl i) (message_decl j) its_name its_name m.name.span n.name.span
-        (Order.enum i m at refl) (Order.message j n at2 refl) e).0 in cc)
+    (Order.enum i m at refl) (Order.message j n at2 refl) e).0 in cc)
 
 -- no two types start at one place
 pub starts_apart : (F : File) → IsOrdered F → StartApart F

@@ -70,16 +70,16 @@ keeps_more words old new i w at none names places h =
     let P = old.places.items in
     let l : i < length P = slice_get_within P i None none in
     let here : IsPlacedOneof words new.names i n =
-        subst (λ (ns : List (List ℕ)). IsPlacedOneof words ns i n) (sym names)
-        (record { word = w; at = at; named = push_new old.names w.name n refl }) in
+    subst (λ (ns : List (List ℕ)). IsPlacedOneof words ns i n) (sym names)
+    (record { word = w; at = at; named = push_new old.names w.name n refl }) in
     let read : (k : ℕ) → slice_get new.places.items k ≡ slice_get (set P i (Some n)) k =
-        λ k. ap (λ (ps : List (Option ℕ)). slice_get ps k) places in (
+    λ k. ap (λ (ps : List (Option ℕ)). slice_get ps k) places in (
       record {
         count = ap length places ∙ length-set P i (Some n) ∙ h.count;
         placed = λ k p e. elim (cases_eq k i) [
           | inl s ↦
               let f : Some (Some n) ≡ Some (Some p) =
-                  sym (set_here P i (Some n) l) ∙ ap (slice_get (set P i (Some n))) (sym s) ∙ sym (read k) ∙ e in
+              sym (set_here P i (Some n) l) ∙ ap (slice_get (set P i (Some n))) (sym s) ∙ sym (read k) ∙ e in
               let q : n ≡ p = cc in
               subst (λ (j : ℕ). IsPlacedOneof words new.names j p) (sym s)
               (subst (IsPlacedOneof words new.names i) q here)
@@ -92,8 +92,8 @@ keeps_more words old new i w at none names places h =
           | inl b ↦
               let k = h.met p b in
               let d : k.0 ≢ i = λ s.
-                  let f : Some (Some p) ≡ Some None = sym k.1 ∙ ap (slice_get P) s ∙ none in
-                  cc in
+              let f : Some (Some p) ≡ Some None = sym k.1 ∙ ap (slice_get P) s ∙ none in
+              cc in
               (k.0, read k.0 ∙ set_elsewhere P i k.0 (Some n) d ∙ k.1)
           | inr b ↦
               let s : n ≡ p = omega (arith, ap length names, length-append old.names (w.name ∷ [])) in

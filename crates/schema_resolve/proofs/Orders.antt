@@ -45,7 +45,7 @@ apart_distinct [] h = tt
 apart_distinct (x ∷ xs) h = (
   λ c. let e : 0 ≡ suc c.0 = h 0 (suc c.0) x (omega arith) (omega (arith, c.1)) (sym c.2) in omega arith,
   apart_distinct xs
-  (λ i j d a b e. let f : suc i ≡ suc j = h (suc i) (suc j) d (omega arith) (omega arith) e in omega arith),
+      (λ i j d a b e. let f : suc i ≡ suc j = h (suc i) (suc j) d (omega arith) (omega arith) e in omega arith),
 )
 
 data Moved (a b k j : ℕ) : Type 0 where
@@ -71,9 +71,9 @@ moved_from xs a b k d la lb lk =
     elim (cases_eq k a) [
       | inl e ↦ (b, lb, first e refl, ap (λ (m : ℕ). get_or (swap xs a b) m d) e ∙ s.0)
       | inr n ↦ elim (cases_eq k b) [
-          | inl e ↦ (a, la, second n e refl, ap (λ (m : ℕ). get_or (swap xs a b) m d) e ∙ s.1)
-          | inr o ↦ (k, lk, neither n o refl, s.2 k n o)
-        ]
+        | inl e ↦ (a, la, second n e refl, ap (λ (m : ℕ). get_or (swap xs a b) m d) e ∙ s.1)
+        | inr o ↦ (k, lk, neither n o refl, s.2 k n o)
+      ]
     ]
 
 apart_swap : {X : Type 0} (xs : List X) (a b : ℕ) → a < length xs → b < length xs → AreApart xs → AreApart (swap xs a b)
@@ -207,29 +207,29 @@ order_step names sorted named apart ascends k d m =
     let x = element sorted k n in
     let y = element sorted (suc k) m in
     let xn : x.0.0.now ≡ name_at names x.0.1 =
-        subst (λ (p : Bor (List ℕ) × ℕ). p.0.now ≡ name_at names p.1) (x.1 x.0) (named k x.0 n).1 in
+    subst (λ (p : Bor (List ℕ) × ℕ). p.0.now ≡ name_at names p.1) (x.1 x.0) (named k x.0 n).1 in
     let yn : y.0.0.now ≡ name_at names y.0.1 =
-        subst (λ (p : Bor (List ℕ) × ℕ). p.0.now ≡ name_at names p.1) (y.1 y.0) (named (suc k) y.0 m).1 in
+    subst (λ (p : Bor (List ℕ) × ℕ). p.0.now ≡ name_at names p.1) (y.1 y.0) (named (suc k) y.0 m).1 in
     let xi : get_or (map number_of sorted) k d ≡ x.0.1 =
-        get_or-map number_of sorted k x.0 d n ∙ ap number_of (x.1 x.0) in
+    get_or-map number_of sorted k x.0 d n ∙ ap number_of (x.1 x.0) in
     let yi : get_or (map number_of sorted) (suc k) d ≡ y.0.1 =
-        get_or-map number_of sorted (suc k) y.0 d m ∙ ap number_of (y.1 y.0) in
+    get_or-map number_of sorted (suc k) y.0 d m ∙ ap number_of (y.1 y.0) in
     let xt : get_or (map text_in sorted) k [] ≡ x.0.0.now =
-        get_or-map text_in sorted k x.0 [] n ∙ ap text_in (x.1 x.0) in
+    get_or-map text_in sorted k x.0 [] n ∙ ap text_in (x.1 x.0) in
     let yt : get_or (map text_in sorted) (suc k) [] ≡ y.0.0.now =
-        get_or-map text_in sorted (suc k) y.0 [] m ∙ ap text_in (y.1 y.0) in
+    get_or-map text_in sorted (suc k) y.0 [] m ∙ ap text_in (y.1 y.0) in
     let apart_here : slice_cmp nat_cmp y.0.0.now x.0.0.now ≡ Equal → ⊥ =
-        λ e. let f : y.0.0.now ≡ x.0.0.now = exact_bytes y.0.0.now x.0.0.now e in
-        let g : suc k ≡ k = apart (suc k) k [] (omega (arith, length-map sorted text_in))
-            (omega (arith, length-map sorted text_in)) (yt ∙ f ∙ sym xt) in
-        omega arith in
+    λ e. let f : y.0.0.now ≡ x.0.0.now = exact_bytes y.0.0.now x.0.0.now e in
+    let g : suc k ≡ k = apart (suc k) k [] (omega (arith, length-map sorted text_in))
+    (omega (arith, length-map sorted text_in)) (yt ∙ f ∙ sym xt) in
+    omega arith in
     let less : is_lt (pair_cmp y.0 x.0) ≡ false =
-        subst (λ (p : Bor (List ℕ) × ℕ). is_lt (pair_cmp y.0 p) ≡ false) (x.1 x.0)
-        (subst (λ (p : Bor (List ℕ) × ℕ). is_lt (pair_cmp p (get_or sorted k x.0)) ≡ false) (y.1 x.0)
-        (subst (λ (i : ℕ). is_lt (pair_cmp (get_or sorted i x.0) (get_or sorted k x.0)) ≡ false) (add-one k)
-        (ascends k x.0 (omega arith) (omega (arith, add-one k))))) in
+    subst (λ (p : Bor (List ℕ) × ℕ). is_lt (pair_cmp y.0 p) ≡ false) (x.1 x.0)
+    (subst (λ (p : Bor (List ℕ) × ℕ). is_lt (pair_cmp p (get_or sorted k x.0)) ≡ false) (y.1 x.0)
+    (subst (λ (i : ℕ). is_lt (pair_cmp (get_or sorted i x.0) (get_or sorted k x.0)) ≡ false) (add-one k)
+    (ascends k x.0 (omega arith) (omega (arith, add-one k))))) in
     let below : IsBelow x.0.0.now y.0.0.now =
-        less_from (slice_cmp nat_cmp) nat_list_cmp_total x.0.0.now y.0.0.now (nat_cmp y.0.1 x.0.1) apart_here less in
+    less_from (slice_cmp nat_cmp) nat_list_cmp_total x.0.0.now y.0.0.now (nat_cmp y.0.1 x.0.1) apart_here less in
     subst (λ (i : ℕ). IsBelow (name_at names i) (name_at names (get_or (map number_of sorted) (suc k) d))) (sym xi)
     (subst (λ (j : ℕ). IsBelow (name_at names x.0.1) (name_at names j)) (sym yi)
     (subst (λ (a : List ℕ). IsBelow a (name_at names y.0.1)) xn
@@ -241,13 +241,13 @@ pub order_of : (names : List (List ℕ)) (pairs sorted : List (Bor (List ℕ) ×
 order_of names pairs sorted distinct known moved ascends =
     let same : map text_in pairs ≡ names = known.texts ∙ take_all (length names) names (omega arith) in
     let many : length sorted ≡ length names =
-        length_permutation pairs sorted moved ∙ sym (length-map pairs text_in) ∙ ap length same in
+    length_permutation pairs sorted moved ∙ sym (length-map pairs text_in) ∙ ap length same in
     let named : AreNamed names sorted =
-        All-permutation (λ (p : Bor (List ℕ) × ℕ). (p.1 < length names) × (p.0.now ≡ name_at names p.1)) pairs sorted
-        moved known.named in
+    All-permutation (λ (p : Bor (List ℕ) × ℕ). (p.1 < length names) × (p.0.now ≡ name_at names p.1)) pairs sorted
+    moved known.named in
     let apart : AreApart (map text_in sorted) =
-        apart_moved (map text_in pairs) (map text_in sorted) (IsPermutation-map text_in pairs sorted moved)
-        (subst (λ (ns : List (List ℕ)). AreApart ns) (sym same) (distinct_apart names distinct)) in
+    apart_moved (map text_in pairs) (map text_in sorted) (IsPermutation-map text_in pairs sorted moved)
+    (subst (λ (ns : List (List ℕ)). AreApart ns) (sym same) (distinct_apart names distinct)) in
     record {
       count = length-map sorted number_of ∙ many;
       within = All-map (λ (i : ℕ). i < length names) number_of sorted
@@ -280,15 +280,19 @@ pub put_more : (order : List ℕ) (n i : ℕ) (places more : List ℕ) → AreAl
     → more ≡ set places i n → ArePut order n places → ArePut order (n + 1) more
 put_more order n i places more all at e h =
     let l : i < length places =
-        omega (arith, h.count, subst (λ (j : ℕ). j < length order) (get_or_from_slice_get order n i i at)
-        (all.within n i (slice_get_within order n i at))) in
+    omega (
+      arith,
+      h.count,
+      subst (λ (j : ℕ). j < length order) (get_or_from_slice_get order n i i at)
+          (all.within n i (slice_get_within order n i at)),
+    ) in
     subst (ArePut order (n + 1)) (sym e) (record {
       count = length-set places i n ∙ h.count;
       put = λ k j m a. elim (cases_lt k n) [
         | inl old ↦
             let apart : j ≢ i = λ s.
-                let f : k ≡ n = all.once k n i (subst (λ (q : ℕ). slice_get order k ≡ Some q) s a) at in
-                omega arith in
+            let f : k ≡ n = all.once k n i (subst (λ (q : ℕ). slice_get order k ≡ Some q) s a) at in
+            omega arith in
             get_or-set_other places i j n 0 apart ∙ h.put k j old a
         | inr new ↦
             let s : k ≡ n = omega arith in
@@ -303,6 +307,6 @@ places_of order places all h = record {
   count = h.count;
   back = λ place i a.
       let l : i < length order = subst (λ (j : ℕ). j < length order) (get_or_from_slice_get order place i i a)
-          (all.within place i (slice_get_within order place i a)) in
+      (all.within place i (slice_get_within order place i a)) in
       slice_get-get_or places i 0 (omega (arith, h.count)) ∙ ap Some (h.put place i (slice_get_within order place i a) a);
 }

@@ -123,11 +123,11 @@ types_apart F p i j formed ordered clean plan a b e =
     let x = here_enum F i formed a in
     let y = here_message F j formed b in
     let d : enum_decl i ≡ message_decl j =
-        one_declaration F (enum_decl i) (message_decl j) an_enum a_message (x.outer ++ x.decl.name.name ∷ [])
-        (y.outer ++ y.decl.name.name ∷ []) x.decl.name.span y.decl.name.span ordered clean x.declares y.declares x.stands
-        y.stands x.names y.names
-        (sym (enum_text F p.enums.names.items i x plan.enums (omega (arith, plan.all_enums)) []) ∙ e
-        ∙ message_text F p.messages.names.items j y plan.messages (omega (arith, plan.all_messages)) []) in
+    one_declaration F (enum_decl i) (message_decl j) an_enum a_message (x.outer ++ x.decl.name.name ∷ [])
+    (y.outer ++ y.decl.name.name ∷ []) x.decl.name.span y.decl.name.span ordered clean x.declares y.declares x.stands
+    y.stands x.names y.names
+    (sym (enum_text F p.enums.names.items i x plan.enums (omega (arith, plan.all_enums)) []) ∙ e
+    ∙ message_text F p.messages.names.items j y plan.messages (omega (arith, plan.all_messages)) []) in
     cc
 
 record EnumHere (F : File) (p : Plan) (n : ℕ) (c : Choices) : Type 0 where
@@ -141,9 +141,12 @@ enum_here F T made k c e =
     let h = in_order_back (IsEnumAt F made.plan) made.enums_are k c e in
     let order = made.plan.enums.order.items in record {
       place = h.0;
-      within = omega (arith, made.is_plan.all_enums,
-          subst (λ (i : ℕ). i < length made.plan.enums.names.items) (get_or_from_slice_get order k h.0 0 h.1)
-          (made.is_plan.enum_places.order.within k 0 (slice_get_within order k h.0 h.1)));
+      within = omega (
+        arith,
+        made.is_plan.all_enums,
+        subst (λ (i : ℕ). i < length made.plan.enums.names.items) (get_or_from_slice_get order k h.0 0 h.1)
+            (made.is_plan.enum_places.order.within k 0 (slice_get_within order k h.0 h.1)),
+      );
       is_at = h.2;
     }
 
@@ -158,9 +161,12 @@ message_here F T made k m e =
     let h = in_order_back (IsMessageAt F made.plan) made.messages_are k m e in
     let order = made.plan.messages.order.items in record {
       place = h.0;
-      within = omega (arith, made.is_plan.all_messages,
-          subst (λ (i : ℕ). i < length made.plan.messages.names.items) (get_or_from_slice_get order k h.0 0 h.1)
-          (made.is_plan.message_places.order.within k 0 (slice_get_within order k h.0 h.1)));
+      within = omega (
+        arith,
+        made.is_plan.all_messages,
+        subst (λ (i : ℕ). i < length made.plan.messages.names.items) (get_or_from_slice_get order k h.0 0 h.1)
+            (made.is_plan.message_places.order.within k 0 (slice_get_within order k h.0 h.1)),
+      );
       is_at = h.2;
     }
 
@@ -206,12 +212,12 @@ pub rpc_here : (ss : List ServiceDecl) (i : ℕ) (s : ServiceDecl) (r : RpcDecl)
 rpc_here [] i s r e = absurd (none-some (s, r) e)
 rpc_here (t ∷ ss) i s r e = elim (rpc_here_at t t.rpcs ss i s r e) [
   | inl p ↦ record {
-      service = 0;
-      rpc = i;
-      its_service = ap Some p.0;
-      its_rpc = subst (λ (u : ServiceDecl). slice_get u.rpcs i ≡ Some r) p.0 p.1;
-      is_place = sym (zero-add i);
-    }
+    service = 0;
+    rpc = i;
+    its_service = ap Some p.0;
+    its_rpc = subst (λ (u : ServiceDecl). slice_get u.rpcs i ≡ Some r) p.0 p.1;
+    is_place = sym (zero-add i);
+  }
   | inr p ↦
       let h = rpc_here ss p.0 s r p.1 in record {
         service = suc h.service;
@@ -221,8 +227,11 @@ rpc_here (t ∷ ss) i s r e = elim (rpc_here_at t t.rpcs ss i s r e) [
         is_place =
             let f : i ≡ length t.rpcs + p.0 = p.2 in
             let g : p.0 ≡ length (flat_map service_rpcs (take h.service ss)) + h.rpc = h.is_place in
-            omega (arith, length-append (service_rpcs t) (flat_map service_rpcs (take h.service ss)),
-            length-map {B = ServiceDecl × RpcDecl} t.rpcs (λ (x : RpcDecl). (t, x)));
+            omega (
+              arith,
+              length-append (service_rpcs t) (flat_map service_rpcs (take h.service ss)),
+              length-map {B = ServiceDecl × RpcDecl} t.rpcs (λ (x : RpcDecl). (t, x)),
+            );
       }
 ]
 
@@ -247,22 +256,22 @@ rpcs_apart F i j s t r u formed ordered clean a b texts names =
     let sf = All-contains IsFormedService F.services s formed.services sc in
     let tf = All-contains IsFormedService F.services t formed.services tc in
     let sn : AreNames (package_of F ++ s.name.name ∷ []) =
-        names_more (package_of F) s.name.name (package_names F formed) sf.name in
+    names_more (package_of F) s.name.name (package_names F formed) sf.name in
     let tn : AreNames (package_of F ++ t.name.name ∷ []) =
-        names_more (package_of F) t.name.name (package_names F formed) tf.name in
+    names_more (package_of F) t.name.name (package_names F formed) tf.name in
     let same : s.name.name ≡ t.name.name =
-        same_last (package_of F) s.name.name t.name.name
-        (same_text (package_of F ++ s.name.name ∷ []) (package_of F ++ t.name.name ∷ []) sn tn texts) in
+    same_last (package_of F) s.name.name t.name.name
+    (same_text (package_of F ++ s.name.name ∷ []) (package_of F ++ t.name.name ∷ []) sn tn texts) in
     let d : rpc_decl x.service x.rpc ≡ rpc_decl y.service y.rpc =
-        one_declaration F (rpc_decl x.service x.rpc) (rpc_decl y.service y.rpc) no_type no_type
-        (package_of F ++ s.name.name ∷ r.name.name ∷ []) (package_of F ++ t.name.name ∷ u.name.name ∷ []) r.name.span
-        u.name.span ordered clean (Scopes.rpc s r sc rc) (Scopes.rpc t u tc uc)
-        (Order.rpc x.service x.rpc s r x.its_service x.its_rpc (Order.rpc_name refl))
-        (Order.rpc y.service y.rpc t u y.its_service y.its_rpc (Order.rpc_name refl))
-        (field_names (package_of F) s.name.name r.name.name sn (All-contains IsFormedRpc s.rpcs r sf.rpcs rc).name)
-        (field_names (package_of F) t.name.name u.name.name tn (All-contains IsFormedRpc t.rpcs u tf.rpcs uc).name)
-        (ap (λ (n : List ℕ). text_of (package_of F ++ n ∷ r.name.name ∷ [])) same
-        ∙ ap (λ (n : List ℕ). text_of (package_of F ++ t.name.name ∷ n ∷ [])) names) in
+    one_declaration F (rpc_decl x.service x.rpc) (rpc_decl y.service y.rpc) no_type no_type
+    (package_of F ++ s.name.name ∷ r.name.name ∷ []) (package_of F ++ t.name.name ∷ u.name.name ∷ []) r.name.span
+    u.name.span ordered clean (Scopes.rpc s r sc rc) (Scopes.rpc t u tc uc)
+    (Order.rpc x.service x.rpc s r x.its_service x.its_rpc (Order.rpc_name refl))
+    (Order.rpc y.service y.rpc t u y.its_service y.its_rpc (Order.rpc_name refl))
+    (field_names (package_of F) s.name.name r.name.name sn (All-contains IsFormedRpc s.rpcs r sf.rpcs rc).name)
+    (field_names (package_of F) t.name.name u.name.name tn (All-contains IsFormedRpc t.rpcs u tf.rpcs uc).name)
+    (ap (λ (n : List ℕ). text_of (package_of F ++ n ∷ r.name.name ∷ [])) same
+    ∙ ap (λ (n : List ℕ). text_of (package_of F ++ t.name.name ∷ n ∷ [])) names) in
     let p = same_rpc x.service y.service x.rpc y.rpc d in
     x.is_place ∙ ap (λ (k : ℕ). length (flat_map service_rpcs (take k F.services)) + x.rpc) p.0
     ∙ ap (λ (k : ℕ). length (flat_map service_rpcs (take y.service F.services)) + k) p.1 ∙ sym y.is_place
@@ -279,11 +288,11 @@ methods_distinct F T formed ordered clean made =
     let xr = in_order_back (IsMethodIn F T) all i x.0 x.1 in
     let yr = in_order_back (IsMethodIn F T) all j y.0 y.1 in
     let xn : get_or (map pair T.methods) i d ≡ pair x.0 =
-        get_or-map pair T.methods i x.0 d (omega (arith, length-map T.methods pair))
-        ∙ ap pair (get_or_from_slice_get T.methods i x.0 x.0 x.1) in
+    get_or-map pair T.methods i x.0 d (omega (arith, length-map T.methods pair))
+    ∙ ap pair (get_or_from_slice_get T.methods i x.0 x.0 x.1) in
     let yn : get_or (map pair T.methods) j d ≡ pair y.0 =
-        get_or-map pair T.methods j y.0 d (omega (arith, length-map T.methods pair))
-        ∙ ap pair (get_or_from_slice_get T.methods j y.0 y.0 y.1) in
+    get_or-map pair T.methods j y.0 d (omega (arith, length-map T.methods pair))
+    ∙ ap pair (get_or_from_slice_get T.methods j y.0 y.0 y.1) in
     let same : ◌≡◌ {A = List ℕ × List ℕ} (pair x.0) (pair y.0) = sym xn ∙ e ∙ yn in
     rpcs_apart F i j xr.0.0 yr.0.0 xr.0.1 yr.0.1 formed ordered clean xr.1 yr.1
     (sym xr.2.is.service ∙ ap (λ (q : List ℕ × List ℕ). q.0) same ∙ yr.2.is.service)
@@ -305,10 +314,20 @@ pub valid_table : (F : File) (T : Table) → IsFormed F → IsOrdered F → IsCl
 valid_table F T formed ordered clean made short =
     let has = has_names F T made in
     let all = made.methods_are.each T has in record {
-      few_messages = omega (arith, few_messages F formed clean, in_order_length (IsMessageAt F made.plan) made.messages_are,
-          made.is_plan.message_places.order.count, made.is_plan.all_messages);
-      few_enums = omega (arith, few_enums F clean, in_order_length (IsEnumAt F made.plan) made.enums_are,
-          made.is_plan.enum_places.order.count, made.is_plan.all_enums);
+      few_messages = omega (
+        arith,
+        few_messages F formed clean,
+        in_order_length (IsMessageAt F made.plan) made.messages_are,
+        made.is_plan.message_places.order.count,
+        made.is_plan.all_messages,
+      );
+      few_enums = omega (
+        arith,
+        few_enums F clean,
+        in_order_length (IsEnumAt F made.plan) made.enums_are,
+        made.is_plan.enum_places.order.count,
+        made.is_plan.all_enums,
+      );
       few_methods = omega (arith, few_methods F clean, in_order_length (IsMethodIn F T) all);
       enums = λ k d l.
           (in_order_back (IsEnumAt F made.plan) made.enums_are k (get_or T.enums k d) (slice_get-get_or T.enums k d l)).2.valid;
@@ -344,7 +363,7 @@ made_is_table F T formed ordered clean made short =
             let l = m.1.1 in
             let o = made.is_plan.message_places.order.each m.1.0 (omega (arith, made.is_plan.all_messages)) in
             let t = in_order_get (IsMessageAt F made.plan) made.messages_are o.0 m.1.0
-                (at_in made.plan.messages.order.items m.1.0 o) in (
+            (at_in made.plan.messages.order.items m.1.0 o) in (
               t.0,
               in_list T.messages o.0 t.0 t.1,
               subst (λ (p : Source × MessageDecl). IsMessageOf T p t.0) m.2 (t.2.is T has m.0 (at_in F.messages m.0 m.1)),
@@ -360,7 +379,7 @@ made_is_table F T formed ordered clean made short =
             let l = e.1.1 in
             let o = made.is_plan.enum_places.order.each e.1.0 (omega (arith, made.is_plan.all_enums)) in
             let t = in_order_get (IsEnumAt F made.plan) made.enums_are o.0 e.1.0
-                (at_in made.plan.enums.order.items e.1.0 o) in (
+            (at_in made.plan.enums.order.items e.1.0 o) in (
               t.0,
               in_list T.enums o.0 t.0 t.1,
               subst (λ (p : Source × EnumDecl). IsEnumOf p t.0) e.2 (t.2.is e.0 (at_in F.enums e.0 e.1)),

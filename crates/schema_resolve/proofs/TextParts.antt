@@ -119,7 +119,7 @@ items_part F D xs name wname wline [] one distinct found = no_part F (Owned D xs
 items_part F D {X} {W} xs name wname wline (w ∷ ws) one distinct found =
     let f = found w (0, omega arith, refl) in
     let rest = items_part F D xs name wname wline ws one distinct.1
-        (λ v c. found v (suc c.0, omega (arith, c.1), c.2)) in
+    (λ v c. found v (suc c.0, omega (arith, c.1), c.2)) in
     cons_part F (record { decl = D f.at; span = f.span; line = wline w }) (flat_map wline ws)
     (Owned D xs name (map wname ws)) (Owned D xs name (wname w ∷ map wname ws)) f.entry rest
     (λ d o e.
@@ -170,8 +170,8 @@ value_entry : (F : File) (p : Plan) (i : ℕ) (e : EnumDecl) (v : ValueDecl) (j 
 value_entry F p i e v j w at here fits is =
     let V : ℤ → List ℕ → Type 0 = λ x n. HasLine (alone F) v.name.span (value_line (x, n)) in
     let has : V (value_of v.number) v.name.name =
-        Lines.of_value e v (record { enum = in_list F.enums i e at; value = in_list e.values j v here })
-        (subst (FitsSigned w32) is.0 fits) in
+    Lines.of_value e v (record { enum = in_list F.enums i e at; value = in_list e.values j v here })
+    (subst (FitsSigned w32) is.0 fits) in
     record {
       has = subst (λ (n : List ℕ). V w.0 n) (sym is.1) (subst (λ (x : ℤ). V x v.name.name) (sym is.0) has);
       stands = Order.value i j e v at here (Order.value_name refl);
@@ -192,18 +192,18 @@ enum_part F p i c h l =
     let own : List ℕ = line (codes "enum" ∷ c.name ∷ []) in
     let name : ValueDecl → List ℕ = λ v. v.name.name in
     let values = items_part F (value_decl i) e.values name (λ (w : ℤ × List ℕ). w.1) value_line c.values
-        (same_value i) h.valid.names
-        (λ w k.
-        let v = is.values.alone w k in
-        let here = at_in e.values v.0 v.1 in record {
-          at = v.1.0;
-          item = v.0;
-          here = here;
-          named = sym v.2.1;
-          span = v.0.name.span;
-          entry = value_entry F p i e v.0 v.1.0 w x.1 here
-              (All-contains (λ (u : ℤ × List ℕ). FitsSigned w32 u.0) c.values w h.valid.numbers k) v.2;
-        }) in
+    (same_value i) h.valid.names
+    (λ w k.
+    let v = is.values.alone w k in
+    let here = at_in e.values v.0 v.1 in record {
+      at = v.1.0;
+      item = v.0;
+      here = here;
+      named = sym v.2.1;
+      span = v.0.name.span;
+      entry = value_entry F p i e v.0 v.1.0 w x.1 here
+          (All-contains (λ (u : ℤ × List ℕ). FitsSigned w32 u.0) c.values w h.valid.numbers k) v.2;
+    }) in
     cons_part F (record { decl = enum_decl i; span = e.name.span; line = own }) (flat_map value_line c.values)
     (Owned (value_decl i) e.values name (map (λ (w : ℤ × List ℕ). w.1) c.values)) (IsAt 1 i)
     (record {
@@ -259,20 +259,20 @@ field_entry : (F : File) (T : Table) (i : ℕ) (m : MessageDecl) (scope : List (
 field_entry F T i m scope t f g j at up here is number =
     let ns : List (List ℕ) = map (λ o. o.name) m.oneofs in
     let label : label_text no_table ns is.label ≡ label_text T t.oneofs g.label =
-        sym (is.same ∙ form_alike T ns (F ∷ []) scope f is.label is.word is.form) in
+    sym (is.same ∙ form_alike T ns (F ∷ []) scope f is.label is.word is.form) in
     let has : HasLine (alone F) f.name.span
-            (line (codes "field" ∷ decimal g.number ∷ label_text no_table ns is.label ∷ is.word ∷ f.name.name ∷ [])) =
-        Lines.of_field m f g.number
-        (record { place = i; message = at; is_scope = up; field = in_list m.fields j f here })
-        (sym is.number) number is.form in
+    (line (codes "field" ∷ decimal g.number ∷ label_text no_table ns is.label ∷ is.word ∷ f.name.name ∷ [])) =
+    Lines.of_field m f g.number
+    (record { place = i; message = at; is_scope = up; field = in_list m.fields j f here })
+    (sym is.number) number is.form in
     let has2 : HasLine (alone F) f.name.span
-            (line (codes "field" ∷ decimal g.number ∷ label_text T t.oneofs g.label ∷ is.word ∷ f.name.name ∷ [])) =
-        subst (λ (l : List ℕ). HasLine (alone F) f.name.span
-        (line (codes "field" ∷ decimal g.number ∷ l ∷ is.word ∷ f.name.name ∷ []))) label has in
+    (line (codes "field" ∷ decimal g.number ∷ label_text T t.oneofs g.label ∷ is.word ∷ f.name.name ∷ [])) =
+    subst (λ (l : List ℕ). HasLine (alone F) f.name.span
+    (line (codes "field" ∷ decimal g.number ∷ l ∷ is.word ∷ f.name.name ∷ []))) label has in
     let has3 : HasLine (alone F) f.name.span
-            (line (codes "field" ∷ decimal g.number ∷ label_text T t.oneofs g.label ∷ kind_text T g.kind ∷ f.name.name ∷ [])) =
-        subst (λ (w : List ℕ). HasLine (alone F) f.name.span
-        (line (codes "field" ∷ decimal g.number ∷ label_text T t.oneofs g.label ∷ w ∷ f.name.name ∷ []))) (sym is.kind) has2 in
+    (line (codes "field" ∷ decimal g.number ∷ label_text T t.oneofs g.label ∷ kind_text T g.kind ∷ f.name.name ∷ [])) =
+    subst (λ (w : List ℕ). HasLine (alone F) f.name.span
+    (line (codes "field" ∷ decimal g.number ∷ label_text T t.oneofs g.label ∷ w ∷ f.name.name ∷ []))) (sym is.kind) has2 in
     record {
       has = subst (λ (n : List ℕ). HasLine (alone F) f.name.span
           (line (codes "field" ∷ decimal g.number ∷ label_text T t.oneofs g.label ∷ kind_text T g.kind ∷ n ∷ [])))
@@ -298,18 +298,18 @@ message_part F p T i t has h l =
     let own : List ℕ = line (codes "message" ∷ t.name ∷ []) in
     let name : FieldDecl → List ℕ = λ f. f.name.name in
     let fields = items_part F (field_decl i) m.fields name (λ (g : Field). g.name) (field_line T t.oneofs) t.fields
-        (same_field i) valid.names
-        (λ g k.
-        let f = is.fields.alone g k in
-        let here = at_in m.fields f.0 f.1 in record {
-          at = f.1.0;
-          item = f.0;
-          here = here;
-          named = sym f.2.name;
-          span = f.0.name.span;
-          entry = field_entry F T i m scope t f.0 g f.1.0 x.1 up here f.2
-              (All-contains (IsField T (length t.oneofs)) t.fields g valid.fields k).number;
-        }) in
+    (same_field i) valid.names
+    (λ g k.
+    let f = is.fields.alone g k in
+    let here = at_in m.fields f.0 f.1 in record {
+      at = f.1.0;
+      item = f.0;
+      here = here;
+      named = sym f.2.name;
+      span = f.0.name.span;
+      entry = field_entry F T i m scope t f.0 g f.1.0 x.1 up here f.2
+          (All-contains (IsField T (length t.oneofs)) t.fields g valid.fields k).number;
+    }) in
     cons_part F (record { decl = message_decl i; span = m.name.span; line = own }) (flat_map (field_line T t.oneofs) t.fields)
     (Owned (field_decl i) m.fields name (map (λ (g : Field). g.name) t.fields)) (IsAt 2 i)
     (record {
@@ -348,17 +348,17 @@ method_entry : (F : File) (T : Table) (n : ℕ) (s : ServiceDecl) (r : RpcDecl) 
 method_entry F T n s r m h at is =
     let u = is.is in
     let W : ℕ → List ℕ → List ℕ → List ℕ → List ℕ → Type 0 = λ i a b c d.
-        HasLine (alone F) r.name.span (line (codes "method" ∷ decimal i ∷ a ∷ b ∷ c ∷ d ∷ [])) in
+    HasLine (alone F) r.name.span (line (codes "method" ∷ decimal i ∷ a ∷ b ∷ c ∷ d ∷ [])) in
     let svc : List ℕ = text_of (package_of F ++ s.name.name ∷ []) in
     let has : W (0 + n) svc r.name.name (text_of u.input) (text_of u.output) = Lines.of_method s r n at u.takes u.gives in
     let has1 : W n svc r.name.name (text_of u.input) (text_of u.output) =
-        subst (λ (i : ℕ). W i svc r.name.name (text_of u.input) (text_of u.output)) (zero-add n) has in
+    subst (λ (i : ℕ). W i svc r.name.name (text_of u.input) (text_of u.output)) (zero-add n) has in
     let has2 : W n m.service r.name.name (text_of u.input) (text_of u.output) =
-        subst (λ (a : List ℕ). W n a r.name.name (text_of u.input) (text_of u.output)) (sym u.service) has1 in
+    subst (λ (a : List ℕ). W n a r.name.name (text_of u.input) (text_of u.output)) (sym u.service) has1 in
     let has3 : W n m.service m.name (text_of u.input) (text_of u.output) =
-        subst (λ (b : List ℕ). W n m.service b (text_of u.input) (text_of u.output)) (sym u.name) has2 in
+    subst (λ (b : List ℕ). W n m.service b (text_of u.input) (text_of u.output)) (sym u.name) has2 in
     let has4 : W n m.service m.name (message_name T m.input) (text_of u.output) =
-        subst (λ (c : List ℕ). W n m.service m.name c (text_of u.output)) (sym u.input_place) has3 in
+    subst (λ (c : List ℕ). W n m.service m.name c (text_of u.output)) (sym u.input_place) has3 in
     record {
       has = subst (λ (d : List ℕ). W n m.service m.name (message_name T m.input) d) (sym u.output_place) has4;
       stands = Order.rpc h.service h.rpc s r h.its_service h.its_rpc (Order.rpc_name refl);
@@ -411,31 +411,31 @@ text_short F T ordered clean made =
     let eo : List ℕ = made.plan.enums.order.items in
     let mo : List ℕ = made.plan.messages.order.items in
     let el : All (λ i. i < length F.enums) eo =
-        subst (λ (n : ℕ). All (λ i. i < n) eo) made.is_plan.all_enums made.is_plan.enum_places.order.within in
+    subst (λ (n : ℕ). All (λ i. i < n) eo) made.is_plan.all_enums made.is_plan.enum_places.order.within in
     let ml : All (λ i. i < length F.messages) mo =
-        subst (λ (n : ℕ). All (λ i. i < n) mo) made.is_plan.all_messages made.is_plan.message_places.order.within in
+    subst (λ (n : ℕ). All (λ i. i < n) mo) made.is_plan.all_messages made.is_plan.message_places.order.within in
     let enums = enums_part F made.plan eo T.enums made.enums_are
-        (order_distinct made.plan.enums.names.items eo made.is_plan.enum_places.order) el in
+    (order_distinct made.plan.enums.names.items eo made.is_plan.enum_places.order) el in
     let messages = messages_part F made.plan T mo T.messages has made.messages_are
-        (order_distinct made.plan.messages.names.items mo made.is_plan.message_places.order) ml in
+    (order_distinct made.plan.messages.names.items mo made.is_plan.message_places.order) ml in
     let methods = methods_part F T 0 (rpcs_of F) T.methods (made.methods_are.each T has)
-        (λ k i q e g. ap (slice_get (rpcs_of F)) (e ∙ zero-add k) ∙ g) in
+    (λ k i q e g. ap (slice_get (rpcs_of F)) (e ∙ zero-add k) ∙ g) in
     let types = join_parts F (flat_map enum_lines T.enums) (flat_map (message_lines T) T.messages) (IsAtOne 1 eo)
-        (IsAtOne 2 mo) (λ d. class d ≤ 2) enums messages
-        (λ d f a b s.
-        let u : class d ≡ 1 = a.0 in
-        let v : class f ≡ 2 = b.0 in
-        let w : class d ≡ class f = ap class s in
-        omega arith)
-        (λ d a. let u : class d ≡ 1 = a.0 in omega arith) (λ d b. let v : class d ≡ 2 = b.0 in omega arith) in
+    (IsAtOne 2 mo) (λ d. class d ≤ 2) enums messages
+    (λ d f a b s.
+    let u : class d ≡ 1 = a.0 in
+    let v : class f ≡ 2 = b.0 in
+    let w : class d ≡ class f = ap class s in
+    omega arith)
+    (λ d a. let u : class d ≡ 1 = a.0 in omega arith) (λ d b. let v : class d ≡ 2 = b.0 in omega arith) in
     let whole = join_parts F (flat_map enum_lines T.enums ++ flat_map (message_lines T) T.messages)
-        (flat_map (method_line T) (enumerate_from 0 T.methods)) (λ d. class d ≤ 2) (IsRpcFrom F 0) (λ d. Unit {0}) types
-        methods
-        (λ d f a o s.
-        let w : class d ≡ class f = ap class s in
-        let v : class f ≡ 3 = ap class o.is in
-        let u : class d ≤ 2 = a in
-        omega arith)
-        (λ d a. tt) (λ d a. tt) in
+    (flat_map (method_line T) (enumerate_from 0 T.methods)) (λ d. class d ≤ 2) (IsRpcFrom F 0) (λ d. Unit {0}) types
+    methods
+    (λ d f a o s.
+    let w : class d ≡ class f = ap class s in
+    let v : class f ≡ 3 = ap class o.is in
+    let u : class d ≤ 2 = a in
+    omega arith)
+    (λ d a. tt) (λ d a. tt) in
     subst (λ (t : List ℕ). length t ≤ MAX_TEXT) whole.text_is
     (entries_short F whole.entries ordered clean whole.are whole.differ)

@@ -9,10 +9,10 @@ ghost use Rattle.schema_resolve.specs.Resolving.{IsClean};
 ghost use Rattle.schema_resolve.specs.Placing.{IsPlan};
 ghost use Rattle.schema_resolve.specs.InOrder.{value_in, value_pair, AreValues, IsEnumAt};
 
-use schema_offences::enum_number;
 use crate::plan::Plan;
 use mrpc_table::{ChoiceValues, Choices, Memory, Name, Sequence};
 use proto_file::{File, ValueDecl};
+use schema_offences::enum_number;
 use std::alloc::Global;
 
 // A number that 32 bits hold.
@@ -27,10 +27,7 @@ fn number_of(value: &ValueDecl) -> i32
 }
 
 // Numbers and names in the order of the text.
-fn values_in<'a>(
-    alloc: Global,
-    decls: &'a [ValueDecl],
-) -> Result<Vec<(i32, &'a [u8])>, Memory>
+fn values_in<'a>(alloc: Global, decls: &'a [ValueDecl]) -> Result<Vec<(i32, &'a [u8])>, Memory>
     requires { All (λ v. FitsSigned w32 (value_of v.number)) decls.now }
     ensures { IfOk result (λ v. map value_pair v.items ≡ map value_in decls.now) }
 {

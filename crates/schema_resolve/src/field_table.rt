@@ -5,11 +5,10 @@ ghost use Rattle.proto_file.specs.Order.{IsFormed, IsOrdered};
 ghost use Rattle.schema_resolve.specs.Resolving.{IsClean};
 ghost use Rattle.schema_resolve.specs.Judged.{StandsIn, IsJudged, AreJudgedInOrder, AreJudged};
 
-use schema_offences::field_number;
-use schema_offences::{Form, form_of};
 use mrpc_table::Memory;
 use proto_file::{FieldDecl, MessageDecl};
 use schema_names::Scopes;
+use schema_offences::{Form, field_number, form_of};
 use std::alloc::Global;
 
 /// A field with its number and its form.

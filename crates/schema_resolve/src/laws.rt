@@ -11,7 +11,7 @@ ghost use Rattle.schema_resolve.specs.Tables.{IsTableOf};
 ghost use Rattle.schema_resolve.specs.Resolving.{Resolves};
 ghost use Rattle.schema_offences.specs.declared.reason.ResolveReason.{ResolveReason};
 
-use crate::one_table::one_table_text;
+use crate::same_text::one_table_text;
 use proto_schema::file_is_ordered;
 use table_text::one_text;
 

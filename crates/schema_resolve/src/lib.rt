@@ -12,16 +12,16 @@ mod field_table;
 mod laws;
 mod message_table;
 mod method_table;
-mod one_table;
 mod oneof_table;
 mod placed;
 mod plan;
-mod resolve;
+mod resolver;
+mod same_text;
 mod table;
 
 pub use fault::ResolveFault;
 pub use laws::{one_offence, one_table, table_or_offence};
-pub use resolve::resolve;
+pub use resolver::resolve;
 
 #[cfg(test)]
 mod tests;

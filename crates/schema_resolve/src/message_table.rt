@@ -9,10 +9,10 @@ ghost use Rattle.schema_resolve.specs.Joining.{KeepsOneofs, IsLabelled, kind_in,
 use crate::field_table::{Judged, by_number};
 use crate::oneof_table::Oneofs;
 use crate::plan::Plan;
-use schema_offences::TypeOf;
 use mrpc_table::{Field, Kind, Label, Memory, Message, Sequence};
 use proto_file::{File, Word};
 use schema_names::{Named, Scopes};
+use schema_offences::TypeOf;
 use std::alloc::Global;
 
 fn kind_in(plan: &Plan, type_of: TypeOf) -> Kind

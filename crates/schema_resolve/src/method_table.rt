@@ -13,10 +13,10 @@ ghost use Rattle.schema_resolve.specs.Placing.{IsPlan, HasNames};
 ghost use Rattle.schema_resolve.specs.InOrder.{IsPlaceNamed, IsMethodIn, AreMethods};
 
 use crate::plan::{Plan, behind};
-use schema_offences::message_of;
 use mrpc_table::{Memory, Method, Methods, Sequence};
 use proto_file::{File, RpcDecl, ServiceDecl, Word};
 use schema_names::Scopes;
+use schema_offences::message_of;
 use std::alloc::Global;
 
 // The place of the message that an rpc's type names.

@@ -34,7 +34,7 @@ returns c =
     let at = item_at c.as_slice.result.now F.enums c.args.place e c.as_slice.ensures c.requires.within c.index-as_slice-place.is in
     let pairs : List (ℤ × Bor (List ℕ)) → List (ℤ × List ℕ) = λ vs. map value_pair vs in
     let same : c.in_ok-values.values ≡ pairs c.in_ok-sorted.sorted.items =
-        c.in_ok-values.ensures ∙ ap pairs c.as_slice-3.ensures.value in
+    c.in_ok-values.ensures ∙ ap pairs c.as_slice-3.ensures.value in
     let decls : List ValueDecl → Type 0 = λ ds. AreValues ds (pairs c.in_ok-sorted.sorted.items) in
     let names = c.args.plan.now.enums.names.items in
     let l : c.args.place < length names = omega (arith, c.requires.plan.all_enums, c.requires.within) in

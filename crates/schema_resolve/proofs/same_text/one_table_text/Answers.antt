@@ -1,5 +1,5 @@
 use Rattle.schema_resolve.proofs.OneTable.{one_text_of, starts_apart}
-use Rattle.schema_resolve.proofs.one_table.one_table_text.Goals as goal
+use Rattle.schema_resolve.proofs.same_text.one_table_text.Goals as goal
 
 pub returns : goal.returns
 returns c = λ F T U ordered a b.
