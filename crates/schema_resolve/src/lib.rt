@@ -15,6 +15,7 @@ mod method_table;
 mod oneof_table;
 mod placed;
 mod plan;
+mod resolved;
 mod resolver;
 mod same_text;
 mod table;
@@ -22,6 +23,3 @@ mod table;
 pub use fault::ResolveFault;
 pub use laws::{one_offence, one_table, table_or_offence};
 pub use resolver::resolve;
-
-#[cfg(test)]
-mod tests;

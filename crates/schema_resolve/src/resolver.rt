@@ -9,12 +9,10 @@ ghost use Rattle.schema_resolve.specs.declared.fault.ResolveFault.TheVariants as
 
 use crate::fault::ResolveFault;
 use crate::laws::one_table;
-use crate::table::table_of;
+use crate::resolved::resolved;
 use mrpc_table::Table;
 use proto_file::File;
 use proto_schema::file_is_ordered;
-use schema_names::Scopes;
-use schema_offences::{Offence, first_offence};
 use std::alloc::Global;
 
 /// The table of a file that was read, or the offence that starts first: of several at one place, the first one in the
@@ -37,14 +35,5 @@ pub fn resolve(alloc: Global, file: &File) -> Result<Table, ResolveFault>
 {
     file_is_ordered();
     one_table();
-    let scopes = Scopes::new(alloc, file)?;
-    match first_offence(alloc, file, &scopes)? {
-        Some(Offence { reason, span }) => Err(ResolveFault::At {
-            reason,
-            start: span.start,
-            end: span.end,
-            line: span.line,
-        }),
-        None => Ok(table_of(alloc, file, &scopes)?),
-    }
+    resolved(alloc, file)
 }

@@ -1,0 +1,5 @@
+use Rattle.schema_resolve.proofs.Answering.{stands_behind, only_this}
+use Rattle.schema_resolve.proofs.resolved.resolved.Goals as goal
+
+pub new-requires : goal.new-requires
+new-requires c = stands_behind c.args.file.now c.requires.formed
