@@ -121,7 +121,7 @@ fn tell_piece(
 {
     frame_law();
     let mut place = from;
-    loop {
+    'frames: loop {
         place = tell_frame(alloc, table, stream, place, room, lines)?;
         if place >= stream.len() || lines.len() >= PIECE {
             return Ok(place);
