@@ -1,5 +1,5 @@
-//! Tests of what threads share: heaps, rings, quotas, and copies of what is stored meanwhile. It has no code of its own,
-//! and nothing stands on it.
+//! Tests of what threads share: heaps, rings, quotas, and copies of what is stored meanwhile. It has no code of its
+//! own, and nothing stands on it.
 #![tactic(auto)]
 
 #[cfg(test)]

@@ -1,4 +1,5 @@
-//! Tests of proto files: their tokens, what is read of them, and their tables. It has no code of its own, and nothing stands on it.
+//! Tests of proto files: their tokens, what is read of them, and their tables. It has no code of its own, and nothing
+//! stands on it.
 #![tactic(auto)]
 
 #[cfg(test)]

@@ -1,5 +1,5 @@
-//! What stands against a proto file that was read: names that name nothing or stand twice, numbers out of range, maps out
-//! of place, limits (Protocol Buffers, proto3 language guide; the limits are this project's own).
+//! What stands against a proto file that was read: names that name nothing or stand twice, numbers out of range, maps
+//! out of place, limits (Protocol Buffers, proto3 language guide; the limits are this project's own).
 //!
 //! `specs/Members.antt` says what stands against messages, enums and services by themselves, `specs/Lines.antt` which
 //! lines the names have in a table's text, and `specs/Offences.antt` all that stands against a file, and which offence

@@ -20,6 +20,7 @@ pub struct NameSet<'a> {
 }
 
 impl<'a> NameSet<'a> {
+    /// The names of these words.
     pub fn new(alloc: Global, words: &'a Words) -> Result<NameSet<'a>, Memory>
         ensures { IfOk result (KeepsNames words.now) }
     {

@@ -151,6 +151,7 @@ pub struct Reserved {
 }
 
 impl Reserved {
+    /// The numbers of these ranges.
     pub fn new(alloc: Global, ranges: &[Range]) -> Result<Reserved, Memory>
         ensures { IfOk result (KeepsRanges ranges.now) }
     {

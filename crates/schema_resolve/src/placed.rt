@@ -63,6 +63,7 @@ fn places(alloc: Global, order: &[usize]) -> Result<Vec<u32>, Memory>
 }
 
 impl Placed {
+    /// Names with their order and their places in it.
     pub fn new(alloc: Global, names: Vec<Name>) -> Result<Placed, Memory>
         requires few { length names.items < 2 ^ 32 }
         requires distinct { AreDistinct names.items }
