@@ -1,6 +1,6 @@
 -- Where parts stand last.
-use Rattle.std.proofs.Common.{◌≡◌, ◌≢◌, ℕ, zero, suc, ◌+◌, ◌<◌, ◌≤◌, ◌⊎◌, ⊎_elim, inl, inr, Bool, true, false, cond, List, [], ◌∷◌, ◌++◌, length, take, get_or, Option, Some, None, refl, ap, sym, ◌∙◌, subst, arith, length-append}
-use Rattle.std.specs.Prelude.{slice_get, MatchOption, map}
+use Rattle.std.proofs.Common.{◌≡◌, ◌≢◌, ℕ, zero, suc, ◌+◌, ◌<◌, ◌⊎◌, ⊎_elim, inl, inr, Bool, true, false, cond, List, [], ◌∷◌, ◌++◌, length, take, get_or, Option, Some, None, refl, ap, sym, ◌∙◌, subst, arith}
+use Rattle.std.specs.Prelude.{slice_get, MatchOption}
 use Rattle.std.specs.Borrow.{Bor}
 use Rattle.std.specs.BTreeMap.{BTreeMap}
 use Rattle.std.specs.Cmp.{Equal-is}
@@ -11,7 +11,6 @@ use Rattle.std.proofs.lemmas.Map.Lookups.{exact_bytes}
 use Rattle.std.proofs.lemmas.Option.{slice_get_within}
 use Rattle.std.proofs.lemmas.List.{take_more, length_push, length-take-le, length-map, get_or_default}
 use Rattle.schema_names.specs.Kept.{KnowsLast, IsLast, last_in, values_of}
-use Rattle.schema_names.proofs.Building.{cases}
 use Rattle.schema_names.proofs.Looking.{part_at}
 
 get_push : (xs : List (List ℕ)) (x q : List ℕ) (j : ℕ) → slice_get (xs ++ x ∷ []) j ≡ Some q → (slice_get xs j ≡ Some q) ⊎ ((j ≡ length xs) × (x ≡ q))

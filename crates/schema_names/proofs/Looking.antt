@@ -1,7 +1,7 @@
 -- What the scopes of a file know.
-use Rattle.std.proofs.Common.{◌≡◌, ◌≢◌, ℕ, ◌+◌, ◌<◌, ◌≤◌, true, false, List, [], ◌∷◌, ◌++◌, length, take, drop, get_or, Option, Some, None, refl, ap, sym, ◌∙◌, subst, arith, length-append}
+use Rattle.std.proofs.Common.{◌≡◌, ◌≢◌, ℕ, ◌+◌, ◌<◌, ◌≤◌, true, false, List, [], ◌∷◌, ◌++◌, length, take, get_or, Option, Some, None, refl, ap, sym, ◌∙◌, subst, arith, length-append}
 use Rattle.std.specs.Prelude.{slice_get, ◌==◌, is_some, MatchOption, option_map, Bool, cond, not}
-use Rattle.std.specs.List.{slice_split, onto_first}
+use Rattle.std.specs.List.{onto_first}
 use Rattle.std.specs.Str.{bytes_eq}
 use Rattle.std.specs.Borrow.{Bor}
 use Rattle.std.proofs.lemmas.Bool.{eqb-true}
@@ -13,8 +13,8 @@ use Rattle.mrpc_table.specs.Names.{parts_of}
 use Rattle.proto_file.specs.declared.file.Span.{Span}
 use Rattle.proto_file.specs.declared.file.MessageDecl.{MessageDecl}
 use Rattle.proto_file.specs.declared.file.File.{File}
-use Rattle.schema_names.specs.Scopes.{IsScope, of_file, package_of, IsThere, Decides, here, outward, Means, absolute, relative, Names}
-use Rattle.schema_names.specs.Numbers.{StandBehind, sort_of, IsNumber, of_file as number_of_file, of_message as number_of_message, IsPlace, StandsAt, message, enum, IsFirstAt}
+use Rattle.schema_names.specs.Scopes.{IsScope, of_file, package_of, IsThere, Decides, here, outward, Means, absolute, relative}
+use Rattle.schema_names.specs.Numbers.{StandBehind, IsNumber, of_file as number_of_file, of_message as number_of_message, IsPlace, StandsAt, message, enum, IsFirstAt}
 use Rattle.schema_names.specs.Kept.{Keeps, AreOf, IsAmong, values_of}
 use Rattle.schema_names.specs.Finding.{IsAnswer, NoType, NamesNothing, StaysOpen, Reaches, rank_of, number_at}
 use Rattle.schema_names.specs.Children.{child}

@@ -1,11 +1,10 @@
 -- What is one: scopes, their numbers, and what a reference names.
-use Rattle.std.proofs.Common.{◌≡◌, ◌≢◌, ℕ, ◌+◌, ◌≤◌, ◌⊎◌, ⊎_elim, inl, inr, List, [], ◌∷◌, ◌++◌, length, Option, Some, None, refl, ap, sym, ◌∙◌, subst, arith}
+use Rattle.std.proofs.Common.{◌≡◌, ◌≢◌, ℕ, ◌≤◌, List, [], ◌∷◌, ◌++◌, length, Option, Some, None, refl, ap, sym, ◌∙◌, subst, arith}
 use Rattle.std.proofs.lemmas.Option.{slice_get_within}
 use Rattle.mrpc_table.specs.Names.{parts_of}
 use Rattle.proto_file.specs.declared.file.File.{File}
 use Rattle.schema_names.specs.Scopes.{Sort, IsScope, of_file, package_of, Decides, Means, absolute, relative, Finds, in_this, in_others, Names}
 use Rattle.schema_names.specs.Numbers.{StandBehind, StartApart, IsPlace, IsNumber, of_file as number_of_file, of_message as number_of_message, sort_of}
-use Rattle.schema_names.specs.declared.named.Named.{Named}
 use Rattle.schema_names.proofs.ScopeLemmas.{message_scope}
 use Rattle.schema_names.proofs.Deciding.{declared_stands, decides_one}
 use Rattle.schema_names.proofs.Building.{scope_at}

@@ -1,6 +1,6 @@
 -- The definitions on small files: what a reference names there.
-use Rattle.std.proofs.Common.{◌≡◌, ◌≢◌, ℕ, ◌+◌, true, false, List, [], ◌∷◌, ◌++◌, Option, Some, None, refl, arith}
-use Rattle.std.specs.Prelude.{codes, Contains}
+use Rattle.std.proofs.Common.{ℕ, ◌+◌, false, List, [], ◌∷◌, Option, Some, None, refl, arith}
+use Rattle.std.specs.Prelude.{codes}
 use Rattle.mrpc_table.specs.declared.words.Decimal.TheVariants.{Small}
 use Rattle.proto_file.specs.declared.file.Span.{Span}
 use Rattle.proto_file.specs.declared.file.Word.{Word}
@@ -8,11 +8,10 @@ use Rattle.proto_file.specs.declared.file.MessageDecl.{MessageDecl}
 use Rattle.proto_file.specs.declared.file.ValueDecl.{ValueDecl}
 use Rattle.proto_file.specs.declared.file.EnumDecl.{EnumDecl}
 use Rattle.proto_file.specs.declared.file.File.{File}
-use Rattle.schema_names.specs.Scopes.{IsScope, of_file, of_message, package_of, Sort, a_message, an_enum, no_type, Declares, message, enum, value, IsThere, a_type, a_package, Decides, here, outward, Means, absolute, relative, Names}
-use Rattle.schema_names.specs.Numbers.{StandsAt, message as message_at, enum as enum_at, IsFirstAt, sort_of}
-use Rattle.schema_names.specs.declared.named.Named.{Named}
-use Rattle.schema_names.specs.declared.named.Named.TheVariants.{Message, Enum}
-use Rattle.schema_names.proofs.Deciding.{in_only, there, names_first}
+use Rattle.schema_names.specs.Scopes.{IsScope, of_file, of_message, an_enum, no_type, Declares, enum, value, IsThere, a_package, Decides, here, Means, absolute, relative}
+use Rattle.schema_names.specs.Numbers.{StandsAt, message as message_at}
+use Rattle.schema_names.specs.declared.named.Named.TheVariants.{Message}
+use Rattle.schema_names.proofs.Deciding.{in_only, there}
 
 abbrev at : ℕ → Span
 at n = record { start = n; end = n + 1; line = 1 }

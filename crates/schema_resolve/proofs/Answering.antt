@@ -1,6 +1,5 @@
 -- What resolving answers.
-use Rattle.std.proofs.Common.{◌≡◌, ℕ, ◌<◌, Option, Some, length, refl, subst, sym}
-use Rattle.std.specs.Prelude.{slice_get, Contains}
+use Rattle.std.proofs.Common.{◌≡◌, length, refl}
 use Rattle.std.specs.Prelude.{Result, Ok, Err, IfOk, IfErr, MatchResult}
 use Rattle.std.proofs.lemmas.List.Elements.{All-contains}
 use Rattle.mrpc_table.specs.declared.table.Table.{Table}

@@ -1,9 +1,9 @@
 -- What holds of a file against which nothing stands.
-use Rattle.std.proofs.Common.{◌≡◌, ◌≢◌, ℕ, zero, suc, ◌+◌, ◌<◌, ◌≤◌, ◌⊎◌, inl, inr, Bool, true, false, List, [], ◌∷◌, ◌++◌, length, get_or, map, Option, Some, None, refl, sym, ap, ◌∙◌, subst, arith}
-use Rattle.std.specs.Prelude.{Contains, All, slice_get, IfSome}
+use Rattle.std.proofs.Common.{◌≡◌, ℕ, zero, suc, ◌+◌, ◌<◌, ◌≤◌, inl, inr, List, [], ◌∷◌, ◌++◌, length, get_or, Option, Some, None, refl, sym, ap, ◌∙◌, subst, arith}
+use Rattle.std.specs.Prelude.{Contains, slice_get}
 use Rattle.std.proofs.lemmas.Bool.{cases_lt, cases_order}
-use Rattle.std.proofs.lemmas.Option.{slice_get_within, get_or_from_slice_get, slice_get-get_or, same_Some, slice_get_read}
-use Rattle.std.proofs.lemmas.List.{get_or_default, length-append}
+use Rattle.std.proofs.lemmas.Option.{slice_get_within, get_or_from_slice_get, same_Some, slice_get_read}
+use Rattle.std.proofs.lemmas.List.{length-append}
 use Rattle.std.proofs.lemmas.List.Elements.{All-contains}
 use Rattle.mrpc_table.specs.Valid.{AreDistinct}
 use Rattle.mrpc_table.specs.declared.limits.TheConstants.{MAX_MESSAGES, MAX_ENUMS}
@@ -15,16 +15,14 @@ use Rattle.proto_file.specs.declared.file.EnumDecl.{EnumDecl}
 use Rattle.proto_file.specs.declared.file.File.{File}
 use Rattle.schema_names.specs.Scopes
 use Rattle.schema_names.specs.Scopes.{Sort, a_message, an_enum, Declares, text_of, package_of, IsScope, of_file, of_message}
-use Rattle.schema_offences.specs.Sources.{alone}
-use Rattle.schema_offences.specs.Members.{MessageOffends, EnumOffends, too_many_messages, too_many_enums}
+use Rattle.schema_offences.specs.Members.{too_many_messages, too_many_enums}
 use Rattle.schema_offences.specs.Offences
 use Rattle.schema_offences.specs.Offences.{IsTwice, IsOffence, offends}
-use Rattle.schema_offences.specs.declared.reason.ResolveReason.{ResolveReason}
 use Rattle.schema_offences.specs.declared.reason.ResolveReason.TheVariants.{DuplicateName, Limit}
 use Rattle.schema_resolve.specs.Resolving.{IsClean}
-use Rattle.schema_resolve.specs.Placing.{behind, front_of, name_at, AreMessageNames, AreEnumNames}
+use Rattle.schema_resolve.specs.Placing.{behind, front_of, AreMessageNames, AreEnumNames}
 use Rattle.schema_resolve.proofs.FullNames.{AreNames, same_text, scope_names, names_more, behind_text, message_formed}
-use Rattle.schema_resolve.proofs.Orders.{AreApart, apart_distinct}
+use Rattle.schema_resolve.proofs.Orders.{apart_distinct}
 
 -- ---- elements
 

@@ -1,5 +1,5 @@
 -- The enums of a table.
-use Rattle.std.proofs.Common.{◌≡◌, ◌≢◌, ℕ, zero, suc, ◌+◌, ◌<◌, ◌≤◌, ◌⊎◌, inl, inr, Bool, true, false, List, [], ◌∷◌, ◌++◌, length, get_or, map, take, ◌^◌, Option, Some, None, refl, sym, ap, ◌∙◌, subst, arith, add-one}
+use Rattle.std.proofs.Common.{◌≡◌, ◌≢◌, ℕ, zero, suc, ◌<◌, ◌≤◌, inl, inr, Bool, true, false, List, [], ◌∷◌, ◌++◌, length, get_or, map, ◌^◌, Option, Some, None, refl, sym, ap, ◌∙◌, subst, arith, add-one}
 use Rattle.std.specs.Prelude.{Contains, All, slice_get, ℤ, pos, negsuc, FitsSigned, nat_le}
 use Rattle.std.specs.Int.{w32}
 use Rattle.std.specs.Borrow.{Bor}
@@ -7,19 +7,19 @@ use Rattle.std.specs.Option.{option_map}
 use Rattle.std.specs.List.{list_all}
 use Rattle.std.specs.List.Sorted.{IsPermutation, IsSorted}
 use Rattle.std.specs.Cmp.Lexicographic.{slice_cmp}
-use Rattle.std.specs.Ordering.{is_lt, nat_cmp, int_cmp, ordering_then, ordering_reverse, MatchOrdering}
+use Rattle.std.specs.Ordering.{is_lt, nat_cmp, int_cmp, ordering_then, ordering_reverse}
 use Rattle.std.specs.declared.cmp.Ordering.{Ordering}
 use Rattle.std.specs.declared.cmp.Ordering.TheVariants.{Less, Equal, Greater}
 use Rattle.std.proofs.lemmas.Bool.{false≢true, cases_lt, cases_Bool, and_from, and_parts, leb-true, le-leb}
 use Rattle.std.proofs.lemmas.Cmp.{nat_list_cmp_total, int_cmp_total, int_ranked}
 use Rattle.std.proofs.lemmas.Map.Lookups.{exact_bytes}
 use Rattle.std.proofs.lemmas.Option.{slice_get_within, get_or_from_slice_get, slice_get-get_or, same_Some, slice_get-map}
-use Rattle.std.proofs.lemmas.List.{get_or-map, get_or_default, length-map, length-append, map-append}
-use Rattle.std.proofs.lemmas.List.Elements.{All-contains, All-from_get_or}
+use Rattle.std.proofs.lemmas.List.{get_or-map, get_or_default, length-map, length-append}
+use Rattle.std.proofs.lemmas.List.Elements.{All-contains}
 use Rattle.std.proofs.lemmas.List.Folds.{list_all-append}
 use Rattle.std.proofs.lemmas.List.Sorted.{IsPermutation-map, IsPermutation-sym, length_permutation, Contains-permutation}
-use Rattle.mrpc_table.specs.Names.{is_short, is_short_full, is_name_form, is_full_form, parts_of, IsName, IsFullName}
-use Rattle.mrpc_table.specs.Valid.{Ascends, AreDistinct, IsValueBelow, IsBelow, IsEnum}
+use Rattle.mrpc_table.specs.Names.{is_short, is_short_full, is_name_form, parts_of, IsName, IsFullName}
+use Rattle.mrpc_table.specs.Valid.{AreDistinct, IsValueBelow}
 use Rattle.mrpc_table.specs.declared.limits.TheConstants.{MAX_VALUES, MAX_NAME, MAX_FULL_NAME}
 use Rattle.mrpc_table.specs.declared.table.Choices.{Choices}
 use Rattle.proto_file.specs.Order
@@ -27,27 +27,25 @@ use Rattle.proto_file.specs.Order.{IsFormed, IsFormedEnum, IsOrdered, HasName, S
 use Rattle.proto_file.specs.declared.file.Span.{Span}
 use Rattle.proto_file.specs.declared.file.Word.{Word}
 use Rattle.proto_file.specs.declared.file.ValueDecl.{ValueDecl}
-use Rattle.proto_file.specs.declared.file.MessageDecl.{MessageDecl}
 use Rattle.proto_file.specs.declared.file.EnumDecl.{EnumDecl}
 use Rattle.proto_file.specs.declared.file.File.{File}
 use Rattle.schema_names.specs.Scopes
 use Rattle.schema_names.specs.Scopes.{Sort, is_type, no_type, an_enum, Declares, text_of, package_parts, package_of, IsScope, of_file, of_message}
 use Rattle.schema_offences.specs.Sources.{alone}
 use Rattle.schema_offences.specs.Types.{value_of}
-use Rattle.schema_offences.specs.Those.{AreThose}
 use Rattle.schema_offences.specs.Members
 use Rattle.schema_offences.specs.Members.{IsLong, of_value, of_value_name, value_out_of_range, first_not_zero, name_too_many, name_long, long_message}
 use Rattle.schema_offences.specs.Offences
 use Rattle.schema_offences.specs.Offences.{offends}
 use Rattle.schema_offences.specs.declared.reason.ResolveReason.TheVariants.{NumberRange, FirstEnum, Limit}
-use Rattle.schema_resolve.specs.Tables.{IsValueOf, IsEnumOf}
+use Rattle.schema_resolve.specs.Tables.{IsEnumOf}
 use Rattle.schema_resolve.specs.Resolving.{IsClean}
 use Rattle.schema_resolve.specs.Placing.{name_at, IsPlan}
 use Rattle.schema_resolve.specs.InOrder.{value_in, value_pair, AreValues, IsEnumAt}
 use Rattle.schema_resolve.specs.declared.plan.Plan.{Plan}
 use Rattle.schema_resolve.proofs.FullNames.{AreNames, scope_names, names_more, parts_of_text}
 use Rattle.schema_resolve.proofs.Orders.{AreApart, distinct_apart, apart_distinct, apart_moved, ascends_from, less_plain, element}
-use Rattle.schema_resolve.proofs.CleanFiles.{in_list, at_in, some_at, HereEnum, here_enum, one_declaration, enum_text}
+use Rattle.schema_resolve.proofs.CleanFiles.{in_list, at_in, some_at, here_enum, one_declaration, enum_text}
 
 -- ---- the elements of a map
 

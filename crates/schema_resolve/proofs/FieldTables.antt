@@ -1,15 +1,14 @@
 -- The fields of a clean file have forms, and numbers that differ.
-use Rattle.std.proofs.Common.{◌≡◌, ◌≢◌, ℕ, zero, suc, ◌+◌, ◌<◌, ◌≤◌, ◌^◌, ◌⊎◌, inl, inr, Bool, true, false, List, [], ◌∷◌, ◌++◌, length, get_or, map, take, Option, Some, None, refl, sym, ap, ◌∙◌, subst, arith, add-one}
-use Rattle.std.specs.Prelude.{Contains, All, slice_get, ℤ, pos, negsuc, IsTrue}
+use Rattle.std.proofs.Common.{◌≡◌, ◌≢◌, ℕ, suc, ◌+◌, ◌<◌, ◌≤◌, inl, inr, Bool, true, false, List, [], ◌∷◌, ◌++◌, length, get_or, map, take, Option, Some, None, refl, sym, ap, ◌∙◌, subst, arith}
+use Rattle.std.specs.Prelude.{Contains, slice_get, pos, IsTrue}
 use Rattle.mrpc_table.specs.Names.{is_name_form}
 use Rattle.std.specs.Option.{option_map}
 use Rattle.std.specs.List.Sorted.{IsPermutation, IsNonDecreasingBy}
-use Rattle.std.proofs.lemmas.Bool.{false≢true, cases_lt, cases_Bool, cases_order}
-use Rattle.std.proofs.lemmas.Option.{slice_get_within, get_or_from_slice_get, slice_get-get_or, same_Some, slice_get-map}
-use Rattle.std.proofs.lemmas.List.{get_or-map, get_or_default, length-map, length-append, append_assoc, map-append, take_more, take_all}
+use Rattle.std.proofs.lemmas.Bool.{false≢true, cases_Bool, cases_order}
+use Rattle.std.proofs.lemmas.Option.{slice_get_within, get_or_from_slice_get, same_Some, slice_get-map}
+use Rattle.std.proofs.lemmas.List.{get_or-map, length-map, append_assoc, map-append, take_more}
 use Rattle.std.proofs.lemmas.List.Elements.{All-contains, Contains-push_cases}
 use Rattle.std.proofs.lemmas.List.Sorted.{IsPermutation-map, IsPermutation-sym, length_permutation, Contains-permutation}
-use Rattle.mrpc_table.specs.Valid.{Ascends, AreDistinct, IsFieldNumber}
 use Rattle.mrpc_table.specs.Words.{is_key, is_numeric}
 use Rattle.mrpc_table.specs.declared.table.Kind.{Kind}
 use Rattle.mrpc_table.specs.declared.table.Label.{Label}
@@ -27,17 +26,17 @@ use Rattle.proto_file.specs.declared.file.File.{File}
 use Rattle.schema_names.specs.Scopes
 use Rattle.schema_names.specs.Scopes.{Sort, a_message, an_enum, no_type, is_type, Names, Finds, in_this, in_others, text_of, IsScope, of_message}
 use Rattle.schema_offences.specs.Types.{value_of, IsScalar, IsNoScalar, HasType, scalar, message, enum, HasForm, single, a_map}
-use Rattle.schema_offences.specs.Members.{IsUnknown, IsNoType, KeyOffends, unknown_key, scalar_key, type_key, IsMisplaced, nested, labelled, in_oneof, TypeOffends, unknown_type, bad_key, unknown_value, misplaced, IsFieldNumberOf, MessageOffends, of_type, of_number, number_out_of_range, number_met_before}
+use Rattle.schema_offences.specs.Members.{IsUnknown, unknown_key, scalar_key, type_key, nested, labelled, in_oneof, TypeOffends, unknown_type, bad_key, unknown_value, misplaced, IsFieldNumberOf, of_type, of_number, number_out_of_range, number_met_before}
 use Rattle.schema_offences.specs.Offences
 use Rattle.schema_offences.specs.Offences.{offends}
 use Rattle.schema_offences.specs.declared.reason.ResolveReason.{ResolveReason}
 use Rattle.schema_offences.specs.declared.reason.ResolveReason.TheVariants.{UnknownName, NumberRange, DuplicateNumber, MapKey, MapPlace}
 use Rattle.schema_resolve.specs.Resolving.{IsClean}
-use Rattle.schema_resolve.specs.Judged.{StandsIn, IsJudged, AreJudgedInOrder, AreJudged}
+use Rattle.schema_resolve.specs.Judged.{IsJudged, AreJudgedInOrder, AreJudged}
 use Rattle.schema_resolve.specs.declared.field_table.Judged.{Judged}
 use Rattle.schema_resolve.proofs.FullNames.{AreNames, scope_names, names_more, message_formed}
-use Rattle.schema_resolve.proofs.Orders.{AreApart, distinct_apart, apart_distinct, apart_moved, ascends_from, element}
-use Rattle.schema_resolve.proofs.CleanFiles.{in_list, at_in, some_at, scope_parts, one_declaration, here_message}
+use Rattle.schema_resolve.proofs.Orders.{AreApart, apart_distinct, apart_moved, ascends_from}
+use Rattle.schema_resolve.proofs.CleanFiles.{in_list, at_in, some_at, one_declaration, here_message}
 use Rattle.schema_resolve.proofs.EnumTables.{contains_map, map_contains, map_twice}
 
 -- ---- forms

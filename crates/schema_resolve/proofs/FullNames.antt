@@ -1,14 +1,14 @@
 -- Full names and their texts.
-use Rattle.std.proofs.Common.{◌≡◌, ◌≢◌, ℕ, zero, suc, ◌+◌, ◌<◌, ◌≤◌, ◌⊎◌, inl, inr, Bool, true, false, cond, List, [], ◌∷◌, ◌++◌, length, get_or, Option, Some, None, refl, sym, ap, ◌∙◌, subst, arith}
-use Rattle.std.specs.Prelude.{Contains, All, slice_get, IfSome, ◌==◌, ◌&&◌, IsTrue}
-use Rattle.std.specs.List.{list_all, slice_split, onto_first, join_with_byte}
+use Rattle.std.proofs.Common.{◌≡◌, ℕ, inl, inr, Bool, true, false, cond, List, [], ◌∷◌, ◌++◌, Option, Some, None, refl, sym, ap, ◌∙◌, subst}
+use Rattle.std.specs.Prelude.{slice_get, IfSome, ◌==◌, IsTrue}
+use Rattle.std.specs.List.{list_all, onto_first}
 use Rattle.std.proofs.lemmas.Bool.{false≢true, and_parts, and_from, cases_Bool, eqb-true}
 use Rattle.std.proofs.lemmas.List.{append_assoc}
 use Rattle.std.proofs.lemmas.List.Elements.{All-contains}
 use Rattle.std.proofs.lemmas.List.Folds.{list_all-append}
 use Rattle.std.proofs.lemmas.List.Splits.{join_with_byte-slice_split}
 use Rattle.std.proofs.lemmas.Option.{slice_get_within, get_or_from_slice_get}
-use Rattle.mrpc_table.specs.Names.{is_name_start, is_name_byte, is_name_form, parts_of, is_full_form}
+use Rattle.mrpc_table.specs.Names.{is_name_start, is_name_byte, is_name_form, parts_of}
 use Rattle.proto_file.specs.Dot.{dot}
 use Rattle.proto_file.specs.Order.{IsFormed, IsFormedMessage, HasFullName}
 use Rattle.proto_file.specs.declared.file.Word.{Word}

@@ -1,18 +1,16 @@
 -- Which labels go with which kinds, and the words of kinds.
-use Rattle.std.proofs.Common.{◌≡◌, ◌≢◌, ℕ, zero, suc, ◌+◌, ◌<◌, ◌≤◌, ◌⊎◌, inl, inr, Bool, true, false, cond, List, [], ◌∷◌, ◌++◌, length, get_or, map, Option, Some, None, refl, sym, ap, ◌∙◌, subst, arith}
-use Rattle.std.specs.Prelude.{codes, slice_get, ◌&&◌, IsTrue, unwrap_or, pos, Contains}
-use Rattle.std.specs.Option.{option_map}
+use Rattle.std.proofs.Common.{◌≡◌, ℕ, ◌<◌, Bool, true, false, cond, List, [], ◌∷◌, ◌++◌, length, get_or, Option, Some, None, refl, sym, ap, ◌∙◌, subst, arith}
+use Rattle.std.specs.Prelude.{codes, slice_get, ◌&&◌, unwrap_or}
 use Rattle.std.proofs.lemmas.Bool.{false≢true, true≢false, and_parts}
-use Rattle.std.proofs.lemmas.Option.{same_Some, none-some, slice_get_within, get_or_from_slice_get, slice_get-map}
-use Rattle.std.proofs.lemmas.List.{append_cancel_left, append-nil, length-append}
-use Rattle.mrpc_table.specs.Words.{is_numeric, is_key}
+use Rattle.std.proofs.lemmas.Option.{same_Some, none-some, slice_get_within, get_or_from_slice_get}
+use Rattle.std.proofs.lemmas.List.{append_cancel_left, length-append}
+use Rattle.mrpc_table.specs.Words.{is_numeric}
 use Rattle.mrpc_table.specs.Text.{kind_text, label_text, message_name, enum_name}
 use Rattle.mrpc_table.specs.Valid.{IsMessageKind, GoesWith, IsKnown}
 use Rattle.mrpc_table.specs.declared.table.Kind.{Kind}
 use Rattle.mrpc_table.specs.declared.table.Kind.TheVariants.{Int32, Int64, Uint32, Uint64, Sint32, Sint64, Bool as TheBool, Fixed32, Fixed64, Sfixed32, Sfixed64, Float, Double, Text, Octets, Message, Choice}
 use Rattle.mrpc_table.specs.declared.table.Label.{Label}
 use Rattle.mrpc_table.specs.declared.table.Label.TheVariants as labels
-use Rattle.mrpc_table.specs.declared.table.Message.{Message as TableMessage}
 use Rattle.mrpc_table.specs.declared.table.Choices.{Choices}
 use Rattle.mrpc_table.specs.declared.table.Table.{Table}
 use Rattle.std.proofs.lemmas.List.Elements.{All-contains}
@@ -22,7 +20,6 @@ use Rattle.proto_file.specs.declared.file.Word.{Word}
 use Rattle.proto_file.specs.declared.file.FieldLabel.{FieldLabel}
 use Rattle.proto_file.specs.declared.file.FieldLabel.TheVariants.{Plain, Optional, Repeated}
 use Rattle.proto_file.specs.declared.file.FieldDecl.{FieldDecl}
-use Rattle.proto_file.specs.declared.file.MessageDecl.{MessageDecl}
 use Rattle.proto_file.specs.declared.file.File.{File}
 use Rattle.schema_names.specs.Scopes
 use Rattle.schema_names.specs.Scopes.{Sort, a_message, an_enum, is_type, Declares, Names, Finds, in_this, in_others, text_of, IsScope}
@@ -33,12 +30,12 @@ use Rattle.schema_offences.specs.Types.{no_table, is_scalar, IsScalar, scalar_of
 use Rattle.schema_offences.specs.Forms.{IsWordOf}
 use Rattle.schema_offences.specs.declared.types.TypeOf.{TypeOf}
 use Rattle.schema_offences.specs.declared.types.TypeOf.TheVariants.{Scalar, Named}
-use Rattle.schema_resolve.specs.Placing.{name_at, IsPlan, HasNames}
+use Rattle.schema_resolve.specs.Placing.{IsPlan, HasNames}
 use Rattle.schema_resolve.specs.Joining.{kind_in, IsInPlan}
 use Rattle.schema_resolve.specs.declared.plan.Plan.{Plan}
 use Rattle.schema_resolve.proofs.FullNames.{AreNames, scope_names, names_more, text_some, message_formed}
-use Rattle.schema_resolve.proofs.CleanFiles.{in_list, at_in}
-use Rattle.schema_resolve.proofs.MethodTables.{IsAt, placed_at, name_read, message_named, message_standing, place_within}
+use Rattle.schema_resolve.proofs.CleanFiles.{at_in}
+use Rattle.schema_resolve.proofs.MethodTables.{placed_at, name_read, message_named, message_standing, place_within}
 
 -- ---- scalars
 

@@ -1,14 +1,14 @@
 -- The messages of a table.
-use Rattle.std.proofs.Common.{◌≡◌, ◌≢◌, ℕ, zero, suc, ◌+◌, ◌<◌, ◌≤◌, ◌⊎◌, inl, inr, Bool, true, false, List, [], ◌∷◌, ◌++◌, length, get_or, map, take, Option, Some, None, refl, sym, ap, ◌∙◌, subst, arith}
-use Rattle.std.specs.Prelude.{Contains, All, slice_get, unwrap_or, codes, pos}
+use Rattle.std.proofs.Common.{◌≡◌, ℕ, zero, suc, ◌+◌, ◌<◌, ◌≤◌, inl, inr, true, List, [], ◌∷◌, ◌++◌, length, get_or, map, take, Option, Some, None, refl, sym, ap, ◌∙◌, subst, arith}
+use Rattle.std.specs.Prelude.{Contains, slice_get, unwrap_or, codes, pos}
 use Rattle.std.specs.Option.{option_map}
 use Rattle.std.proofs.lemmas.Bool.{cases_lt}
 use Rattle.std.proofs.lemmas.Option.{slice_get_within, get_or_from_slice_get, slice_get-get_or, same_Some, slice_get-map, none-some}
-use Rattle.std.proofs.lemmas.List.{get_or-map, get_or_default, length-map, length-append, take_more, take_all}
+use Rattle.std.proofs.lemmas.List.{length-map, length-append, take_more}
 use Rattle.std.proofs.lemmas.List.Elements.{All-contains}
 use Rattle.mrpc_table.specs.Names.{is_short, IsName, IsFullName}
 use Rattle.mrpc_table.specs.Text.{kind_text, label_text}
-use Rattle.mrpc_table.specs.Valid.{Ascends, AreDistinct, IsFieldNumber, IsKnown, GoesWith, IsField, Joins, OneofsFollow, IsMessage}
+use Rattle.mrpc_table.specs.Valid.{Ascends, AreDistinct, IsFieldNumber, IsKnown, GoesWith, Joins, OneofsFollow}
 use Rattle.mrpc_table.specs.declared.limits.TheConstants.{MAX_FIELDS}
 use Rattle.mrpc_table.specs.declared.table.Kind.{Kind}
 use Rattle.mrpc_table.specs.declared.table.Label.{Label}
@@ -25,13 +25,13 @@ use Rattle.proto_file.specs.declared.file.File.{File}
 use Rattle.schema_names.specs.Scopes
 use Rattle.schema_names.specs.Scopes.{a_message, no_type, text_of, IsScope, of_message}
 use Rattle.schema_offences.specs.Sources.{alone}
-use Rattle.schema_offences.specs.Those.{AreThose, AreThoseInOrder, none, next}
-use Rattle.schema_offences.specs.Types.{value_of, single_label, label_in, HasForm, single, a_map}
+use Rattle.schema_offences.specs.Those.{AreThoseInOrder, none, next}
+use Rattle.schema_offences.specs.Types.{single_label, label_in, HasForm, single, a_map}
 use Rattle.schema_offences.specs.Members.{long_message, of_name, of_oneof, name_long, name_too_many}
 use Rattle.schema_offences.specs.Offences
 use Rattle.schema_offences.specs.Offences.{offends}
 use Rattle.schema_offences.specs.declared.reason.ResolveReason.TheVariants.{Limit}
-use Rattle.schema_resolve.specs.Tables.{IsFieldOf, IsOneofOf, IsMessageOf}
+use Rattle.schema_resolve.specs.Tables.{IsFieldOf, IsMessageOf}
 use Rattle.schema_resolve.specs.Resolving.{IsClean}
 use Rattle.schema_resolve.specs.Placing.{name_at, IsPlan, HasNames}
 use Rattle.schema_resolve.specs.Judged.{IsJudged, AreJudged}
@@ -40,8 +40,8 @@ use Rattle.schema_resolve.specs.declared.plan.Plan.{Plan}
 use Rattle.schema_resolve.specs.declared.field_table.Judged.{Judged}
 use Rattle.schema_resolve.specs.declared.oneof_table.Oneofs.{Oneofs}
 use Rattle.schema_resolve.proofs.FullNames.{scope_names, message_formed}
-use Rattle.schema_resolve.proofs.Orders.{AreApart, apart_distinct}
-use Rattle.schema_resolve.proofs.CleanFiles.{scope_at, in_list, at_in, some_at, one_declaration, HereMessage, here_message, message_text}
+use Rattle.schema_resolve.proofs.Orders.{apart_distinct}
+use Rattle.schema_resolve.proofs.CleanFiles.{scope_at, in_list, at_in, some_at, one_declaration, here_message, message_text}
 use Rattle.schema_resolve.proofs.EnumTables.{short_from, true_from, type_valid, scope_short, short_more}
 use Rattle.schema_resolve.proofs.MethodTables.{in_order_push}
 use Rattle.schema_resolve.proofs.FieldTables.{field_names}

@@ -1,45 +1,38 @@
 -- The methods of a table.
-use Rattle.std.proofs.Common.{◌≡◌, ◌≢◌, ℕ, zero, suc, ◌+◌, ◌-◌, ◌<◌, ◌≤◌, ◌⊎◌, inl, inr, Bool, true, false, List, [], ◌∷◌, ◌++◌, length, get_or, map, take, Option, Some, None, refl, sym, ap, ◌∙◌, subst, arith}
-use Rattle.std.specs.Prelude.{Contains, All, slice_get, nat_le, unwrap_or}
+use Rattle.std.proofs.Common.{◌≡◌, ℕ, zero, suc, ◌+◌, ◌<◌, true, List, [], ◌∷◌, ◌++◌, length, map, take, Option, Some, refl, sym, ap, ◌∙◌, subst, arith}
+use Rattle.std.specs.Prelude.{Contains, slice_get, unwrap_or}
 use Rattle.std.specs.Option.{option_map}
-use Rattle.std.specs.List.{list_all, flat_map}
-use Rattle.std.proofs.lemmas.Bool.{cases_lt, cases_Bool}
-use Rattle.std.proofs.lemmas.Option.{slice_get_within, get_or_from_slice_get, slice_get-get_or, same_Some, slice_get-map}
-use Rattle.std.proofs.lemmas.List.{length-map, length-append, append_assoc, append-nil, map-append, take_more, take_all}
-use Rattle.std.proofs.lemmas.List.Elements.{All-contains, All-cons, All-nil, Contains-append_left, Contains-append_right}
+use Rattle.std.specs.List.{flat_map}
+use Rattle.std.proofs.lemmas.Option.{slice_get_within, get_or_from_slice_get, same_Some, slice_get-map}
+use Rattle.std.proofs.lemmas.List.{length-map, length-append, append_assoc, append-nil, map-append, take_more}
+use Rattle.std.proofs.lemmas.List.Elements.{All-contains, Contains-append_left, Contains-append_right}
 use Rattle.mrpc_table.specs.Names.{is_short, IsName, IsFullName}
-use Rattle.mrpc_table.specs.Text.{message_name, enum_name}
-use Rattle.mrpc_table.specs.Valid.{IsMethod}
-use Rattle.mrpc_table.specs.declared.limits.TheConstants.{MAX_NAME, MAX_FULL_NAME, MAX_METHODS}
+use Rattle.mrpc_table.specs.Text.{message_name}
 use Rattle.mrpc_table.specs.declared.table.Message.{Message}
-use Rattle.mrpc_table.specs.declared.table.Choices.{Choices}
 use Rattle.mrpc_table.specs.declared.table.Method.{Method}
 use Rattle.mrpc_table.specs.declared.table.Table.{Table}
 use Rattle.proto_file.specs.Order.{IsFormed, IsFormedRpc, IsFormedService}
 use Rattle.proto_file.specs.declared.file.Span.{Span}
-use Rattle.proto_file.specs.declared.file.Word.{Word}
 use Rattle.proto_file.specs.declared.file.RpcDecl.{RpcDecl}
 use Rattle.proto_file.specs.declared.file.ServiceDecl.{ServiceDecl}
 use Rattle.proto_file.specs.declared.file.File.{File}
 use Rattle.schema_names.specs.Scopes.{Names, a_message, text_of, package_of, IsScope, of_file, of_message}
 use Rattle.schema_names.specs.Numbers
 use Rattle.schema_names.specs.Numbers.{StandsAt, IsFirstAt}
-use Rattle.schema_names.specs.declared.named.Named.{Named}
 use Rattle.schema_names.specs.declared.named.Named.TheVariants as named
-use Rattle.schema_offences.specs.Sources.{alone, rpcs_of, service_rpcs}
+use Rattle.schema_offences.specs.Sources.{rpcs_of, service_rpcs}
 use Rattle.schema_offences.specs.Those.{AreThoseInOrder, none, next}
-use Rattle.schema_offences.specs.Members.{IsNoMessage, no_input, no_output, long_method, too_many_methods}
+use Rattle.schema_offences.specs.Members.{IsNoMessage, no_input, no_output, long_method}
 use Rattle.schema_offences.specs.Offences
 use Rattle.schema_offences.specs.Offences.{offends}
 use Rattle.schema_offences.specs.declared.reason.ResolveReason.TheVariants.{UnknownName, Limit}
-use Rattle.schema_resolve.specs.Tables.{IsMethodOf}
 use Rattle.schema_resolve.specs.Resolving.{IsClean}
-use Rattle.schema_resolve.specs.Placing.{behind, name_at, IsPlan, IsOrder, ArePlaces, IsPlaced, HasNames, names_in_order}
+use Rattle.schema_resolve.specs.Placing.{behind, name_at, IsPlan, IsPlaced, HasNames, names_in_order}
 use Rattle.schema_resolve.specs.InOrder.{IsPlaceNamed, IsMethodIn, AreMethods}
 use Rattle.schema_resolve.specs.declared.placed.Placed.{Placed}
 use Rattle.schema_resolve.specs.declared.plan.Plan.{Plan}
-use Rattle.schema_resolve.proofs.FullNames.{AreNames, package_names, names_more, behind_text}
-use Rattle.schema_resolve.proofs.CleanFiles.{in_list, at_in, some_at, scope_parts}
+use Rattle.schema_resolve.proofs.FullNames.{package_names, names_more, behind_text}
+use Rattle.schema_resolve.proofs.CleanFiles.{at_in}
 use Rattle.schema_resolve.proofs.EnumTables.{short_from, full_valid, scope_short, short_more, true_from}
 
 -- ---- places of names

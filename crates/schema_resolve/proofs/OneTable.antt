@@ -1,6 +1,6 @@
 -- A file has one table at most: two of them have one text.
-use Rattle.std.proofs.Common.{◌≡◌, ◌≢◌, ℕ, zero, suc, ◌+◌, ◌<◌, ◌≤◌, ◌⊎◌, inl, inr, Bool, true, false, List, [], ◌∷◌, ◌++◌, length, get_or, map, Option, Some, None, refl, sym, ap, ◌∙◌, subst, arith}
-use Rattle.std.specs.Prelude.{Contains, All, slice_get, codes, ℤ, pos}
+use Rattle.std.proofs.Common.{◌≡◌, ℕ, zero, suc, ◌+◌, ◌<◌, ◌⊎◌, inl, inr, Bool, List, [], ◌∷◌, ◌++◌, length, get_or, map, refl, sym, ap, ◌∙◌, subst, arith}
+use Rattle.std.specs.Prelude.{Contains, codes, ℤ, pos}
 use Rattle.std.specs.List.{flat_map, enumerate_from}
 use Rattle.std.specs.Fmt.{decimal}
 use Rattle.std.specs.Ordering.{int_cmp}
@@ -11,7 +11,6 @@ use Rattle.std.proofs.lemmas.List.Elements.{All-contains}
 use Rattle.mrpc_table.specs.Text.{line, value_line, enum_lines, field_line, message_lines, method_line, table_text, message_name, label_text, kind_text}
 use Rattle.mrpc_table.specs.Valid.{Ascends, IsBelow, IsValueBelow, IsEnum, IsMessage}
 use Rattle.mrpc_table.specs.Words.{is_numeric}
-use Rattle.mrpc_table.specs.declared.table.Kind.{Kind}
 use Rattle.mrpc_table.specs.declared.table.Label.{Label}
 use Rattle.mrpc_table.specs.declared.table.Label.TheVariants as labels
 use Rattle.mrpc_table.specs.declared.table.Field.{Field}
@@ -23,7 +22,6 @@ use Rattle.proto_file.specs.Order
 use Rattle.proto_file.specs.Order.{IsOrdered, message_decl, enum_decl, its_name}
 use Rattle.proto_file.specs.declared.file.Span.{Span}
 use Rattle.proto_file.specs.declared.file.Word.{Word}
-use Rattle.proto_file.specs.declared.file.FieldType.{FieldType}
 use Rattle.proto_file.specs.declared.file.FieldType.TheVariants.{Named, Map}
 use Rattle.proto_file.specs.declared.file.FieldDecl.{FieldDecl}
 use Rattle.proto_file.specs.declared.file.MessageDecl.{MessageDecl}
@@ -31,14 +29,14 @@ use Rattle.proto_file.specs.declared.file.EnumDecl.{EnumDecl}
 use Rattle.proto_file.specs.declared.file.RpcDecl.{RpcDecl}
 use Rattle.proto_file.specs.declared.file.ServiceDecl.{ServiceDecl}
 use Rattle.proto_file.specs.declared.file.File.{File}
-use Rattle.schema_names.specs.Scopes.{Sort, a_message, an_enum, text_of, package_of, IsScope, Names}
+use Rattle.schema_names.specs.Scopes.{Sort, a_message, an_enum, text_of, package_of, Names}
 use Rattle.schema_names.specs.Numbers
 use Rattle.schema_names.specs.Numbers.{StandsAt, StartApart}
 use Rattle.schema_names.specs.declared.named.Named as names
 use Rattle.schema_names.specs.declared.named.Named.TheVariants as named
 use Rattle.schema_offences.specs.Sources.{Source, alone, messages_of, enums_of, methods_of, rpcs_of}
-use Rattle.schema_offences.specs.Those.{AreThose, AreThoseInOrder, none, next}
-use Rattle.schema_offences.specs.Types.{value_of, no_table, IsScalar, single_label, label_in, HasType, scalar, message, enum, HasForm, single, a_map}
+use Rattle.schema_offences.specs.Those.{AreThoseInOrder, none, next}
+use Rattle.schema_offences.specs.Types.{no_table, single_label, label_in, HasType, scalar, message, enum, HasForm, single, a_map}
 use Rattle.schema_resolve.specs.Tables.{IsFieldOf, IsMessageOf, IsEnumOf, IsMethodOf, IsTableOf}
 use Rattle.schema_resolve.proofs.Orders.{ascends_past, ascends_rest, below_trans, below_strict}
 use Rattle.schema_resolve.proofs.CleanFiles.{one_scope}

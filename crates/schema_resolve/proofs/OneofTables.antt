@@ -1,11 +1,11 @@
 -- The oneofs of a message of a table.
-use Rattle.std.proofs.Common.{◌≡◌, ◌≢◌, ℕ, zero, suc, ◌+◌, ◌<◌, ◌≤◌, ◌⊎◌, inl, inr, List, [], ◌∷◌, ◌++◌, length, get_or, set, Option, Some, None, refl, sym, ap, ◌∙◌, subst, arith, length-set}
+use Rattle.std.proofs.Common.{◌≡◌, ◌≢◌, ℕ, zero, suc, ◌+◌, ◌<◌, inl, inr, List, [], ◌∷◌, ◌++◌, length, set, Option, Some, None, refl, sym, ap, ◌∙◌, subst, arith, length-set}
 use Rattle.std.specs.Prelude.{slice_get}
 use Rattle.std.proofs.lemmas.Bool.{cases_lt, cases_eq}
 use Rattle.std.proofs.lemmas.Option.{slice_get_within, same_Some}
 use Rattle.std.proofs.lemmas.List.{length-append}
 use Rattle.proto_file.specs.declared.file.Word.{Word}
-use Rattle.schema_resolve.specs.Joining.{AreUnplaced, IsPlacedOneof, KeepsOneofs, HasPlace, next_one}
+use Rattle.schema_resolve.specs.Joining.{AreUnplaced, IsPlacedOneof, KeepsOneofs}
 use Rattle.schema_resolve.specs.declared.oneof_table.Oneofs.{Oneofs}
 use Rattle.schema_resolve.proofs.CleanFiles.{push_old, push_new}
 

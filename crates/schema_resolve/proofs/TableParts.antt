@@ -1,15 +1,14 @@
 -- A table that was made of a file says what the file says.
-use Rattle.std.proofs.Common.{◌≡◌, ◌≢◌, ℕ, zero, suc, ◌+◌, ◌-◌, ◌<◌, ◌≤◌, ◌⊎◌, inl, inr, List, [], ◌∷◌, ◌++◌, length, get_or, map, take, Option, Some, None, refl, sym, ap, ◌∙◌, subst, arith, zero-add}
-use Rattle.std.specs.Prelude.{Contains, All, slice_get}
-use Rattle.std.specs.Option.{option_map}
+use Rattle.std.proofs.Common.{◌≡◌, ℕ, zero, suc, ◌+◌, ◌<◌, ◌≤◌, ◌⊎◌, inl, inr, List, [], ◌∷◌, ◌++◌, length, get_or, map, take, Some, refl, sym, ap, ◌∙◌, subst, arith, zero-add}
+use Rattle.std.specs.Prelude.{Contains, slice_get}
 use Rattle.std.specs.List.{flat_map}
-use Rattle.std.proofs.lemmas.Bool.{cases_lt, cases_order}
-use Rattle.std.proofs.lemmas.Option.{slice_get_within, get_or_from_slice_get, slice_get-get_or, same_Some, slice_get-map, none-some}
-use Rattle.std.proofs.lemmas.List.{get_or-map, get_or_default, length-map, length-append, append-nil, append_assoc}
+use Rattle.std.proofs.lemmas.Bool.{cases_lt}
+use Rattle.std.proofs.lemmas.Option.{slice_get_within, get_or_from_slice_get, slice_get-get_or, same_Some, none-some}
+use Rattle.std.proofs.lemmas.List.{get_or-map, length-map, length-append, append-nil}
 use Rattle.std.proofs.lemmas.List.Elements.{Contains-append_cases, All-contains}
 use Rattle.mrpc_table.specs.Text.{table_text}
-use Rattle.mrpc_table.specs.Valid.{Ascends, AreDistinct, IsBelow, IsMessage, IsEnum, IsMethod, IsValid}
-use Rattle.mrpc_table.specs.declared.limits.TheConstants.{MAX_MESSAGES, MAX_ENUMS, MAX_METHODS, MAX_TEXT}
+use Rattle.mrpc_table.specs.Valid.{Ascends, AreDistinct, IsBelow, IsValid}
+use Rattle.mrpc_table.specs.declared.limits.TheConstants.{MAX_METHODS, MAX_TEXT}
 use Rattle.mrpc_table.specs.declared.table.Message.{Message}
 use Rattle.mrpc_table.specs.declared.table.Choices.{Choices}
 use Rattle.mrpc_table.specs.declared.table.Method.{Method}
@@ -23,7 +22,7 @@ use Rattle.proto_file.specs.declared.file.ServiceDecl.{ServiceDecl}
 use Rattle.proto_file.specs.declared.file.File.{File}
 use Rattle.schema_names.specs.Scopes
 use Rattle.schema_names.specs.Scopes.{a_message, an_enum, no_type, text_of, package_of}
-use Rattle.schema_offences.specs.Sources.{Source, alone, source_messages, source_enums, messages_of, enums_of, methods_of, rpcs_of, service_rpcs}
+use Rattle.schema_offences.specs.Sources.{Source, alone, messages_of, enums_of, methods_of, rpcs_of, service_rpcs}
 use Rattle.schema_offences.specs.Those.{AreThose, AreThoseInOrder, none, next}
 use Rattle.schema_offences.specs.Members.{too_many_methods}
 use Rattle.schema_offences.specs.Offences
@@ -31,13 +30,13 @@ use Rattle.schema_offences.specs.Offences.{offends}
 use Rattle.schema_offences.specs.declared.reason.ResolveReason.TheVariants.{Limit}
 use Rattle.schema_resolve.specs.Tables.{IsMessageOf, IsEnumOf, IsMethodOf, IsTableOf}
 use Rattle.schema_resolve.specs.Resolving.{IsClean}
-use Rattle.schema_resolve.specs.Placing.{name_at, IsOrder, IsPlan, HasNames, names_in_order}
-use Rattle.schema_resolve.specs.InOrder.{IsEnumAt, IsMethodIn, AreMethods}
+use Rattle.schema_resolve.specs.Placing.{name_at, IsPlan, HasNames}
+use Rattle.schema_resolve.specs.InOrder.{IsEnumAt, IsMethodIn}
 use Rattle.schema_resolve.specs.Joining.{IsMessageAt}
 use Rattle.schema_resolve.specs.Making.{IsMadeTable}
 use Rattle.schema_resolve.specs.declared.plan.Plan.{Plan}
 use Rattle.schema_resolve.proofs.FullNames.{AreNames, package_names, names_more, same_text}
-use Rattle.schema_resolve.proofs.Orders.{AreApart, apart_distinct, distinct_apart, ascends_apart, below_trans, below_strict}
+use Rattle.schema_resolve.proofs.Orders.{apart_distinct, ascends_apart, below_trans, below_strict}
 use Rattle.schema_resolve.proofs.CleanFiles.{in_list, at_in, some_at, one_declaration, here_message, here_enum, message_text, enum_text, few_messages, few_enums}
 use Rattle.schema_resolve.proofs.EnumTables.{contains_map, map_contains}
 use Rattle.schema_resolve.proofs.FieldTables.{field_names}

@@ -1,11 +1,10 @@
 -- The text of a table is made of lines of different declarations of its file.
-use Rattle.std.proofs.Common.{◌≡◌, ◌≢◌, ℕ, zero, suc, ◌+◌, ◌<◌, ◌≤◌, ◌⊎◌, inl, inr, Bool, true, false, cond, List, [], ◌∷◌, ◌++◌, length, get_or, map, take, Option, Some, None, refl, sym, ap, ◌∙◌, subst, arith, zero-add, add-one}
-use Rattle.std.specs.Prelude.{Contains, All, slice_get, codes, ℤ, pos, FitsSigned, ◌&&◌}
+use Rattle.std.proofs.Common.{◌≡◌, ℕ, suc, ◌+◌, ◌<◌, ◌≤◌, Bool, true, false, cond, List, [], ◌∷◌, ◌++◌, length, get_or, map, take, Option, Some, None, refl, sym, ap, ◌∙◌, subst, arith, zero-add}
+use Rattle.std.specs.Prelude.{Contains, All, slice_get, codes, ℤ, FitsSigned, ◌&&◌}
 use Rattle.std.specs.Int.{w32}
 use Rattle.std.specs.List.{flat_map, enumerate_from, AllByRecursion}
 use Rattle.std.specs.Fmt.{decimal}
-use Rattle.std.proofs.lemmas.Option.{same_Some, none-some, slice_get_within, slice_get-get_or}
-use Rattle.std.proofs.lemmas.List.{append_assoc}
+use Rattle.std.proofs.lemmas.Option.{same_Some, slice_get-get_or}
 use Rattle.std.proofs.lemmas.List.Elements.{All-contains}
 use Rattle.mrpc_table.specs.Text.{line, value_line, enum_lines, field_line, message_lines, method_line, table_text, message_name, label_text, kind_text}
 use Rattle.mrpc_table.specs.Valid.{AreDistinct, IsField, IsFieldNumber}
@@ -37,7 +36,7 @@ use Rattle.schema_offences.specs.Lines
 use Rattle.schema_offences.specs.Lines.{HasLine}
 use Rattle.schema_resolve.specs.Tables.{IsFieldOf, IsValueOf}
 use Rattle.schema_resolve.specs.Resolving.{IsClean}
-use Rattle.schema_resolve.specs.Placing.{IsPlan, IsOrder, HasNames}
+use Rattle.schema_resolve.specs.Placing.{IsOrder, HasNames}
 use Rattle.schema_resolve.specs.InOrder.{IsEnumAt, IsMethodIn}
 use Rattle.schema_resolve.specs.Joining.{IsMessageAt}
 use Rattle.schema_resolve.specs.Making.{IsMadeTable}
@@ -45,7 +44,7 @@ use Rattle.schema_resolve.specs.declared.plan.Plan.{Plan}
 use Rattle.schema_resolve.proofs.CleanFiles.{in_list, at_in, some_at}
 use Rattle.schema_resolve.proofs.KindWords.{scalar_text}
 use Rattle.schema_resolve.proofs.TextLines.{Entry, IsEntry, Differ, AllDiffer, text_in, entries_short, all_append, differ_append, text_append}
-use Rattle.schema_resolve.proofs.Orders.{order_all, AreApart, apart_distinct}
+use Rattle.schema_resolve.proofs.Orders.{order_all, apart_distinct}
 use Rattle.schema_resolve.proofs.TableParts.{has_names, RpcHere, rpc_here, same_rpc}
 
 -- ---- parts of a text

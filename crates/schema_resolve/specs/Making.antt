@@ -1,10 +1,9 @@
 -- A table as it is made of a file: by the places of names.
-use Rattle.std.specs.Prelude.{ℕ, List}
 use Rattle.mrpc_table.specs.declared.table.Table.{Table}
 use Rattle.proto_file.specs.declared.file.File.{File}
 use Rattle.schema_offences.specs.Sources.{rpcs_of}
 use Rattle.schema_offences.specs.Those.{AreThoseInOrder}
-use Rattle.schema_resolve.specs.Placing.{IsPlan, HasNames}
+use Rattle.schema_resolve.specs.Placing.{IsPlan}
 use Rattle.schema_resolve.specs.InOrder.{IsEnumAt, AreMethods}
 use Rattle.schema_resolve.specs.Joining.{IsMessageAt}
 use Rattle.schema_resolve.specs.declared.plan.Plan.{Plan}

@@ -1,4 +1,4 @@
-use Rattle.std.proofs.Common.{◌≡◌, ◌∙◌, ◌<◌, [], sym, ap, subst, ℕ, List, length, get_or, arith, All, map}
+use Rattle.std.proofs.Common.{◌≡◌, ◌∙◌, ◌<◌, [], sym, ap, subst, ℕ, List, length, arith, All, map}
 use Rattle.std.specs.Prelude.{FitsSigned}
 use Rattle.std.specs.Int.{w32}
 use Rattle.proto_file.specs.declared.file.ValueDecl.{ValueDecl}
@@ -8,7 +8,6 @@ use Rattle.std.specs.Prelude.{ℤ}
 use Rattle.std.specs.Borrow.{Bor}
 use Rattle.std.proofs.lemmas.List.{get_or_default}
 use Rattle.schema_resolve.specs.InOrder.{AreValues, value_pair}
-use Rattle.schema_resolve.specs.Placing.{name_at}
 use Rattle.schema_resolve.proofs.CleanFiles.{item_at}
 use Rattle.schema_resolve.proofs.EnumTables.{values_fit, values_distinct, enum_at}
 use Rattle.schema_resolve.proofs.enum_table.enum_in.Goals as goal

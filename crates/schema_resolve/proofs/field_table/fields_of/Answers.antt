@@ -1,6 +1,6 @@
-use Rattle.std.proofs.Common.{◌≡◌, ◌<◌, length, ap, arith, List, ℕ, refl}
+use Rattle.std.proofs.Common.{◌<◌, length, ap, arith}
 use Rattle.schema_resolve.proofs.CleanFiles.{item_at, in_list}
-use Rattle.schema_resolve.proofs.FieldTables.{judged_none, judged_more}
+use Rattle.schema_resolve.proofs.FieldTables.{judged_more}
 use Rattle.schema_resolve.proofs.field_table.fields_of.Goals as goal
 
 pub loop-i-preserved : goal.loop-i-preserved

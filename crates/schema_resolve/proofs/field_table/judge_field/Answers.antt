@@ -1,7 +1,5 @@
-use Rattle.std.proofs.Common.{◌≡◌, ◌<◌, length, List, ℕ, ◌++◌, ◌∷◌, []}
-use Rattle.std.specs.Prelude.{Some}
+use Rattle.std.proofs.Common.{◌<◌, length}
 use Rattle.std.proofs.lemmas.Option.{slice_get_within}
-use Rattle.schema_names.specs.Scopes.{IsScope}
 use Rattle.schema_resolve.proofs.CleanFiles.{scope_at}
 use Rattle.schema_resolve.proofs.FieldTables.{has_form, has_number}
 use Rattle.schema_resolve.proofs.field_table.judge_field.Goals as goal

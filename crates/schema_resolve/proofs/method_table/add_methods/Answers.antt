@@ -1,8 +1,5 @@
-use Rattle.std.proofs.Common.{◌≡◌, ◌∙◌, ◌<◌, sym, ap, subst, ℕ, List, length, arith, map, take, take_all, ◌++◌}
-use Rattle.proto_file.specs.declared.file.ServiceDecl.{ServiceDecl}
-use Rattle.proto_file.specs.declared.file.RpcDecl.{RpcDecl}
-use Rattle.schema_resolve.specs.InOrder.{AreMethods}
-use Rattle.schema_resolve.proofs.CleanFiles.{item_at, in_list}
+use Rattle.std.proofs.Common.{◌<◌, ap, length, arith}
+use Rattle.schema_resolve.proofs.CleanFiles.{item_at}
 use Rattle.schema_resolve.proofs.MethodTables.{more_methods}
 use Rattle.schema_resolve.proofs.method_table.add_methods.Goals as goal
 

@@ -1,4 +1,4 @@
-use Rattle.std.proofs.Common.{◌≡◌, ◌∙◌, ◌<◌, refl, sym, ap, subst, ℕ, List, length, arith, vec_len, rules}
+use Rattle.std.proofs.Common.{◌≡◌, ◌<◌, refl, length, arith, vec_len, rules}
 use Rattle.std.proofs.lemmas.Option.{slice_get_read}
 use Rattle.schema_resolve.proofs.MethodTables.{place_within, place_named, message_standing}
 use Rattle.schema_resolve.proofs.method_table.message_place.Goals as goal

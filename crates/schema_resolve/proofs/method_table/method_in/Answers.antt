@@ -1,5 +1,4 @@
-use Rattle.std.proofs.Common.{◌≡◌, ◌∙◌, sym, ap, subst, ℕ, List}
-use Rattle.std.proofs.lemmas.Result.{IfOk-weaker}
+use Rattle.std.proofs.Common.{◌∙◌}
 use Rattle.schema_resolve.proofs.MethodTables.{has_input, has_output, service_text, method_of}
 use Rattle.schema_resolve.proofs.method_table.method_in.Goals as goal
 

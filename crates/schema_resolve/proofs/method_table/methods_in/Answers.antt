@@ -1,12 +1,10 @@
-use Rattle.std.proofs.Common.{◌≡◌, ◌∙◌, ◌<◌, sym, ap, subst, ℕ, List, length, arith, take, ◌++◌}
+use Rattle.std.proofs.Common.{◌<◌, sym, ap, subst, length, arith, ◌++◌}
 use Rattle.proto_file.specs.Order.{IsOrdered}
 use Rattle.proto_file.specs.declared.file.File.{File}
-use Rattle.proto_file.specs.declared.file.ServiceDecl.{ServiceDecl}
-use Rattle.proto_file.specs.declared.file.RpcDecl.{RpcDecl}
 use Rattle.schema_offences.specs.Sources.{service_rpcs}
 use Rattle.schema_resolve.specs.Resolving.{IsClean}
 use Rattle.schema_resolve.specs.InOrder.{AreMethods}
-use Rattle.schema_resolve.proofs.CleanFiles.{item_at, in_list}
+use Rattle.schema_resolve.proofs.CleanFiles.{item_at}
 use Rattle.schema_resolve.proofs.MethodTables.{no_methods, next_service}
 use Rattle.schema_resolve.proofs.method_table.methods_in.Goals as goal
 

@@ -1,4 +1,3 @@
-use Rattle.std.proofs.Common.{ℕ}
 use Rattle.schema_resolve.proofs.OneofTables.{unplaced_none, unplaced_more}
 use Rattle.schema_resolve.proofs.oneof_table.unplaced.Goals as goal
 

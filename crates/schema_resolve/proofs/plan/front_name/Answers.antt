@@ -1,6 +1,5 @@
-use Rattle.std.proofs.Common.{ℕ, List}
 use Rattle.std.proofs.lemmas.Result.{IfOk-weaker}
-use Rattle.schema_resolve.proofs.FullNames.{no_package, a_package}
+use Rattle.schema_resolve.proofs.FullNames.{a_package}
 use Rattle.schema_resolve.proofs.plan.front_name.Goals as goal
 
 pub returns-in-Some : goal.returns-in-Some

@@ -1,5 +1,4 @@
-use Rattle.std.proofs.Common.{◌≡◌, ◌∙◌, ◌+◌, ◌<◌, length, sym, ap, subst, arith, ℕ, List, length-append}
-use Rattle.std.specs.Prelude.{Some, slice_get}
+use Rattle.std.proofs.Common.{◌∙◌, ◌+◌, ◌<◌, length, ap, arith, ℕ, List, length-append}
 use Rattle.schema_resolve.specs.Placing.{behind, front_of}
 use Rattle.schema_resolve.proofs.CleanFiles.{item_at, messages_more, parent_known}
 use Rattle.schema_resolve.proofs.plan.message_names.Goals as goal

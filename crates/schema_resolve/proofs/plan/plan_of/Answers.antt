@@ -1,4 +1,4 @@
-use Rattle.std.proofs.Common.{◌≡◌, ◌<◌, length, arith}
+use Rattle.std.proofs.Common.{arith}
 use Rattle.schema_resolve.proofs.CleanFiles.{few_messages, few_enums, messages_distinct, enums_distinct}
 use Rattle.schema_resolve.proofs.plan.plan_of.Goals as goal
 

@@ -1,4 +1,4 @@
-use Rattle.schema_resolve.proofs.Answering.{stands_behind, only_this}
+use Rattle.schema_resolve.proofs.Answering.{stands_behind}
 use Rattle.schema_resolve.proofs.resolved.resolved.Goals as goal
 
 pub new-requires : goal.new-requires

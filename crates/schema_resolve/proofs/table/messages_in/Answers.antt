@@ -1,4 +1,4 @@
-use Rattle.std.proofs.Common.{◌<◌, ◌≤◌, ap, ℕ, length, arith}
+use Rattle.std.proofs.Common.{arith}
 use Rattle.schema_resolve.specs.Joining.{IsMessageAt}
 use Rattle.schema_resolve.proofs.Making.{in_order_start, in_order_more, in_order_end, within_messages}
 use Rattle.schema_resolve.proofs.table.messages_in.Goals as goal

@@ -1,4 +1,4 @@
-use Rattle.std.proofs.Common.{◌≡◌, ℕ, List, take, arith}
+use Rattle.std.proofs.Common.{take, arith}
 use Rattle.schema_names.specs.Scopes.{package_of}
 use Rattle.std.proofs.lemmas.Option.{slice_get_within}
 use Rattle.schema_names.proofs.Deciding.{decides_package, none_package}

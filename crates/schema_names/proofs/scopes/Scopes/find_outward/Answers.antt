@@ -1,5 +1,4 @@
-use Rattle.std.proofs.Common.{◌≡◌, ◌≢◌, ℕ, List, [], ◌∷◌, sym, ◌∙◌, ap}
-use Rattle.mrpc_table.specs.Names.{parts_of}
+use Rattle.std.proofs.Common.{ℕ, List, ◌∷◌, ◌∙◌, ap}
 use Rattle.schema_names.proofs.Looking.{found_outward, nothing_first, empty_first, some_first}
 use Rattle.schema_names.proofs.scopes.Scopes.find_outward.Goals as goal
 

@@ -1,6 +1,3 @@
-use Rattle.std.proofs.Common.{sym, ◌∙◌, subst, ℕ, List, ap}
-use Rattle.schema_names.specs.Numbers.{IsNumber}
-use Rattle.schema_names.specs.Finding.{number_at}
 use Rattle.schema_names.proofs.Looking.{kept, number_known}
 use Rattle.schema_names.proofs.scopes.Scopes.number.Goals as goal
 

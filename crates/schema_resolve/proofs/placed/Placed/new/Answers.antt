@@ -1,4 +1,4 @@
-use Rattle.std.proofs.Common.{◌≡◌, sym, subst, ℕ, List}
+use Rattle.std.proofs.Common.{sym, subst}
 use Rattle.schema_resolve.specs.Placing.{AreAll}
 use Rattle.schema_resolve.proofs.Orders.{order_all}
 use Rattle.schema_resolve.proofs.placed.Placed.new.Goals as goal
