@@ -1,20 +1,15 @@
-use mrpc_table::Bytes;
 use proto_schema::read_proto;
 use schema_offences::ResolveReason;
 use schema_resolve::{ResolveFault, resolve};
-use std::alloc::Global;
 use std::test::Fail;
 use table_text::table_text;
 
-fn table_of(alloc: Global, text: &[u8]) -> Result<Bytes, Fail> {
-    let file = read_proto(alloc, text)?;
-    let table = resolve(alloc, &file)?;
-    Ok(table_text(alloc, &table)?)
-}
-
 #[test]
 fn a_message_has_its_table(rt: HostRuntime) -> Result<(), Fail> {
-    let text = table_of(rt.alloc(), b"syntax=\"proto3\";message M{M a=1;}")?;
+    let alloc = rt.alloc();
+    let file = read_proto(alloc, b"syntax=\"proto3\";message M{M a=1;}")?;
+    let table = resolve(alloc, &file)?;
+    let text = table_text(alloc, &table)?;
     let expected = b"message M\nfield 1 plain message:M a\n";
     assert_eq!(rt; text.as_slice(), expected.as_slice());
     Ok(())
