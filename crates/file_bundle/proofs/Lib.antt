@@ -1,0 +1,7 @@
+mod Cuts
+mod Decimals
+mod Fronts
+mod Headers
+mod PathLemmas
+mod Reading
+mod Whole
