@@ -1,5 +1,5 @@
 -- The files at the front of an input, and what stands behind them.
-use Rattle.std.proofs.Common.{◌≡◌, ◌≢◌, ℕ, zero, suc, ◌+◌, ◌-◌, ◌<◌, ◌≤◌, List, [], ◌∷◌, ◌++◌, length, map, take, drop, ◌⊎◌, inl, inr, refl, ap, sym, subst, ◌∙◌, arith, append_assoc, length-append}
+use Rattle.std.proofs.Common.{◌≡◌, ℕ, zero, suc, ◌+◌, ◌<◌, ◌≤◌, List, [], ◌∷◌, ◌++◌, length, take, drop, ◌⊎◌, inl, inr, refl, ap, sym, subst, ◌∙◌, arith, append_assoc, length-append}
 use Rattle.std.specs.Prelude.{All}
 use Rattle.std.specs.List.{flat_map, AllByRecursion}
 use Rattle.std.proofs.lemmas.Bool.{cases_lt}
@@ -8,10 +8,10 @@ use Rattle.std.proofs.lemmas.List.{append-nil, append_cancel_left, length-take-l
 use Rattle.std.proofs.lemmas.List.Concat.{flat_map-cons}
 use Rattle.std.proofs.lemmas.List.Elements.{recursion_from_All, All-from_recursion}
 use Rattle.file_bundle.specs.Bundle.{File, paths_of, first_line, header_line, file_text, bundle_text, IsWord, IsBundle, Spells}
-use Rattle.file_bundle.specs.Faults.{HasNoHeader, HasTooFew, EndsWrongly, no_file, too_many, no_header, too_few, IsBundleFault}
+use Rattle.file_bundle.specs.Faults.{EndsWrongly, no_file, too_many, no_header, too_few, IsBundleFault}
 use Rattle.file_bundle.specs.Parts.{HasFile, HasNoFile}
 use Rattle.file_bundle.proofs.Cuts.{head_is}
-use Rattle.file_bundle.proofs.Headers.{Header, header_once, header_or_none}
+use Rattle.file_bundle.proofs.Headers.{header_once, header_or_none}
 
 abbrev pub AreWords : List File → Type 0
 AreWords files = AllByRecursion (λ f. IsWord f.0) files
@@ -189,13 +189,13 @@ go_on zero input files (c ∷ cs) n e w = break_at input files (c ∷ cs) e w (t
 go_on (suc left) input files (c ∷ cs) n e w = elim (header_or_none (c ∷ cs)) [
   | inr none ↦ break_at input files (c ∷ cs) e w (no_header (omega (arith, n)) (λ d. cc) none)
   | inl h ↦ elim (cases_lt (length h.behind) h.size) [
-      | inl fewer ↦ break_at input files (c ∷ cs) e w (too_few (omega (arith, n)) (record { path = h.path; size = h.size; behind = h.behind; word = h.word; text = h.text; fewer = fewer }))
-      | inr enough ↦
-          let f : File = (h.path, take h.size h.behind) in
-          let here = file_from (c ∷ cs) h.path h.size h.behind h.word h.text enough in
-          go_on left input (files ++ f ∷ []) (drop h.size h.behind) (omega (arith, n, length-append files (f ∷ [])))
-          (pushed input files f (c ∷ cs) (drop h.size h.behind) e here.text) (words_push files f w h.word)
-    ]
+    | inl fewer ↦ break_at input files (c ∷ cs) e w (too_few (omega (arith, n)) (record { path = h.path; size = h.size; behind = h.behind; word = h.word; text = h.text; fewer = fewer }))
+    | inr enough ↦
+        let f : File = (h.path, take h.size h.behind) in
+        let here = file_from (c ∷ cs) h.path h.size h.behind h.word h.text enough in
+        go_on left input (files ++ f ∷ []) (drop h.size h.behind) (omega (arith, n, length-append files (f ∷ [])))
+        (pushed input files f (c ∷ cs) (drop h.size h.behind) e here.text) (words_push files f w h.word)
+  ]
 ]
 
 pub spelled_or_broken : (input : List ℕ) → IsBundle input → SpelledOrBroken input

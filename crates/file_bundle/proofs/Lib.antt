@@ -4,4 +4,5 @@ mod Fronts
 mod Headers
 mod PathLemmas
 mod Reading
+mod Rows
 mod Whole

@@ -1,11 +1,11 @@
 -- Paths that are right, and the first that is refused.
-use Rattle.std.proofs.Common.{◌≡◌, ◌≢◌, ℕ, zero, suc, ◌+◌, ◌-◌, ◌<◌, ◌≤◌, ◌||◌, Bool, true, false, List, [], ◌∷◌, ◌++◌, length, get_or, take, drop, map, ◌⊎◌, inl, inr, refl, ap, sym, subst, ◌∙◌, arith, append_assoc, length-append}
-use Rattle.std.specs.Prelude.{All, AllPairs, Contains, IsTrue, nat_le, ◌↔◌, ◌&&◌}
+use Rattle.std.proofs.Common.{◌≡◌, ◌≢◌, ℕ, zero, suc, ◌+◌, ◌-◌, ◌<◌, ◌||◌, Bool, true, false, List, [], ◌∷◌, ◌++◌, length, get_or, take, drop, ◌⊎◌, inl, inr, refl, ap, sym, subst, ◌∙◌, arith, append_assoc, length-append}
+use Rattle.std.specs.Prelude.{All, AllPairs, Contains, IsTrue, ◌↔◌}
 use Rattle.std.specs.List.{list_all, list_any}
 use Rattle.std.specs.Str.{bytes_eq}
-use Rattle.std.proofs.lemmas.Bool.{cases_lt, eq-eqb}
+use Rattle.std.proofs.lemmas.Bool.{cases_lt}
 use Rattle.std.proofs.lemmas.List.{append-nil, map-append, length-map, length-take-le, take-append-drop, get_or_default, get_or-append_right, get_or_append_left, take_more}
-use Rattle.std.proofs.lemmas.List.Elements.{All-push, All-append, All-nil}
+use Rattle.std.proofs.lemmas.List.Elements.{All-push, All-nil}
 use Rattle.std.proofs.lemmas.List.Quantifiers.{all_pairs_push}
 use Rattle.std.proofs.lemmas.Slice.Eq.{bytes_eq-Decides}
 use Rattle.file_bundle.specs.Bundle.{File, paths_of}
@@ -23,7 +23,7 @@ right_push files f r is new =
     let paths : paths_of (files ++ f ∷ []) ≡ paths_of files ++ f.0 ∷ [] = map-append (λ (g : File). g.0) files (f ∷ []) in record {
       each = subst (All IsPath) (sym paths) (All-push IsPath (paths_of files) f.0 r.each is);
       distinct = subst (AllPairs (λ (path later : List ℕ). later ≢ path)) (sym paths)
-      (all_pairs_push (λ (path later : List ℕ). later ≢ path) (paths_of files) f.0 r.distinct (λ k d within same. new (k, within, get_or_default (paths_of files) k f.0 d within ∙ sym same)));
+          (all_pairs_push (λ (path later : List ℕ). later ≢ path) (paths_of files) f.0 r.distinct (λ k d within same. new (k, within, get_or_default (paths_of files) k f.0 d within ∙ sym same)));
     }
 
 -- ---- a path that is refused isn't right
@@ -69,18 +69,18 @@ which_first (w ∷ ws) (z ∷ zs) x y ms ns e =
     elim (which_first ws zs x y ms ns h.1) [
       | inl same ↦ inl (omega (arith, same))
       | inr one ↦ elim one [
-          | inl i ↦ inr (inl (record { more = i.more; is = λ j. sym h.0 j ∷ i.is j }))
-          | inr i ↦ inr (inr (record { more = i.more; is = λ j. h.0 j ∷ i.is j }))
-        ]
+        | inl i ↦ inr (inl (record { more = i.more; is = λ j. sym h.0 j ∷ i.is j }))
+        | inr i ↦ inr (inr (record { more = i.more; is = λ j. h.0 j ∷ i.is j }))
+      ]
     ]
 
 pub refused_once : (files : List File) (k j : ℕ) → IsFirstRefused files k → IsFirstRefused files j → k ≡ j
 refused_once files k j a b = elim (which_first a.before b.before a.file b.file a.later b.later (sym a.order ∙ b.order)) [
   | inl same ↦ omega (arith, a.number, b.number, same)
   | inr one ↦ elim one [
-      | inl i ↦ absurd (not_refused a.before a.file i.more (subst HaveRightPaths i.is b.right) a.refused)
-      | inr i ↦ absurd (not_refused b.before b.file i.more (subst HaveRightPaths i.is a.right) b.refused)
-    ]
+    | inl i ↦ absurd (not_refused a.before a.file i.more (subst HaveRightPaths i.is b.right) a.refused)
+    | inr i ↦ absurd (not_refused b.before b.file i.more (subst HaveRightPaths i.is a.right) b.refused)
+  ]
 ]
 
 -- ---- a path is of its form, or not; and stands among others, or not
@@ -90,9 +90,9 @@ form_or_not path false e = inr (λ p. let yes : list_all is_path_byte path ≡ t
 form_or_not path true e = elim (cases_lt 0 (length path)) [
   | inr none ↦ inr (λ p. omega (arith, p.some, none))
   | inl some ↦ elim (cases_lt 255 (length path)) [
-      | inl long ↦ inr (λ p. omega (arith, p.short, long))
-      | inr short ↦ inl (record { some = omega arith; short = short; form = e })
-    ]
+    | inl long ↦ inr (λ p. omega (arith, p.short, long))
+    | inr short ↦ inl (record { some = omega arith; short = short; form = e })
+  ]
 ]
 
 pub path_or_not : (path : List ℕ) → IsPath path ⊎ (IsPath path → ⊥)
@@ -123,12 +123,12 @@ right_on before [] r = inl (subst HaveRightPaths (sym (append-nil before)) r)
 right_on before (f ∷ fs) r = elim (path_or_not f.0) [
   | inr none ↦ inr (length before + 1, record { before = before; file = f; later = fs; order = refl; right = r; refused = no_path none; number = refl })
   | inl is ↦ elim (contained_or_not (paths_of before) f.0 (list_any (λ p. bytes_eq p f.0) (paths_of before)) refl) [
-      | inl has ↦ inr (length before + 1, record { before = before; file = f; later = fs; order = refl; right = r; refused = second has; number = refl })
-      | inr new ↦
-          let on = right_on (before ++ f ∷ []) fs (right_push before f r is new) in
-          let same : (before ++ f ∷ []) ++ fs ≡ before ++ f ∷ fs = append_assoc before (f ∷ []) fs in
-          subst (λ (gs : List File). HaveRightPaths gs ⊎ ((k : ℕ) × IsFirstRefused gs k)) same on
-    ]
+    | inl has ↦ inr (length before + 1, record { before = before; file = f; later = fs; order = refl; right = r; refused = second has; number = refl })
+    | inr new ↦
+        let on = right_on (before ++ f ∷ []) fs (right_push before f r is new) in
+        let same : (before ++ f ∷ []) ++ fs ≡ before ++ f ∷ fs = append_assoc before (f ∷ []) fs in
+        subst (λ (gs : List File). HaveRightPaths gs ⊎ ((k : ℕ) × IsFirstRefused gs k)) same on
+  ]
 ]
 
 pub right_or_refused : (files : List File) → HaveRightPaths files ⊎ ((k : ℕ) × IsFirstRefused files k)

@@ -1,8 +1,8 @@
 -- Sets of files, and the first fault of an input.
-use Rattle.std.proofs.Common.{◌≡◌, ◌≢◌, ℕ, List, ◌⊎◌, inl, inr, refl, ap, sym, subst, ◌∙◌}
-use Rattle.file_bundle.specs.Bundle.{File, IsBundle, Spells}
-use Rattle.file_bundle.specs.Faults.{IsSet, IsBundleFault, IsPathFault, IsFirstFault}
-use Rattle.file_bundle.specs.Laws.{SpellsOnce, NeverSpellsAndBreaks, SpellsOrBreaks, NeverSetAndFault, SetOrFault, OneFault}
+use Rattle.std.proofs.Common.{◌≡◌, ◌≢◌, ℕ, List, inl, inr, refl, ap, subst}
+use Rattle.file_bundle.specs.Bundle.{File, Spells}
+use Rattle.file_bundle.specs.Faults.{IsSet, IsFirstFault}
+use Rattle.file_bundle.specs.Laws.{NeverSetAndFault, SetOrFault, OneFault}
 use Rattle.file_bundle.specs.Parts.{IsBreak}
 use Rattle.file_bundle.specs.Paths.{HaveRightPaths, IsFirstRefused}
 use Rattle.file_bundle.specs.declared.fault.BundleFault.{BundleFault}
@@ -30,9 +30,9 @@ pub set_or_fault : SetOrFault
 set_or_fault input b = elim (spelled_or_broken input b) [
   | inr broken ↦ inr (Bundle broken.0, broken.1)
   | inl spelled ↦ elim (right_or_refused spelled.0) [
-      | inl right ↦ inl (spelled.0, record { spelled = spelled.1; paths = right })
-      | inr refused ↦ inr (Path refused.0, record { files = spelled.0; spelled = spelled.1; refused = refused.1 })
-    ]
+    | inl right ↦ inl (spelled.0, record { spelled = spelled.1; paths = right })
+    | inr refused ↦ inr (Path refused.0, record { files = spelled.0; spelled = spelled.1; refused = refused.1 })
+  ]
 ]
 
 -- ---- what the reader answers

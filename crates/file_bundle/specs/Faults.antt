@@ -1,5 +1,5 @@
 -- Sets of files, and the first fault of an input that is none.
-use Rattle.std.specs.Prelude.{◌≡◌, ◌≢◌, ℕ, ◌+◌, ◌<◌, ◌≤◌, List, [], ◌++◌, length, All}
+use Rattle.std.specs.Prelude.{◌≡◌, ◌≢◌, ℕ, ◌+◌, ◌<◌, List, [], ◌++◌, length, All}
 use Rattle.file_bundle.specs.Bundle.{File, paths_of, header_line, bundle_text, IsWord, Spells}
 use Rattle.file_bundle.specs.Paths.{HaveRightPaths, IsFirstRefused}
 use Rattle.file_bundle.specs.declared.limits.TheConstants.{MAX_FILES}

@@ -1,9 +1,7 @@
-use Rattle.std.proofs.Common.{◌≡◌, ◌≢◌, ◌++◌, List, ℕ, [], Some, None, codes, refl, sym, ◌∙◌}
-use Rattle.std.specs.Prelude.{option_map}
-use Rattle.std.proofs.lemmas.Bool.{false≢true}
+use Rattle.std.proofs.Common.{Some, None, codes, sym}
 use Rattle.std.proofs.lemmas.Bool.Decides.{Decides-eqb}
 use Rattle.std.proofs.lemmas.Slice.Eq.{strip_prefix_is}
-use Rattle.mrpc_table.specs.Lines.{number_of, in_64_bits}
+use Rattle.mrpc_table.specs.Lines.{number_of}
 use Rattle.file_bundle.proofs.Cuts.{is_nothing, is_something, cut_from_parts, lacks_from_parts}
 use Rattle.file_bundle.proofs.Headers.{none_without_feed, none_without_file, none_without_space, none_without_path, none_without_number, not_counted, header_found}
 use Rattle.file_bundle.proofs.header.first_header.Goals as goal

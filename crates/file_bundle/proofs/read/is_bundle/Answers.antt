@@ -1,4 +1,4 @@
-use Rattle.std.proofs.Common.{◌++◌, drop, length, codes}
+use Rattle.std.proofs.Common.{drop, length}
 use Rattle.std.proofs.lemmas.Bool.Decides.{Decides-eqb}
 use Rattle.std.proofs.lemmas.Slice.Eq.{starts_is}
 use Rattle.file_bundle.specs.Bundle.{first_line}
