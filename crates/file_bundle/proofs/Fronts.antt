@@ -8,7 +8,7 @@ use Rattle.std.proofs.lemmas.List.{append-nil, append_cancel_left, length-take-l
 use Rattle.std.proofs.lemmas.List.Concat.{flat_map-cons}
 use Rattle.std.proofs.lemmas.List.Elements.{recursion_from_All, All-from_recursion}
 use Rattle.file_bundle.specs.Bundle.{File, paths_of, first_line, header_line, file_text, bundle_text, IsWord, IsBundle, Spells}
-use Rattle.file_bundle.specs.Faults.{EndsWrongly, no_file, too_many, no_header, too_few, IsBundleFault}
+use Rattle.file_bundle.specs.Faults.{BreaksOff, no_file, too_many, no_header, too_few, IsBundleFault}
 use Rattle.file_bundle.specs.Parts.{HasFile, HasNoFile}
 use Rattle.file_bundle.proofs.Cuts.{head_is}
 use Rattle.file_bundle.proofs.Headers.{header_once, header_or_none}
@@ -90,7 +90,7 @@ no_file_of bytes h f more w e = elim h [
 abbrev pub NoFurther : List File → List ℕ → Type 0
 NoFurther files rest = (length files ≤ 64) × (length files < 64 → NoFile rest)
 
-pub no_further : (files : List File) (rest : List ℕ) → EndsWrongly files rest → NoFurther files rest
+pub no_further : (files : List File) (rest : List ℕ) → BreaksOff files rest → NoFurther files rest
 no_further files rest (no_file none nothing) = (omega (arith, ap (length {A = File}) none), λ _. no_file_in_nothing rest nothing)
 no_further files rest (too_many all some) = (omega (arith, all), λ fewer. absurd (omega (arith, all, fewer)))
 no_further files rest (no_header fewer some none) = (omega (arith, fewer), λ _. no_file_of rest (inl none))
@@ -151,7 +151,7 @@ spells_once input files others s t =
     (front_once input files others [] [] (are_words files s.words) (are_words others t.words) (stops files s.few) (stops others t.few)
     (none_behind input files s.text) (none_behind input others t.text)).0
 
-broken : (files : List File) (rest : List ℕ) → EndsWrongly files rest → rest ≡ [] → 1 ≤ length files → ⊥
+broken : (files : List File) (rest : List ℕ) → BreaksOff files rest → rest ≡ [] → 1 ≤ length files → ⊥
 broken files rest (no_file none nothing) e some = omega (arith, some, ap (length {A = File}) none)
 broken files rest (too_many all something) e some = something e
 broken files rest (no_header fewer something none) e some = something e
@@ -176,7 +176,7 @@ breaks_once input k j a b =
 abbrev pub SpelledOrBroken : List ℕ → Type 0
 SpelledOrBroken input = ((files : List File) × Spells input files) ⊎ ((k : ℕ) × IsBundleFault input k)
 
-break_at : (input : List ℕ) (files : List File) (rest : List ℕ) → input ≡ bundle_text files ++ rest → AreWords files → EndsWrongly files rest → SpelledOrBroken input
+break_at : (input : List ℕ) (files : List File) (rest : List ℕ) → input ≡ bundle_text files ++ rest → AreWords files → BreaksOff files rest → SpelledOrBroken input
 break_at input files rest e w ends = inr (length files + 1, record { files = files; rest = rest; text = e; words = all_words files w; ends = ends; number = refl })
 
 ended : (input : List ℕ) (files : List File) → input ≡ bundle_text files ++ [] → AreWords files → length files ≤ 64 → SpelledOrBroken input

@@ -3,7 +3,7 @@ use Rattle.std.proofs.Common.{◌≡◌, ◌≢◌, ℕ, ◌+◌, ◌<◌, ◌�
 use Rattle.std.proofs.lemmas.Bool.{eq-eqb}
 use Rattle.std.proofs.lemmas.List.{append-nil, length-map}
 use Rattle.file_bundle.specs.Bundle.{File, bundle_text, Spells}
-use Rattle.file_bundle.specs.Faults.{EndsWrongly, too_many, no_header, too_few, IsBundleFault}
+use Rattle.file_bundle.specs.Faults.{BreaksOff, too_many, no_header, too_few, IsBundleFault}
 use Rattle.file_bundle.specs.Packed.{file_of, files_of}
 use Rattle.file_bundle.specs.Parts.{HasNoFile}
 use Rattle.file_bundle.specs.declared.packed.Packed.{Packed}
@@ -18,7 +18,7 @@ pub record StandInFront (input : List ℕ) (files : List File) (rest : List ℕ)
 pub length-files : (packed : List Packed) → length (files_of packed) ≡ length packed
 length-files packed = length-map packed file_of
 
-breaks : (input : List ℕ) (packed : List Packed) (rest : List ℕ) (n : ℕ) → StandInFront input (files_of packed) rest → EndsWrongly (files_of packed) rest → n ≡ length packed → IsBundleFault input (n + 1)
+breaks : (input : List ℕ) (packed : List Packed) (rest : List ℕ) (n : ℕ) → StandInFront input (files_of packed) rest → BreaksOff (files_of packed) rest → n ≡ length packed → IsBundleFault input (n + 1)
 breaks input packed rest n s ends is = record {
   files = files_of packed;
   rest = rest;

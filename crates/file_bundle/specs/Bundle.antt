@@ -1,5 +1,5 @@
--- The text of a set of files (this project's own): the line `mrpc-files 1`, and for each file a header line and its bytes.
--- A header line is `file`, the file's path and the number of its bytes.
+-- The text of a set of files (this project's own): the line `mrpc-files 1`, and for each file a header line and its
+-- bytes. A header line is `file`, the file's path and the number of its bytes.
 use Rattle.std.specs.Prelude.{◌≡◌, ◌≢◌, ℕ, ◌+◌, ◌≤◌, ◌==◌, if◌then◌else◌, List, [], ◌∷◌, ◌++◌, length, map, All, codes}
 use Rattle.std.specs.Int.Digits.{digits_of}
 use Rattle.std.specs.List.{flat_map, join_with_byte}

@@ -13,7 +13,8 @@ pub record IsSet (input : List ℕ) (files : List File) : Type 0 where
 
 -- the bytes begin with no header line
 abbrev pub HasNoHeader : List ℕ → Type 0
-HasNoHeader bytes = (path : List ℕ) (size : ℕ) (behind : List ℕ) → IsWord path → bytes ≡ header_line path size ++ behind → ⊥
+HasNoHeader bytes = (path : List ℕ) (size : ℕ) (behind : List ℕ) → IsWord path
+    → bytes ≡ header_line path size ++ behind → ⊥
 
 -- the bytes begin with a header line, and fewer bytes than it says stand behind it
 pub record HasTooFew (bytes : List ℕ) : Type 0 where
@@ -24,21 +25,22 @@ pub record HasTooFew (bytes : List ℕ) : Type 0 where
   pub text : bytes ≡ header_line path size ++ behind
   pub fewer : length behind < size
 
--- Why an input ends wrongly behind these files, where this rest stands behind them: it ends before any file; something
--- stands behind the 64th file; what stands there begins with no header line; or the bytes behind that are too few.
-pub data EndsWrongly (files : List File) (rest : List ℕ) : Type 0 where
-  no_file : files ≡ [] → rest ≡ [] → EndsWrongly files rest
-  too_many : length files ≡ MAX_FILES → rest ≢ [] → EndsWrongly files rest
-  no_header : length files < MAX_FILES → rest ≢ [] → HasNoHeader rest → EndsWrongly files rest
-  too_few : length files < MAX_FILES → HasTooFew rest → EndsWrongly files rest
+-- Why an input breaks off behind these files, where this rest stands behind them: nothing stands there, and no file has
+-- come; something stands behind the 64th file; what stands there begins with no header line; or the bytes behind that
+-- are too few.
+pub data BreaksOff (files : List File) (rest : List ℕ) : Type 0 where
+  no_file : files ≡ [] → rest ≡ [] → BreaksOff files rest
+  too_many : length files ≡ MAX_FILES → rest ≢ [] → BreaksOff files rest
+  no_header : length files < MAX_FILES → rest ≢ [] → HasNoHeader rest → BreaksOff files rest
+  too_few : length files < MAX_FILES → HasTooFew rest → BreaksOff files rest
 
--- file k, counted from 1, doesn't stand behind those in front of it
+-- the input breaks off at file k, counted from 1: behind the files in front of it
 pub record IsBundleFault (input : List ℕ) (k : ℕ) : Type 0 where
   pub files : List File
   pub rest : List ℕ
   pub text : input ≡ bundle_text files ++ rest
   pub words : All IsWord (paths_of files)
-  pub ends : EndsWrongly files rest
+  pub ends : BreaksOff files rest
   pub number : k ≡ length files + 1
 
 -- the input is the text of files, and the path of file k is the first that is refused

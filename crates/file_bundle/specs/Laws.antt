@@ -8,7 +8,7 @@ use Rattle.file_bundle.specs.declared.fault.BundleFault.{BundleFault}
 abbrev pub SpellsOnce : Type 0
 SpellsOnce = (input : List ℕ) (files others : List File) → Spells input files → Spells input others → files ≡ others
 
--- or a file of it isn't there, and never both
+-- or breaks off at a file, and never both
 abbrev pub NeverSpellsAndBreaks : Type 0
 NeverSpellsAndBreaks = (input : List ℕ) (files : List File) (k : ℕ) → Spells input files → IsBundleFault input k → ⊥
 

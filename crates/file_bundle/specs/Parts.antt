@@ -1,4 +1,4 @@
--- What the parts of the reader find: a header line and a file at the front of some bytes, and where an input ends wrongly.
+-- What the parts of the reader find: a header line and a file at the front of bytes, and where an input breaks off.
 use Rattle.std.specs.Prelude.{◌≡◌, ◌⊎◌, ℕ, List, ◌++◌}
 use Rattle.mrpc_table.specs.Lines.{in_64_bits}
 use Rattle.mrpc_table.specs.declared.words.Decimal.{Decimal}
@@ -23,7 +23,7 @@ pub record HasFile (bytes : List ℕ) (file : File) (behind : List ℕ) : Type 0
 abbrev pub HasNoFile : List ℕ → Type 0
 HasNoFile bytes = HasNoHeader bytes ⊎ HasTooFew bytes
 
--- a file of the input doesn't stand there, or memory was wanting
+-- the input breaks off at this file, or memory was wanting
 abbrev pub IsBreak : List ℕ → BundleFault → Type 0
 IsBreak input (Bundle k) = IsBundleFault input k
 IsBreak input (Path k) = ⊥

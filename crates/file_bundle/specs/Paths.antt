@@ -1,5 +1,6 @@
 -- The paths of files: letters, digits, `_`, `-`, `.` and `/`, 255 bytes at most, and no two the same.
-use Rattle.std.specs.Prelude.{◌≡◌, ◌≢◌, ℕ, ◌+◌, ◌≤◌, ◌==◌, Bool, ◌||◌, List, ◌∷◌, ◌++◌, length, All, AllPairs, Contains, IsTrue}
+use Rattle.std.specs.Prelude.{◌≡◌, ◌≢◌, ℕ, ◌+◌, ◌≤◌, ◌==◌, Bool, ◌||◌, IsTrue}
+use Rattle.std.specs.Prelude.{List, ◌∷◌, ◌++◌, length, All, AllPairs, Contains}
 use Rattle.std.specs.List.{list_all}
 use Rattle.mrpc_table.specs.Names.{is_name_byte}
 use Rattle.file_bundle.specs.Bundle.{File, paths_of}

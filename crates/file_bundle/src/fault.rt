@@ -9,8 +9,8 @@ use thiserror::Error;
 /// Why no set of files was read. Files are counted from 1. A `Bundle` fault stands before each `Path` fault.
 #[derive(Clone, Copy, Debug, PartialEq, Eq, Error)]
 pub enum BundleFault {
-    /// The first file that doesn't stand there: its header line isn't of its form, the bytes behind that are too few, no
-    /// file is there at all (then `file` is 1), or it is the 65th, of which any byte is too much.
+    /// The first file that doesn't stand there: its header line isn't of its form, the bytes behind that are too few,
+    /// no file is there at all (then `file` is 1), or it is the 65th, of which any byte is too much.
     #[error("file {file} doesn't stand there")]
     Bundle { file: u32 },
     /// The first file whose path isn't of the form of a path, or is that of a file before it.
