@@ -6,7 +6,7 @@ ghost use Rattle.file_bundle.specs.declared.fault.BundleFault.TheVariants.{Memor
 use std::alloc::AllocFailed;
 use thiserror::Error;
 
-/// Why no set of files was read. Files are counted from 1. A `Bundle` fault stands before each `Path` fault.
+/// Why no set of files was read. Files are counted from 1. A `Bundle` fault counts before each `Path` fault.
 #[derive(Clone, Copy, Debug, PartialEq, Eq, Error)]
 pub enum BundleFault {
     /// The first file that doesn't stand there: its header line isn't of its form, the bytes behind that are too few,

@@ -3,7 +3,7 @@
 /// A file as it stands in a set: its path and its bytes, borrowed from the input.
 #[derive(Clone, Copy, Debug)]
 pub struct Packed<'a> {
-    /// The path, of at least one byte, without a space or a line feed.
+    /// The path. In a set that was read, [`is_path`](crate::is_path) holds of it.
     pub path: &'a [u8],
     /// The bytes of the file.
     pub text: &'a [u8],
