@@ -10,6 +10,7 @@
 
 mod fault;
 mod joined;
+mod laws;
 mod links;
 mod paths;
 mod reaching;
@@ -18,5 +19,6 @@ mod set;
 mod walk;
 
 pub use fault::{ImportFault, ImportReason};
+pub use laws::{one_outcome, rings};
 pub use reaching::reach;
 pub use set::{MAX_FILES, Member, Places, Reach};
