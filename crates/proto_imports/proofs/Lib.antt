@@ -1,1 +1,4 @@
+mod Judging
+mod Linked
+mod Placing
 mod Visited

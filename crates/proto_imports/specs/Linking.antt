@@ -1,10 +1,10 @@
 -- What is kept of the imports of a set: the places of files by their paths, and where the imports of each file lead.
-use Rattle.std.specs.Prelude.{◌≡◌, ◌≢◌, ℕ, ◌<◌, true, List, Option, Some, slice_get, length, MatchOption}
+use Rattle.std.specs.Prelude.{◌≡◌, ◌≢◌, ℕ, ◌<◌, List, Option, Some, slice_get, length, MatchOption}
 use Rattle.std.specs.Ordering.{nat_cmp}
 use Rattle.std.specs.Cmp.Lexicographic.{slice_cmp}
 use Rattle.std.specs.BTreeMap.{get_by}
 use Rattle.proto_file.specs.declared.file.Import.{Import}
-use Rattle.proto_imports.specs.Leading.{HasImport, HasPath, Leads, LeadsPublicly}
+use Rattle.proto_imports.specs.Leading.{HasImport, HasPath, Leads}
 use Rattle.proto_imports.specs.Faults.{IsFault}
 use Rattle.proto_imports.specs.declared.set.Member.{Member}
 use Rattle.proto_imports.specs.declared.fault.ImportReason.{ImportReason}
@@ -43,13 +43,15 @@ pub record IsFirstAt (set : List Member) (q : ImportReason) (i : ℕ) (e : Impor
 abbrev pub IsFirstUnlessMemory : List Member → ImportReason → ℕ → ImportFault → Type 0
 IsFirstUnlessMemory set q i e = e ≢ fault.Memory → IsFirstAt set q i e
 
+-- where the n-th import of file i leads
+pub record IsLink (set : List Member) (i n : ℕ) (l : Link) : Type 0 where
+  pub leads : Leads set i n l.file
+  pub is_public : l.public ≡ leads.import.public
+
 -- where the imports of file i lead
 pub record AreLinks (set : List Member) (i : ℕ) (links : List Link) : Type 0 where
-  pub lead : (n : ℕ) (l : Link) → slice_get links n ≡ Some l → Leads set i n l.file
-  pub lead_publicly : (n : ℕ) (l : Link) → slice_get links n ≡ Some l → l.public ≡ true
-      → LeadsPublicly set i n l.file
-  pub all : (n : ℕ) (x : Import) → HasImport set i n x
-      → (l : Link) × (slice_get links n ≡ Some l) × (l.public ≡ x.public)
+  pub each : (n : ℕ) (l : Link) → slice_get links n ≡ Some l → IsLink set i n l
+  pub all : (n : ℕ) (x : Import) → HasImport set i n x → n < length links
 
 -- where the imports of each file of a set lead
 pub record KeepsLinks (set : List Member) (all : List (List Link)) : Type 0 where

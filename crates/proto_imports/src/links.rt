@@ -4,6 +4,7 @@ ghost use Rattle.std.specs.Prelude.{◌≡◌, ◌↔◌, ◌<◌, length, IsTru
 ghost use Rattle.proto_file.specs.declared.file.Import.{Import};
 ghost use Rattle.proto_imports.specs.Leading.{HasImport};
 ghost use Rattle.proto_imports.specs.Faults.{IsFaultOf};
+ghost use Rattle.proto_imports.specs.Reaching.{HaveOwnPaths};
 ghost use Rattle.proto_imports.specs.Linking.{KnowsPaths, IsFree, IsFreeAt, IsFirstAt, IsFirstUnlessMemory, AreLinks};
 ghost use Rattle.proto_imports.specs.Seeing.{IsLinked};
 
@@ -82,6 +83,7 @@ fn links_of<'a>(
 ) -> Result<Links, ImportFault>
     requires here { file < length members.now }
     requires paths { KnowsPaths members.now paths.now }
+    requires own { HaveOwnPaths members.now }
     requires known { IsFreeAt members.now ImportReason.Missing file }
     ensures links { IfOk result (AreLinks members.now file) }
     ensures once { OnOk result (IsFreeAt members.now ImportReason.Twice file) }
@@ -116,7 +118,8 @@ impl<'a> Model for Graph<'a> {
 
     ghost Value = { List Member };
 
-    ghost use Rattle.proto_imports.specs.Linking.{AreOf};
+    ghost use Rattle.proto_imports.specs.Reaching.{HaveOwnPaths};
+ghost use Rattle.proto_imports.specs.Linking.{AreOf};
 
     ghost view = { λ g. g.members.now };
 
@@ -131,6 +134,7 @@ impl<'a> Graph<'a> {
         paths: &Paths<'a>,
     ) -> Result<Graph<'a>, ImportFault>
         requires paths { KnowsPaths members.now paths.now }
+        requires own { HaveOwnPaths members.now }
         requires known { IsFree members.now ImportReason.Missing }
         ensures graph { IfOk result (λ g. g ≡ members.now) }
         ensures once { OnOk result (IsFree members.now ImportReason.Twice) }
