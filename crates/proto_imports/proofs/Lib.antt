@@ -1,4 +1,6 @@
 mod Judging
 mod Linked
 mod Placing
+mod Remaining
 mod Visited
+mod Walked
