@@ -1,6 +1,10 @@
+mod Joining
 mod Judging
 mod Linked
 mod Placing
+mod Reached
 mod Remaining
+mod Seeing
+mod Sorting
 mod Visited
 mod Walked

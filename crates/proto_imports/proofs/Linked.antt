@@ -1,5 +1,5 @@
 -- Where the imports of a file lead.
-use Rattle.std.proofs.Common.{◌≡◌, ℕ, zero, suc, ◌+◌, ◌<◌, ◌≤◌, ◌⊎◌, ⊎_elim, Bool, true, false, List, [], ◌∷◌, ◌++◌, inl, inr, length, get_or, refl, sym, ap, ◌∙◌, subst, arith}
+use Rattle.std.proofs.Common.{◌≡◌, ℕ, zero, suc, ◌+◌, ◌<◌, ◌≤◌, ◌⊎◌, ⊎_elim, Bool, true, false, List, [], ◌∷◌, ◌++◌, inl, inr, length, set, get_or, refl, sym, ap, ◌∙◌, subst, arith}
 use Rattle.std.specs.Prelude.{slice_get, Option, Some, None}
 use Rattle.std.proofs.lemmas.Bool.{cases_lt}
 use Rattle.std.proofs.lemmas.List.{length_push}
@@ -7,7 +7,7 @@ use Rattle.std.proofs.lemmas.Option.{slice_get-get_or, slice_get_within, same_So
 use Rattle.proto_file.specs.declared.file.Import.{Import}
 use Rattle.proto_imports.specs.Leading.{HasImport, HasPath, Leads, LeadsPublicly}
 use Rattle.proto_imports.specs.Faults.{IsFault, twice}
-use Rattle.proto_imports.specs.Linking.{IsFreeAt, IsLink, AreLinks, KeepsLinks}
+use Rattle.proto_imports.specs.Linking.{IsFreeAt, IsLink, AreLinks, KeepsLinks, AllLead}
 use Rattle.proto_imports.specs.Seeing.{IsLinked}
 use Rattle.proto_imports.specs.declared.set.Member.{Member}
 use Rattle.proto_imports.specs.declared.links.Link.{Link}
@@ -33,6 +33,18 @@ pub get_last : {X : Type 0} (xs : List X) (x : X) → slice_get (xs ++ x ∷ [])
 get_last [] x = refl
 get_last (y ∷ ys) x = get_last ys x
 
+pub get_set_same : {X : Type 0} (xs : List X) (i : ℕ) (x : X) → i < length xs → slice_get (set xs i x) i ≡ Some x
+get_set_same [] i x l = absurd (omega arith)
+get_set_same (y ∷ ys) zero x l = refl
+get_set_same (y ∷ ys) (suc i) x l = get_set_same ys i x (omega arith)
+
+pub get_set_other : {X : Type 0} (xs : List X) (i j : ℕ) (x : X) → (j ≡ i → ⊥) → slice_get (set xs i x) j ≡ slice_get xs j
+get_set_other [] i j x ne = refl
+get_set_other (y ∷ ys) zero zero x ne = absurd (ne refl)
+get_set_other (y ∷ ys) zero (suc j) x ne = refl
+get_set_other (y ∷ ys) (suc i) zero x ne = refl
+get_set_other (y ∷ ys) (suc i) (suc j) x ne = get_set_other ys i j x (λ e. ne (ap suc e))
+
 pub some_at : {X : Type 0} (xs : List X) (i : ℕ) → i < length xs → (x : X) × (slice_get xs i ≡ Some x)
 some_at [] i l = absurd (omega arith)
 some_at (x ∷ xs) zero l = (x, refl)
@@ -57,7 +69,7 @@ links_none set i links e = subst (LinksBefore set i 0) (sym e) (record {
 })
 
 -- two files of one path are one
-path_same : {set : List Member} {j : ℕ} {p q : List ℕ} → HasPath set j p → HasPath set j q → p ≡ q
+pub path_same : {set : List Member} {j : ℕ} {p q : List ℕ} → HasPath set j p → HasPath set j q → p ≡ q
 path_same a b =
     let same : a.member ≡ b.member = same_Some a.member b.member (sym a.member_at ∙ b.member_at) in
     sym a.path_is ∙ ap (λ (m : Member). m.path) same ∙ b.path_is
@@ -164,3 +176,11 @@ link_of {set} {i} {n} {j} {links} apart h l =
 
 pub link_file : {set : List Member} {i n j : ℕ} → Leads set i n j → j < length set
 link_file {set} {i} {n} {j} l = slice_get_within set j l.path_at.member l.path_at.member_at
+
+-- each import leads to a file
+pub all_lead : {set' : List Member} {all : List (List Link)} → KeepsLinks set' all → AllLead set'
+all_lead {set'} {all} h i n x at =
+    let links = some_at all i (omega (arith, h.count, slice_get_within set' i at.member at.member_at)) in
+    let known = h.each i links.0 links.1 in
+    let l = some_at links.0 n (known.all n x at) in
+    (l.0.file, (known.each n l.0 l.1).leads)

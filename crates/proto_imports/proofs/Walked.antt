@@ -17,7 +17,7 @@ use Rattle.proto_imports.specs.declared.walk.Walk.{Walk}
 use Rattle.proto_imports.specs.declared.links.Link.{Link}
 use Rattle.proto_imports.proofs.Remaining.{remaining, count_past, less_left, less_passed, less_entered}
 use Rattle.proto_imports.proofs.Visited.{cons_here, cons_more, cons_cases, contains_at, at_contains}
-use Rattle.proto_imports.proofs.Linked.{get_push, get_front, get_last, link_file}
+use Rattle.proto_imports.proofs.Linked.{get_push, get_front, get_last, get_set_same, get_set_other, link_file}
 
 abbrev pub file_of : Frame → ℕ
 file_of f = f.file
@@ -100,18 +100,6 @@ pub record Shows (set' : List Member) (visiting left : List ℕ) (marks : List M
   pub gone : (k : ℕ) → (slice_get marks k ≡ Some Left → Contains left k) × (Contains left k → slice_get marks k ≡ Some Left)
   pub once : Once visiting
 
-get_set_same : (marks : List Mark) (i : ℕ) (m : Mark) → i < length marks → slice_get (set marks i m) i ≡ Some m
-get_set_same [] i m l = absurd (omega arith)
-get_set_same (x ∷ xs) zero m l = refl
-get_set_same (x ∷ xs) (suc i) m l = get_set_same xs i m (omega arith)
-
-get_set_other : (marks : List Mark) (i j : ℕ) (m : Mark) → (j ≡ i → ⊥) → slice_get (set marks i m) j ≡ slice_get marks j
-get_set_other [] i j m ne = refl
-get_set_other (x ∷ xs) zero zero m ne = absurd (ne refl)
-get_set_other (x ∷ xs) zero (suc j) m ne = refl
-get_set_other (x ∷ xs) (suc i) zero m ne = refl
-get_set_other (x ∷ xs) (suc i) (suc j) m ne = get_set_other xs i j m (λ e. ne (ap suc e))
-
 mark_same : (marks : List Mark) (k : ℕ) {m n : Mark} → slice_get marks k ≡ Some m → slice_get marks k ≡ Some n → m ≡ n
 mark_same marks k {m = m} {n = n} a b = same_Some m n (sym a ∙ b)
 
@@ -121,7 +109,7 @@ new_is {marks = marks} {j = j} h new = record {
   unleft = λ c. (let e : New ≡ Left = mark_same marks j new ((h.gone j).1 c) in cc);
 }
 
-once_push : (xs : List ℕ) (x : ℕ) → (Contains xs x → ⊥) → Once xs → Once (xs ++ x ∷ [])
+pub once_push : (xs : List ℕ) (x : ℕ) → (Contains xs x → ⊥) → Once xs → Once (xs ++ x ∷ [])
 once_push xs x out once p q y a b = elim (get_push xs x y p a) [
   | inl olda ↦ elim (get_push xs x y q b) [
     | inl oldb ↦ once p q y olda oldb
@@ -313,6 +301,7 @@ pub walk_done : {set' : List Member} {frames : List Frame} {marks : List Mark} �
 walk_done {set'} {frames} {marks} e h = record {
   left = h.left;
   visits = h.resumes (leaves h.left) (subst (λ (fs : List Frame). Resumes set' fs h.left (leaves h.left)) (sym e) done);
+  count = h.shows.count;
   marked = h.shows.gone;
 }
 

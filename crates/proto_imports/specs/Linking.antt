@@ -22,6 +22,10 @@ pub record KnowsPaths (set : List Member) (paths : Paths) : Type 0 where
   pub each : (path : List ℕ) → MatchOption (place_in paths path) ((j : ℕ) → HasPath set j path → ⊥)
       (λ j. HasPath set j path)
 
+-- each import leads to a file
+abbrev pub AllLead : List Member → Type 0
+AllLead set = (i n : ℕ) (x : Import) → HasImport set i n x → (j : ℕ) × Leads set i n j
+
 -- no import of a file is at fault for this reason
 abbrev pub IsFreeAt : List Member → ImportReason → ℕ → Type 0
 IsFreeAt set q i = (n : ℕ) → IsFault set q i n → ⊥

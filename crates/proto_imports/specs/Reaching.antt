@@ -49,5 +49,6 @@ places_in pairs = map (λ p. p.1) pairs
 
 -- the files that were left but the root, by ascending path
 pub record AreOthers (set : List Member) (marks : List Mark) (pairs : List (Bor (List ℕ) × ℕ)) : Type 0 where
+  pub distinct : AreDistinct (places_in pairs)
   pub those : (i : ℕ) → Contains (places_in pairs) i ↔ ((i ≢ 0) × (slice_get marks i ≡ Some Left))
   pub ascend : Ascends (IsPathBelow set) (places_in pairs)

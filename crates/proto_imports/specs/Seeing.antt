@@ -25,6 +25,7 @@ pub record MarksMore (P : ℕ → Type 0) (old new : Seen) : Type 0 where
   pub those : (i : ℕ) → P i → IsMarked new i
   pub alone : (i : ℕ) → IsMarked new i → IsMarked old i ⊎ (P i × Contains new.next.items i)
   pub waits : (i : ℕ) → Contains old.next.items i → Contains new.next.items i
+  pub fresh : (i : ℕ) → Contains new.next.items i → Contains old.next.items i ⊎ P i
   pub within : All (λ i. i < length old.marks.items) old.next.items → All (λ i. i < length new.marks.items) new.next.items
   pub less : work_of new ≤ work_of old
 
@@ -43,4 +44,5 @@ pub record SeesSoFar (set : List Member) (i : ℕ) (s : Seen) : Type 0 where
   pub start : IsMarked s i
   pub imported : (n j : ℕ) → Leads set i n j → IsMarked s j
   pub closed : (j n k : ℕ) → IsMarked s j → LeadsPublicly set j n k → IsMarked s k ⊎ Contains s.next.items j
+  pub waiting : (j : ℕ) → Contains s.next.items j → Sees set i j
   pub within : All (λ j. j < length set) s.next.items

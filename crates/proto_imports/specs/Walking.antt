@@ -1,5 +1,5 @@
 -- How the walk through the files of a set goes on.
-use Rattle.std.specs.Prelude.{◌≡◌, ◌↔◌, ℕ, ◌+◌, List, [], ◌∷◌, ◌++◌, Bool, true, false, Some, slice_get, slice_set, Contains}
+use Rattle.std.specs.Prelude.{◌≡◌, ◌↔◌, ℕ, ◌+◌, List, [], ◌∷◌, ◌++◌, Bool, true, false, Some, slice_get, slice_set, length, Contains}
 use Rattle.proto_imports.specs.Leading.{Reaches}
 use Rattle.proto_imports.specs.Visiting.{leaves, ring, VisitsRoot}
 use Rattle.proto_imports.specs.declared.set.Member.{Member}
@@ -32,6 +32,7 @@ pub data Follows (old : Walk) (f : Frame) (l : Link) : Bool → Walk → Type 0 
 pub record HasLeft (set : List Member) (marks : List Mark) : Type 0 where
   pub left : List ℕ
   pub visits : VisitsRoot set (leaves left)
+  pub count : length marks ≡ length set
   pub marked : (i : ℕ) → (slice_get marks i ≡ Some Left) ↔ Contains left i
 
 -- what came of visiting the root

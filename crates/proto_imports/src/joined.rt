@@ -1,6 +1,6 @@
 //! The order in which reached files are resolved.
 
-ghost use Rattle.std.specs.Prelude.{◌≡◌, ◌<◌, length, IfOk};
+ghost use Rattle.std.specs.Prelude.{◌≡◌, ◌↔◌, ◌<◌, length, IsTrue, IfOk};
 ghost use Rattle.proto_imports.specs.Reaching.{HaveOwnPaths, IsJoined, AreOthers};
 ghost use Rattle.proto_imports.specs.Walking.{AreReached};
 
@@ -8,6 +8,13 @@ use crate::set::{Member, Places};
 use crate::walk::Mark;
 use mrpc_table::Memory;
 use std::alloc::Global;
+
+// Whether a file was left.
+fn is_left(mark: Mark) -> bool
+    ensures { IsTrue result ↔ (mark ≡ Mark.Left) }
+{
+    matches!(mark, Mark::Left)
+}
 
 // The paths and places of the reached files but the root, by ascending path.
 fn by_path<'a>(
@@ -21,7 +28,7 @@ fn by_path<'a>(
 {
     let mut pairs = Vec::new(alloc);
     for i in 1..members.len() {
-        if marks[i] == Mark::Left {
+        if is_left(marks[i]) {
             pairs.push((members[i].path.as_slice(), i))?;
         }
     }

@@ -1,6 +1,6 @@
 //! Laws of the imports of a set. These functions do nothing; their clauses hold.
 
-ghost use Rattle.std.specs.Prelude.{◌≡◌, ℕ, ◌<◌, List, length};
+ghost use Rattle.std.specs.Prelude.{◌≡◌, ℕ, List};
 ghost use Rattle.proto_file.specs.declared.file.Span.{Span};
 ghost use Rattle.proto_imports.specs.Leading.{Leads, Reaches, IsInRing};
 ghost use Rattle.proto_imports.specs.Visiting.{Outcome, leaves, ring, VisitsRoot};
@@ -23,4 +23,21 @@ pub fn rings()
     // Where none is named, no file that the root reaches is reached from itself by one import or more.
     ensures none { (set : List Member) (left : List ℕ) (i : ℕ) → HaveOwnPaths set → VisitsRoot set (leaves left)
         → Reaches set 0 i → IsInRing set i → ⊥ }
+{}
+
+/// A set has one first fault at most: two of them have one reason, one file and one place.
+pub fn one_fault()
+    ensures { (set : List Member) (q r : ImportReason) (i j : ℕ) (s t : Span) → HasFault set q i s → HasFault set r j t
+        → (q ≡ r) × (i ≡ j) × (s ≡ t) }
+{}
+
+/// The root of a set reaches one thing at most: two reaches of a set are equal.
+pub fn one_reach()
+    ensures { (set : List Member) (a b : Reach) → IsReach set a → IsReach set b → a ≡ b }
+{}
+
+/// No set has both a reach and a first fault.
+pub fn reach_or_fault()
+    ensures not_both { (set : List Member) (reach : Reach) (q : ImportReason) (i : ℕ) (s : Span) → IsReach set reach
+        → HasFault set q i s → ⊥ }
 {}

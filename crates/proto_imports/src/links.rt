@@ -5,7 +5,7 @@ ghost use Rattle.proto_file.specs.declared.file.Import.{Import};
 ghost use Rattle.proto_imports.specs.Leading.{HasImport};
 ghost use Rattle.proto_imports.specs.Faults.{IsFaultOf};
 ghost use Rattle.proto_imports.specs.Reaching.{HaveOwnPaths};
-ghost use Rattle.proto_imports.specs.Linking.{KnowsPaths, IsFree, IsFreeAt, IsFirstAt, IsFirstUnlessMemory, AreLinks};
+ghost use Rattle.proto_imports.specs.Linking.{KnowsPaths, AllLead, IsFree, IsFreeAt, IsFirstAt, IsFirstUnlessMemory, AreLinks};
 ghost use Rattle.proto_imports.specs.Seeing.{IsLinked};
 
 use crate::fault::{ImportFault, ImportReason};
@@ -137,6 +137,7 @@ impl<'a> Graph<'a> {
         requires own { HaveOwnPaths members.now }
         requires known { IsFree members.now ImportReason.Missing }
         ensures graph { IfOk result (λ g. g ≡ members.now) }
+        ensures led { OnOk result (AllLead members.now) }
         ensures once { OnOk result (IsFree members.now ImportReason.Twice) }
         ensures fault { IfErr result (IsFaultOf members.now) }
     {

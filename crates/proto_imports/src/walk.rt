@@ -8,7 +8,7 @@ use mrpc_table::Memory;
 use std::alloc::Global;
 
 /// Whether a file is being visited.
-#[derive(Clone, Copy, PartialEq, Eq)]
+#[derive(Clone, Copy)]
 pub enum Mark {
     New,
     Visiting,

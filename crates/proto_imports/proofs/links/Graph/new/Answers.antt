@@ -3,7 +3,7 @@ use Rattle.std.proofs.lemmas.Option.{slice_get_within}
 use Rattle.std.proofs.lemmas.Result.{err_from_is_err_and}
 use Rattle.proto_imports.specs.declared.fault.ImportReason.TheVariants.{Twice}
 use Rattle.proto_imports.proofs.Judging.{none_above_twice, first_unless, twice_parts}
-use Rattle.proto_imports.proofs.Linked.{keeps_none, keeps_more, keeps_all}
+use Rattle.proto_imports.proofs.Linked.{keeps_none, keeps_more, keeps_all, all_lead}
 use Rattle.proto_imports.proofs.links.Graph.new.Goals as goal
 
 pub loop-file-init : goal.loop-file-init
@@ -27,3 +27,8 @@ returns-in_err-here-clause-fault c =
     rw (p.1, p.2)
     (first_unless set Twice c.loop-file.file c.in_err-here.field-0.0 (none_above_twice set c.requires.known)
     c.loop-file.invariant.once c.in_err-here.ensures.fault)
+
+pub returns-clause-led : goal.returns-clause-led
+returns-clause-led c =
+    let known = keeps_all c.args.members.now c.loop-file.file c.loop-file.links.items (omega arith) c.loop-file.invariant in
+    all_lead known
