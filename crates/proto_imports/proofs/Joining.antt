@@ -1,26 +1,26 @@
 -- The order in which reached files are resolved.
-use Rattle.std.proofs.Common.{◌≡◌, ◌≢◌, ℕ, zero, suc, ◌+◌, ◌<◌, ◌≤◌, inl, inr, false, List, [], ◌∷◌, ◌++◌, length, get_or, take, map, refl, sym, ap, ◌∙◌, subst, arith, add-one}
+use Rattle.std.proofs.Common.{◌≡◌, ◌≢◌, ℕ, suc, ◌+◌, ◌<◌, ◌≤◌, inl, inr, false, List, [], ◌∷◌, ◌++◌, length, get_or, take, refl, sym, ap, ◌∙◌, subst, arith, add-one}
 use Rattle.std.specs.Prelude.{Contains, All, Some, slice_get}
 use Rattle.std.specs.Borrow.{Bor}
 use Rattle.std.specs.List.Sorted.{IsPermutation, IsSorted}
 use Rattle.std.specs.Cmp.Lexicographic.{slice_cmp}
 use Rattle.std.specs.Ordering.{is_lt, nat_cmp, ordering_then}
 use Rattle.std.specs.declared.cmp.Ordering.{Ordering}
-use Rattle.std.specs.declared.cmp.Ordering.TheVariants.{Less, Equal, Greater}
+use Rattle.std.specs.declared.cmp.Ordering.TheVariants.{Equal}
 use Rattle.std.proofs.lemmas.Bool.{cases_lt, cases_eq}
 use Rattle.std.proofs.lemmas.Cmp.{nat_list_cmp_total}
 use Rattle.std.proofs.lemmas.Map.Lookups.{exact_bytes}
 use Rattle.std.proofs.lemmas.Option.{slice_get_within}
-use Rattle.std.proofs.lemmas.List.{get_or-map, length-map, map_push, take_all, take_more, get_or_default}
+use Rattle.std.proofs.lemmas.List.{get_or-map, length-map, map_push, take_all, take_more}
 use Rattle.std.proofs.lemmas.List.Elements.{All-push, Contains-append_left, Contains-push, Contains-push_cases}
-use Rattle.std.proofs.lemmas.List.Sorted.{IsPermutation-map, IsPermutation-sym, All-permutation, Contains-permutation, length_permutation}
-use Rattle.mrpc_table.specs.Valid.{Ascends, AreDistinct, IsBelow}
+use Rattle.std.proofs.lemmas.List.Sorted.{IsPermutation-map, IsPermutation-sym, All-permutation, Contains-permutation}
+use Rattle.mrpc_table.specs.Valid.{IsBelow}
 use Rattle.proto_imports.specs.Leading.{HasPath, Reaches, here}
 use Rattle.proto_imports.specs.Reaching.{IsPathBelow, IsJoined, AreOthers, places_in}
 use Rattle.proto_imports.specs.Walking.{AreReached}
 use Rattle.proto_imports.specs.declared.set.Member.{Member}
 use Rattle.proto_imports.specs.declared.walk.Mark.{Mark}
-use Rattle.proto_imports.specs.declared.walk.Mark.TheVariants.{New, Visiting, Left}
+use Rattle.proto_imports.specs.declared.walk.Mark.TheVariants.{Left}
 use Rattle.proto_imports.proofs.Visited.{ArePathsApart, cons_here, cons_more, cons_cases}
 use Rattle.proto_imports.proofs.Placing.{path_of}
 use Rattle.proto_imports.proofs.Walked.{Once, once_push}
@@ -106,17 +106,17 @@ sorted_step set sorted own named apart ascends k d m =
     let xi : get_or (places_in sorted) k d ≡ x.0.1 = get_or-map place_of sorted k x.0 d n ∙ ap place_of (x.1 x.0) in
     let yi : get_or (places_in sorted) (suc k) d ≡ y.0.1 = get_or-map place_of sorted (suc k) y.0 d m ∙ ap place_of (y.1 y.0) in
     let apart_here : slice_cmp nat_cmp y.0.0.now x.0.0.now ≡ Equal → ⊥ =
-        λ e. (let f : y.0.0.now ≡ x.0.0.now = exact_bytes y.0.0.now x.0.0.now e in
-            let same : y.0.1 ≡ x.0.1 = own.one yn (subst (HasPath set x.0.1) (sym f) xn) in
-            let g : suc k ≡ k = apart (suc k) k d (omega (arith, length-map sorted place_of)) (omega (arith, length-map sorted place_of)) (yi ∙ same ∙ sym xi) in
-            omega arith) in
+    λ e. (let f : y.0.0.now ≡ x.0.0.now = exact_bytes y.0.0.now x.0.0.now e in
+    let same : y.0.1 ≡ x.0.1 = own.one yn (subst (HasPath set x.0.1) (sym f) xn) in
+    let g : suc k ≡ k = apart (suc k) k d (omega (arith, length-map sorted place_of)) (omega (arith, length-map sorted place_of)) (yi ∙ same ∙ sym xi) in
+    omega arith) in
     let less : is_lt (pair_cmp y.0 x.0) ≡ false =
-        subst (λ (p : Pair). is_lt (pair_cmp y.0 p) ≡ false) (x.1 x.0)
-        (subst (λ (p : Pair). is_lt (pair_cmp p (get_or sorted k x.0)) ≡ false) (y.1 x.0)
-        (subst (λ (i : ℕ). is_lt (pair_cmp (get_or sorted i x.0) (get_or sorted k x.0)) ≡ false) (add-one k)
-        (ascends k x.0 (omega arith) (omega (arith, add-one k))))) in
+    subst (λ (p : Pair). is_lt (pair_cmp y.0 p) ≡ false) (x.1 x.0)
+    (subst (λ (p : Pair). is_lt (pair_cmp p (get_or sorted k x.0)) ≡ false) (y.1 x.0)
+    (subst (λ (i : ℕ). is_lt (pair_cmp (get_or sorted i x.0) (get_or sorted k x.0)) ≡ false) (add-one k)
+    (ascends k x.0 (omega arith) (omega (arith, add-one k))))) in
     let below : IsBelow x.0.0.now y.0.0.now =
-        less_from (slice_cmp nat_cmp) nat_list_cmp_total x.0.0.now y.0.0.now (nat_cmp y.0.1 x.0.1) apart_here less in
+    less_from (slice_cmp nat_cmp) nat_list_cmp_total x.0.0.now y.0.0.now (nat_cmp y.0.1 x.0.1) apart_here less in
     let pair : IsPathBelow set x.0.1 y.0.1 = record { lower = x.0.0.now; upper = y.0.0.now; lower_at = xn; upper_at = yn; below = below } in
     subst (λ (i : ℕ). IsPathBelow set i (get_or (places_in sorted) (suc k) d)) (sym xi) (subst (IsPathBelow set x.0.1) (sym yi) pair)
 

@@ -4,6 +4,7 @@ mod Linked
 mod Placing
 mod Reached
 mod Remaining
+mod Rows
 mod Seeing
 mod Sorting
 mod Visited

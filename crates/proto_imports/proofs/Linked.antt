@@ -1,9 +1,9 @@
 -- Where the imports of a file lead.
-use Rattle.std.proofs.Common.{◌≡◌, ℕ, zero, suc, ◌+◌, ◌<◌, ◌≤◌, ◌⊎◌, ⊎_elim, Bool, true, false, List, [], ◌∷◌, ◌++◌, inl, inr, length, set, get_or, refl, sym, ap, ◌∙◌, subst, arith}
-use Rattle.std.specs.Prelude.{slice_get, Option, Some, None}
+use Rattle.std.proofs.Common.{◌≡◌, ℕ, zero, suc, ◌+◌, ◌<◌, ◌≤◌, ◌⊎◌, ⊎_elim, Bool, true, List, [], ◌∷◌, ◌++◌, inl, inr, length, set, refl, sym, ap, ◌∙◌, subst, arith}
+use Rattle.std.specs.Prelude.{slice_get, Some}
 use Rattle.std.proofs.lemmas.Bool.{cases_lt}
 use Rattle.std.proofs.lemmas.List.{length_push}
-use Rattle.std.proofs.lemmas.Option.{slice_get-get_or, slice_get_within, same_Some}
+use Rattle.std.proofs.lemmas.Option.{slice_get_within, same_Some}
 use Rattle.proto_file.specs.declared.file.Import.{Import}
 use Rattle.proto_imports.specs.Leading.{HasImport, HasPath, Leads, LeadsPublicly}
 use Rattle.proto_imports.specs.Faults.{IsFault, twice}
@@ -13,7 +13,7 @@ use Rattle.proto_imports.specs.declared.set.Member.{Member}
 use Rattle.proto_imports.specs.declared.links.Link.{Link}
 use Rattle.proto_imports.specs.declared.fault.ImportReason.TheVariants.{Twice}
 use Rattle.proto_imports.proofs.Visited.{ArePathsApart, import_one, leads_one}
-use Rattle.proto_imports.proofs.Judging.{AreImports, import_in, import_within, FreeBefore, free_more, twice_parts, free_all}
+use Rattle.proto_imports.proofs.Judging.{AreImports, import_within, FreeBefore, free_more, twice_parts, free_all}
 
 -- ---- one more element
 
@@ -51,7 +51,7 @@ some_at (x ∷ xs) zero l = (x, refl)
 some_at (x ∷ xs) (suc i) l = some_at xs i (omega arith)
 
 get_cases : (i n : ℕ) → i < n + 1 → (i < n) ⊎ (i ≡ n)
-get_cases i n l = elim (cases_lt i n) [ | inl old ↦ inl old | inr new ↦ inr (omega arith) ]
+get_cases i n l = elim (cases_lt i n) [ inl old ↦ inl old | inr new ↦ inr (omega arith) ]
 
 -- ---- the links of a file
 

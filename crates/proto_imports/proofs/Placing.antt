@@ -1,6 +1,6 @@
 -- The places of files by their paths.
 use Rattle.std.proofs.Common.{◌≡◌, ℕ, ◌+◌, ◌<◌, ◌≤◌, Bool, true, false, cond, List, [], inl, inr, length, get_or, refl, sym, ap, ◌∙◌, subst, arith}
-use Rattle.std.specs.Prelude.{slice_get, MatchOption, Option, Some, None}
+use Rattle.std.specs.Prelude.{MatchOption, Option, Some, None}
 use Rattle.std.specs.Borrow.{Bor}
 use Rattle.std.specs.Map.{lookup}
 use Rattle.std.specs.Ordering.{nat_cmp, is_eq}
@@ -61,7 +61,7 @@ choose set i d path true o p l is e h =
     subst (Places set (i + 1) path) (sym e) at
 choose set i d path false o p l is e h =
     let other : (get_or set i d).path ≡ path → ⊥ =
-        λ same. (let t : is_eq (slice_cmp nat_cmp (get_or set i d).path path) ≡ true = bytes_same (get_or set i d).path path same in cc) in
+    λ same. (let t : is_eq (slice_cmp nat_cmp (get_or set i d).path path) ≡ true = bytes_same (get_or set i d).path path same in cc) in
     subst (Places set (i + 1) path) (sym e) (older set i d path o l other h)
 
 pub before_more : (set : List Member) (i : ℕ) (d : Member) (old new : Paths) → i < length set → ((path : List ℕ) → place_in new path ≡ cond (is_eq (slice_cmp nat_cmp (get_or set i d).path path)) (Some i) (place_in old path)) → KnowsBefore set i old → KnowsBefore set (i + 1) new

@@ -1,25 +1,25 @@
 -- What is answered, and which fault is the first.
-use Rattle.std.proofs.Common.{◌≡◌, ℕ, zero, suc, ◌+◌, ◌<◌, ◌≤◌, inl, inr, List, [], ◌∷◌, length, get_or, refl, sym, ap, ◌∙◌, subst, arith}
-use Rattle.std.specs.Prelude.{Contains, All, Some, slice_get}
+use Rattle.std.proofs.Common.{◌≡◌, ℕ, ◌<◌, inl, inr, List, [], ◌∷◌, length, get_or, refl, sym, ap, ◌∙◌, subst, arith}
+use Rattle.std.specs.Prelude.{Contains, All}
 use Rattle.std.specs.List.{AllZip}
-use Rattle.std.proofs.lemmas.Bool.{cases_lt, cases_order}
+use Rattle.std.proofs.lemmas.Bool.{cases_order}
 use Rattle.std.proofs.lemmas.List.Elements.{Contains-get_or}
 use Rattle.proto_file.specs.declared.file.Span.{Span}
 use Rattle.proto_file.specs.declared.file.Import.{Import}
-use Rattle.mrpc_table.specs.Valid.{Ascends, AreDistinct, IsBelow}
-use Rattle.proto_imports.specs.Leading.{HasImport, HasPath, Leads, Reaches, here, onward, IsInRing, Sees}
+use Rattle.mrpc_table.specs.Valid.{AreDistinct, IsBelow}
+use Rattle.proto_imports.specs.Leading.{HasImport, HasPath, Leads, Reaches, here, onward}
 use Rattle.proto_imports.specs.Visiting.{leaves, ring, VisitsRoot}
 use Rattle.proto_imports.specs.Faults.{IsFault, missing, twice, cycle, rank_of, ComesFirst, by_reason, by_file, by_statement, HasFault, IsSound}
 use Rattle.proto_imports.specs.Linking.{IsFree, AllLead}
-use Rattle.proto_imports.specs.Reaching.{HaveOwnPaths, IsPathBelow, IsJoined, AreSeen, IsReach}
+use Rattle.proto_imports.specs.Reaching.{IsPathBelow, IsJoined, AreSeen, IsReach}
 use Rattle.proto_imports.specs.Walking.{HasLeft, AreReached}
 use Rattle.proto_imports.specs.declared.set.Member.{Member}
 use Rattle.proto_imports.specs.declared.set.Reach.{Reach}
 use Rattle.proto_imports.specs.declared.walk.Mark.{Mark}
 use Rattle.proto_imports.specs.declared.fault.ImportReason.{ImportReason}
 use Rattle.proto_imports.specs.declared.fault.ImportReason.TheVariants.{Missing, Twice, Cycle}
-use Rattle.proto_imports.proofs.Visited.{ArePathsApart, import_one, paths_apart, root_one, ring_is, none_in_ring, root_reaches, cons_more, cons_cases}
-use Rattle.proto_imports.proofs.Judging.{missing_parts, twice_parts, cycle_parts, rank_one}
+use Rattle.proto_imports.proofs.Visited.{ArePathsApart, import_one, root_one, ring_is, none_in_ring, root_reaches, cons_more, cons_cases}
+use Rattle.proto_imports.proofs.Judging.{cycle_parts}
 use Rattle.proto_imports.proofs.Linked.{link_file, path_same}
 use Rattle.proto_imports.proofs.Sorting.{below_trans, below_strict, ascends_same}
 
@@ -89,7 +89,7 @@ pub fault_one : {set : List Member} {q r : ImportReason} {i j : ℕ} {s t : Span
 fault_one {set} {q} {r} {i} {j} {s} {t} a b =
     let same = first_one (a.first r j b.n b.at_fault) (b.first q i a.n a.at_fault) in
     let at : HasImport set j b.n a.import =
-        subst (λ (k : ℕ). HasImport set k b.n a.import) same.1 (subst (λ (m : ℕ). HasImport set i m a.import) same.2 a.import_at) in
+    subst (λ (k : ℕ). HasImport set k b.n a.import) same.1 (subst (λ (m : ℕ). HasImport set i m a.import) same.2 a.import_at) in
     let one : a.import ≡ b.import = import_one at b.import_at in
     (same.0, same.1, a.span_is ∙ ap (λ (x : Import). x.span) one ∙ sym b.span_is)
 
@@ -141,7 +141,7 @@ others_in {set} {a} {b} x y z c =
 order_one : {set : List Member} {a b : List ℕ} → IsJoined set a → IsJoined set b → a ≡ b
 order_one {set} x y =
     let same : x.others ≡ y.others =
-        ascends_same (IsPathBelow set) (path_trans set) (path_strict set) x.others y.others x.ascend y.ascend (others_in x y) (others_in y x) in
+    ascends_same (IsPathBelow set) (path_trans set) (path_strict set) x.others y.others x.ascend y.ascend (others_in x y) (others_in y x) in
     x.root_first ∙ ap (λ (ks : List ℕ). 0 ∷ ks) same ∙ sym y.root_first
 
 less_trans : (x y z : ℕ) → x < y → y < z → x < z
@@ -170,6 +170,6 @@ pub reach_one : {set : List Member} {a b : Reach} → IsReach set a → IsReach 
 reach_one {set} {a} {b} x y =
     let order : a.order ≡ b.order = order_one x.order y.order in
     let sees : a.sees ≡ b.sees =
-        sees_one set b.order a.sees b.sees (subst (λ (ks : List ℕ). AllZip (AreSeen set) ks a.sees) order x.sees) y.sees in
+    sees_one set b.order a.sees b.sees (subst (λ (ks : List ℕ). AllZip (AreSeen set) ks a.sees) order x.sees) y.sees in
     let made : List ℕ → List (List ℕ) → Reach = λ ks ls. record { order = ks; sees = ls } in
     ap (λ ks. made ks a.sees) order ∙ ap (λ ls. made b.order ls) sees

@@ -1,13 +1,13 @@
 -- What a file sees.
-use Rattle.std.proofs.Common.{◌≡◌, ℕ, zero, suc, ◌+◌, ◌*◌, ◌<◌, ◌≤◌, ◌⊎◌, ⊎_elim, inl, inr, Bool, true, false, List, [], ◌∷◌, ◌++◌, length, get_or, set, take, replicate, refl, sym, ap, ◌∙◌, subst, arith, length-set}
+use Rattle.std.proofs.Common.{◌≡◌, ℕ, zero, suc, ◌+◌, ◌<◌, ◌≤◌, ◌⊎◌, inl, inr, Bool, true, false, List, [], ◌∷◌, ◌++◌, length, get_or, set, take, replicate, refl, sym, ap, ◌∙◌, subst, arith, length-set}
 use Rattle.std.specs.Prelude.{Contains, All, Some, slice_get, Result, Ok, Err, IfOk}
 use Rattle.std.specs.List.{AllZip}
 use Rattle.std.proofs.lemmas.Bool.{cases_lt, cases_eq}
 use Rattle.std.proofs.lemmas.List.{take_more, take_all, length_push, length-replicate, get_or_append_left}
-use Rattle.std.proofs.lemmas.List.Elements.{All-push, All-append, All-contains, Contains-append_left, Contains-push, Contains-push_cases}
+use Rattle.std.proofs.lemmas.List.Elements.{All-push, All-contains, Contains-append_left, Contains-push, Contains-push_cases}
 use Rattle.std.proofs.lemmas.Option.{slice_get_within, same_Some, slice_get-get_or}
 use Rattle.mrpc_table.specs.Valid.{Ascends}
-use Rattle.proto_imports.specs.Leading.{Leads, LeadsPublicly, Sees, itself, imported, publicly}
+use Rattle.proto_imports.specs.Leading.{LeadsPublicly, Sees, itself, imported, publicly}
 use Rattle.proto_imports.specs.Linking.{AreLinks}
 use Rattle.proto_imports.specs.Reaching.{AreSeen}
 use Rattle.proto_imports.specs.Seeing.{IsMarked, unmarked, work_of, MarksMore, IsLinked, IsLinkedPublicly, SeesSoFar}
@@ -44,7 +44,7 @@ pub more_one : (file : ℕ) (old new : Seen) → slice_get old.marks.items file 
 more_one file old new at marks next =
     let count : length new.marks.items ≡ length old.marks.items = ap length marks ∙ length-set old.marks.items file true in
     let here : IsMarked new file =
-        ap (λ (bs : List Bool). slice_get bs file) marks ∙ get_set_same old.marks.items file true (slice_get_within old.marks.items file false at) in
+    ap (λ (bs : List Bool). slice_get bs file) marks ∙ get_set_same old.marks.items file true (slice_get_within old.marks.items file false at) in
     let last : Contains new.next.items file = subst (λ (ks : List ℕ). Contains ks file) (sym next) (Contains-push old.next.items file) in
     record {
       count = count;
@@ -86,7 +86,7 @@ pub more_then : (P Q R : ℕ → Type 0) (a b c : Seen) → MarksMore P a b → 
 more_then P Q R a b c f g split left right = record {
   count = g.count ∙ f.count;
   keeps = λ i m. g.keeps i (f.keeps i m);
-  those = λ i r. elim (split i r) [ | inl p ↦ g.keeps i (f.those i p) | inr q ↦ g.those i q ];
+  those = λ i r. elim (split i r) [ inl p ↦ g.keeps i (f.those i p) | inr q ↦ g.those i q ];
   alone = λ i m. elim (g.alone i m) [
     | inl before ↦ elim (f.alone i before) [
       | inl older ↦ inl older
@@ -96,7 +96,7 @@ more_then P Q R a b c f g split left right = record {
   ];
   waits = λ i k. g.waits i (f.waits i k);
   fresh = λ i k. elim (g.fresh i k) [
-    | inl before ↦ elim (f.fresh i before) [ | inl older ↦ inl older | inr p ↦ inr (left i p) ]
+    | inl before ↦ elim (f.fresh i before) [ inl older ↦ inl older | inr p ↦ inr (left i p) ]
     | inr q ↦ inr (right i q)
   ];
   within = λ all. g.within (f.within all);
@@ -108,9 +108,9 @@ more_as P Q a b to from f = record {
   count = f.count;
   keeps = f.keeps;
   those = λ i q. f.those i (from i q);
-  alone = λ i m. elim (f.alone i m) [ | inl old ↦ inl old | inr new ↦ inr (to i new.0, new.1) ];
+  alone = λ i m. elim (f.alone i m) [ inl old ↦ inl old | inr new ↦ inr (to i new.0, new.1) ];
   waits = f.waits;
-  fresh = λ i c. elim (f.fresh i c) [ | inl old ↦ inl old | inr p ↦ inr (to i p) ];
+  fresh = λ i c. elim (f.fresh i c) [ inl old ↦ inl old | inr p ↦ inr (to i p) ];
   within = f.within;
   less = f.less;
 }
@@ -163,7 +163,7 @@ public_more links i d a b c l is f g =
     let xs = take i links in
     subst (λ (ls : List Link). MarksMore (IsLinkedPublicly ls) a c) (sym (take_more links i d l))
     (more_then (IsLinkedPublicly xs) (λ k. k ≡ x.file) (IsLinkedPublicly (xs ++ x ∷ [])) a b c f g
-    (λ k h. elim (public_cases xs x k h) [ | inl old ↦ inl old | inr new ↦ inr new.0 ]) (public_front xs x) (public_last xs x is))
+    (λ k h. elim (public_cases xs x k h) [ inl old ↦ inl old | inr new ↦ inr new.0 ]) (public_front xs x) (public_last xs x is))
 
 pub public_skip : (links : List Link) (i : ℕ) (d : Link) (a b : Seen) → i < length links → (get_or links i d).public ≡ false → MarksMore (IsLinkedPublicly (take i links)) a b → MarksMore (IsLinkedPublicly (take (i + 1) links)) a b
 public_skip links i d a b l is f =
@@ -171,7 +171,7 @@ public_skip links i d a b l is f =
     let xs = take i links in
     subst (λ (ls : List Link). MarksMore (IsLinkedPublicly ls) a b) (sym (take_more links i d l))
     (more_as (IsLinkedPublicly xs) (IsLinkedPublicly (xs ++ x ∷ [])) a b (public_front xs x)
-    (λ k h. elim (public_cases xs x k h) [ | inl old ↦ old | inr new ↦ absurd (let e = sym is ∙ new.1 in let bad : false ≡ true = e in cc) ]) f)
+    (λ k h. elim (public_cases xs x k h) [ inl old ↦ old | inr new ↦ absurd (let e = sym is ∙ new.1 in let bad : false ≡ true = e in cc) ]) f)
 
 pub public_all : (links : List Link) (i : ℕ) (a b : Seen) → length links ≤ i → MarksMore (IsLinkedPublicly (take i links)) a b → MarksMore (IsLinkedPublicly links) a b
 public_all links i a b l f = subst (λ (ls : List Link). MarksMore (IsLinkedPublicly ls) a b) (take_all i links l) f
@@ -241,18 +241,18 @@ links_within {set'} {i} {links} h n e = λ k d l.
 pub sees_start : (set' : List Member) (i n : ℕ) (links : List Link) (a b c : Seen) → ArePathsApart set' → n ≡ length set' → AreLinks set' i links → a.marks.items ≡ replicate n false → a.next.items ≡ [] → MarksMore (λ k. k ≡ i) a b → MarksMore (IsLinked links) b c → SeesSoFar set' i c
 sees_start set' i n links a b c own count known marks next one all =
     let alone : (j : ℕ) → IsMarked c j → ((j ≡ i) ⊎ IsLinked links j) × Contains c.next.items j =
-        λ j m. elim (all.alone j m) [
-          | inl before ↦ elim (one.alone j before) [
-            | inl older ↦ absurd (none_marked n j (sym (ap (λ (bs : List Bool). slice_get bs j) marks) ∙ older))
-            | inr new ↦ (inl new.0, all.waits j new.1)
-          ]
-          | inr new ↦ (inr new.0, new.1)
-        ] in
+    λ j m. elim (all.alone j m) [
+      | inl before ↦ elim (one.alone j before) [
+        | inl older ↦ absurd (none_marked n j (sym (ap (λ (bs : List Bool). slice_get bs j) marks) ∙ older))
+        | inr new ↦ (inl new.0, all.waits j new.1)
+      ]
+      | inr new ↦ (inr new.0, new.1)
+    ] in
     let sees : (j : ℕ) → (j ≡ i) ⊎ IsLinked links j → Sees set' i j =
-        λ j h. elim h [
-          | inl same ↦ subst (Sees set' i) (sym same) itself
-          | inr link ↦ subst (Sees set' i) link.3 (imported (link_leads known link.0 link.1 link.2))
-        ] in
+    λ j h. elim h [
+      | inl same ↦ subst (Sees set' i) (sym same) itself
+      | inr link ↦ subst (Sees set' i) link.3 (imported (link_leads known link.0 link.1 link.2))
+    ] in
     let total : length c.marks.items ≡ length set' = all.count ∙ one.count ∙ ap length marks ∙ length-replicate n false ∙ count in
     record {
       count = total;
@@ -281,11 +281,11 @@ sees_more set' i j links old popped new own known marks next more h =
     let is : (k : ℕ) → IsMarked popped k → IsMarked old k = λ k m. sym (ap (λ (bs : List Bool). slice_get bs k) marks) ∙ m in
     let here : Sees set' i j = h.waiting j (subst (λ (ks : List ℕ). Contains ks j) (sym next) (Contains-push popped.next.items j)) in
     let sees : (k : ℕ) → IsLinkedPublicly links k → Sees set' i k =
-        λ k l. subst (Sees set' i) l.4 (publicly here (link_public known l.0 l.1 l.2 l.3)) in
+    λ k l. subst (Sees set' i) l.4 (publicly here (link_public known l.0 l.1 l.2 l.3)) in
     let total : length new.marks.items ≡ length set' = more.count ∙ ap length marks ∙ h.count in
     record {
       count = total;
-      sound = λ k m. elim (more.alone k m) [ | inl before ↦ h.sound k (is k before) | inr now ↦ sees k now.0 ];
+      sound = λ k m. elim (more.alone k m) [ inl before ↦ h.sound k (is k before) | inr now ↦ sees k now.0 ];
       start = more.keeps i (was i h.start);
       imported = λ n k l. more.keeps k (was k (h.imported n k l));
       closed = λ a n k marked l. elim (more.alone a marked) [

@@ -1,11 +1,10 @@
 -- Lists that were sorted, and lists that have no element twice.
-use Rattle.std.proofs.Common.{◌≡◌, ◌≢◌, ℕ, zero, suc, ◌+◌, ◌<◌, ◌≤◌, inl, inr, false, List, [], ◌∷◌, ◌++◌, length, get_or, take, refl, sym, ap, ◌∙◌, subst, arith}
-use Rattle.std.specs.Prelude.{Contains, Some, slice_get}
+use Rattle.std.proofs.Common.{◌≡◌, ◌≢◌, ℕ, zero, suc, ◌<◌, inl, inr, false, List, [], ◌∷◌, ◌++◌, length, get_or, refl, sym, ap, ◌∙◌, subst, arith}
+use Rattle.std.specs.Prelude.{Contains, Some}
 use Rattle.std.specs.List.{swap}
 use Rattle.std.specs.List.Sorted.{IsPermutation}
 use Rattle.std.specs.Cmp.{IsTotalOrder}
-use Rattle.std.specs.Cmp.Lexicographic.{slice_cmp}
-use Rattle.std.specs.Ordering.{is_lt, nat_cmp, ordering_then, ordering_reverse}
+use Rattle.std.specs.Ordering.{is_lt, ordering_then, ordering_reverse}
 use Rattle.std.specs.declared.cmp.Ordering.{Ordering}
 use Rattle.std.specs.declared.cmp.Ordering.TheVariants.{Less, Equal, Greater}
 use Rattle.std.proofs.lemmas.Bool.{false≢true, cases_eq}
@@ -13,7 +12,7 @@ use Rattle.std.proofs.lemmas.Cmp.{tied_itself, nat_list_cmp_total}
 use Rattle.std.proofs.lemmas.List.{get_or_default}
 use Rattle.std.proofs.lemmas.List.Edits.{swapped_from_swap, length-swap}
 use Rattle.std.proofs.lemmas.List.Sorted.{IsPermutation-keeps}
-use Rattle.std.proofs.lemmas.Option.{slice_get_within, slice_get-get_or, get_or_from_slice_get}
+use Rattle.std.proofs.lemmas.Option.{slice_get-get_or}
 use Rattle.mrpc_table.specs.Valid.{Ascends, AreDistinct, IsBelow}
 use Rattle.proto_imports.proofs.Visited.{cons_here, cons_more, cons_cases}
 use Rattle.proto_imports.proofs.Walked.{Once}
@@ -174,8 +173,8 @@ ascends_same R trans strict (x ∷ xs) [] h k to from = absurd (let c = to x (co
 ascends_same {X} R trans strict (x ∷ xs) (y ∷ ys) h k to from =
     let e : x ≡ y = same_first R trans strict x y xs ys h k (to x (cons_here x xs)) (from y (cons_here y ys)) in
     let rest : xs ≡ ys =
-        ascends_same R trans strict xs ys (ascends_rest R x xs h) (ascends_rest R y ys k)
-        (rest_contains R trans strict x y xs ys h e to) (rest_contains R trans strict y x ys xs k (sym e) from) in
+    ascends_same R trans strict xs ys (ascends_rest R x xs h) (ascends_rest R y ys k)
+    (rest_contains R trans strict x y xs ys h e to) (rest_contains R trans strict y x ys xs k (sym e) from) in
     cc
 
 -- one more at the end

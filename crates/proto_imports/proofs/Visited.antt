@@ -1,13 +1,12 @@
 -- What comes of visiting a file: one outcome, a ring that is one, and files that no imports lead back to.
-use Rattle.std.proofs.Common.{◌≡◌, ℕ, zero, suc, ◌+◌, ◌<◌, ◌≤◌, ◌⊎◌, ⊎_elim, inl, inr, List, [], ◌∷◌, ◌++◌, length, get_or, Some, None, refl, ap, sym, ◌∙◌, subst, arith}
+use Rattle.std.proofs.Common.{◌≡◌, ℕ, zero, suc, ◌+◌, ◌<◌, ◌≤◌, ◌⊎◌, inl, inr, List, [], ◌∷◌, ◌++◌, length, get_or, Some, refl, ap, sym, ◌∙◌, subst, arith}
 use Rattle.std.specs.Prelude.{slice_get, Contains, map}
 use Rattle.std.proofs.lemmas.Bool.{cases_lt, cases_eq}
-use Rattle.std.proofs.lemmas.List.{get_or-map, length-map}
-use Rattle.std.proofs.lemmas.List.Elements.{Contains-append_left, Contains-append_right, Contains-push, Contains-push_cases}
+use Rattle.std.proofs.lemmas.List.Elements.{Contains-append_left, Contains-push, Contains-push_cases}
 use Rattle.std.proofs.lemmas.Option.{slice_get_within, same_Some, get_or_from_slice_get, slice_get-get_or}
 use Rattle.proto_file.specs.declared.file.Import.{Import}
 use Rattle.mrpc_table.specs.Valid.{AreDistinct}
-use Rattle.proto_imports.specs.Leading.{HasImport, HasPath, Leads, LeadsPublicly, Reaches, here, onward, IsInRing}
+use Rattle.proto_imports.specs.Leading.{HasImport, HasPath, Leads, Reaches, here, onward, IsInRing}
 use Rattle.proto_imports.specs.Visiting.{HasNoImport, IsNew, Outcome, leaves, ring, Visits, ends, closes, passes, enters, meets, VisitsRoot}
 use Rattle.proto_imports.specs.Reaching.{HaveOwnPaths}
 use Rattle.proto_imports.specs.declared.set.Member.{Member}
@@ -156,7 +155,7 @@ visits_one {left = left} apart at (enters l new v w) (passes l' c' v') =
     absurd (new.unleft (subst (Contains left) (leads_one apart l' l) c'))
 visits_one {set} {within} {left} {i} {n} {p = p} apart at (enters {after = mid} {j = j} l new v w) (enters {after = mid'} {j = k} l' new' v' w') =
     let v2 : Visits set (within ++ i ∷ []) left j 0 (leaves mid') =
-        subst (λ (x : ℕ). Visits set (within ++ i ∷ []) left x 0 (leaves mid')) (leads_one apart l' l) v' in
+    subst (λ (x : ℕ). Visits set (within ++ i ∷ []) left x 0 (leaves mid')) (leads_one apart l' l) v' in
     let same : leaves mid ≡ leaves mid' = visits_one apart (new_at (within ++ i ∷ []) left j at.1 new) v v2 in
     let e : mid ≡ mid' = cc in
     let w2 : Visits set within mid i (n + 1) p = subst (λ (x : List ℕ). Visits set within x i (n + 1) p) (sym e) w' in
@@ -164,7 +163,7 @@ visits_one {set} {within} {left} {i} {n} {p = p} apart at (enters {after = mid} 
     visits_one apart on w w2
 visits_one {set} {within} {left} {i} apart at (enters {after = mid} {j = j} l new v w) (meets {k = a} {m = b} l' new' v') =
     let v2 : Visits set (within ++ i ∷ []) left j 0 (ring a b) =
-        subst (λ (x : ℕ). Visits set (within ++ i ∷ []) left x 0 (ring a b)) (leads_one apart l' l) v' in
+    subst (λ (x : ℕ). Visits set (within ++ i ∷ []) left x 0 (ring a b)) (leads_one apart l' l) v' in
     let same : leaves mid ≡ ring a b = visits_one apart (new_at (within ++ i ∷ []) left j at.1 new) v v2 in
     absurd cc
 visits_one apart at (meets l new v) (ends none) = absurd (leads_has l none)
@@ -174,12 +173,12 @@ visits_one {left = left} apart at (meets l new v) (passes l' c' v') =
     absurd (new.unleft (subst (Contains left) (leads_one apart l' l) c'))
 visits_one {set} {within} {left} {i} apart at (meets {j = j} {k = a} {m = b} l new v) (enters {after = mid} l' new' v' w') =
     let v2 : Visits set (within ++ i ∷ []) left j 0 (leaves mid) =
-        subst (λ (x : ℕ). Visits set (within ++ i ∷ []) left x 0 (leaves mid)) (leads_one apart l' l) v' in
+    subst (λ (x : ℕ). Visits set (within ++ i ∷ []) left x 0 (leaves mid)) (leads_one apart l' l) v' in
     let same : ring a b ≡ leaves mid = visits_one apart (new_at (within ++ i ∷ []) left j at.1 new) v v2 in
     absurd cc
 visits_one {set} {within} {left} {i} apart at (meets {j = j} l new v) (meets {k = a} {m = b} l' new' v') =
     let v2 : Visits set (within ++ i ∷ []) left j 0 (ring a b) =
-        subst (λ (x : ℕ). Visits set (within ++ i ∷ []) left x 0 (ring a b)) (leads_one apart l' l) v' in
+    subst (λ (x : ℕ). Visits set (within ++ i ∷ []) left x 0 (ring a b)) (leads_one apart l' l) v' in
     visits_one apart (new_at (within ++ i ∷ []) left j at.1 new) v v2
 
 none_in : (k : ℕ) → Contains {X = ℕ} [] k → ⊥

@@ -1,11 +1,11 @@
 -- How a walk stands, and what comes of it.
-use Rattle.std.proofs.Common.{◌≡◌, Bool, true, false, ℕ, zero, suc, ◌+◌, ◌<◌, ◌≤◌, inl, inr, List, [], ◌∷◌, ◌++◌, length, set, replicate, refl, sym, ap, ◌∙◌, subst, arith, length-set}
-use Rattle.std.specs.Prelude.{slice_get, Option, Some, None, Contains, map}
+use Rattle.std.proofs.Common.{◌≡◌, Bool, true, false, ℕ, zero, suc, ◌<◌, ◌≤◌, inl, inr, List, [], ◌∷◌, ◌++◌, length, set, replicate, refl, sym, ap, ◌∙◌, subst, arith, length-set}
+use Rattle.std.specs.Prelude.{slice_get, Some, Contains, map}
 use Rattle.std.proofs.lemmas.Bool.{cases_eq}
-use Rattle.std.proofs.lemmas.List.{map_push, length_push, same_from_push, length-replicate}
+use Rattle.std.proofs.lemmas.List.{map_push, same_from_push, length-replicate}
 use Rattle.std.proofs.lemmas.List.Elements.{Contains-append_left, Contains-push, Contains-push_cases}
 use Rattle.std.proofs.lemmas.Option.{slice_get_within, same_Some}
-use Rattle.proto_imports.specs.Leading.{HasImport, Leads}
+use Rattle.proto_imports.specs.Leading.{Leads}
 use Rattle.proto_imports.specs.Visiting.{HasNoImport, IsNew, Outcome, leaves, ring, Visits, ends, closes, passes, enters, meets, VisitsRoot}
 use Rattle.proto_imports.specs.Linking.{AreLinks}
 use Rattle.proto_imports.specs.Walking.{next_frame, first_frame, Follows, enters as to_new, closes as to_visited, passes as to_left, HasLeft}
@@ -50,12 +50,12 @@ parts_at rest f e done = absurd (no_frames rest f e)
 parts_at {set} {left = left} rest f e (in_ring {k = k} {m = m} rest' g is v) =
     let same = same_from_push rest rest' f g (sym e ∙ is) in
     let v2 : Visits set (files_of rest) left g.file g.next (ring k m) =
-        subst (λ (r : List Frame). Visits set (files_of r) left g.file g.next (ring k m)) (sym same.0) v in
+    subst (λ (r : List Frame). Visits set (files_of r) left g.file g.next (ring k m)) (sym same.0) v in
     part_ring (subst (λ (x : Frame). Visits set (files_of rest) left x.file x.next (ring k m)) (sym same.1) v2)
 parts_at {set} {left = left} {outcome} rest f e (goes {after = after} rest' g is v r) =
     let same = same_from_push rest rest' f g (sym e ∙ is) in
     let v2 : Visits set (files_of rest) left g.file g.next (leaves after) =
-        subst (λ (q : List Frame). Visits set (files_of q) left g.file g.next (leaves after)) (sym same.0) v in
+    subst (λ (q : List Frame). Visits set (files_of q) left g.file g.next (leaves after)) (sym same.0) v in
     part_goes (subst (λ (x : Frame). Visits set (files_of rest) left x.file x.next (leaves after)) (sym same.1) v2)
     (subst (λ (q : List Frame). Resumes set q after outcome) (sym same.0) r)
 
@@ -85,7 +85,7 @@ enter_parts {set} {left} {j} rest f l new (part_ring {k = k} {m = m} v) =
     part_ring (meets l new (subst (λ (fs : List ℕ). Visits set fs left j 0 (ring k m)) (files_next rest f) v))
 enter_parts {set} {left} {j} rest f l new (part_goes {after = after} v r) =
     let v2 : Visits set (files_of rest ++ f.file ∷ []) left j 0 (leaves after) =
-        subst (λ (fs : List ℕ). Visits set fs left j 0 (leaves after)) (files_next rest f) v in
+    subst (λ (fs : List ℕ). Visits set fs left j 0 (leaves after)) (files_next rest f) v in
     entered rest f l new v2 (parts_at rest (next_frame f) refl r)
 
 -- ---- what the marks show
@@ -152,7 +152,7 @@ shows_entered {set'} {visiting} {left} {marks} j h new =
         λ e. elim (cases_eq k j) [
           | inl same ↦
               let at : slice_get (set marks j Visiting) k ≡ Some Visiting =
-                  subst (λ (i : ℕ). slice_get (set marks j Visiting) i ≡ Some Visiting) (sym same) (get_set_same marks j Visiting within) in
+              subst (λ (i : ℕ). slice_get (set marks j Visiting) i ≡ Some Visiting) (sym same) (get_set_same marks j Visiting within) in
               absurd (let bad : Visiting ≡ Left = mark_same (set marks j Visiting) k at e in cc)
           | inr other ↦ (h.gone k).0 (sym (get_set_other marks j k Visiting other) ∙ e)
         ],
@@ -173,7 +173,7 @@ shows_left {set'} {rest} {left} {marks} i h =
         λ e. elim (cases_eq k i) [
           | inl same ↦
               let here : slice_get (set marks i Left) k ≡ Some Left =
-                  subst (λ (j : ℕ). slice_get (set marks i Left) j ≡ Some Left) (sym same) (get_set_same marks i Left within) in
+              subst (λ (j : ℕ). slice_get (set marks i Left) j ≡ Some Left) (sym same) (get_set_same marks i Left within) in
               absurd (let bad : Left ≡ Visiting = mark_same (set marks i Left) k here e in cc)
           | inr other ↦ elim (Contains-push_cases rest i k ((h.visited k).0 (sym (get_set_other marks i k Left other) ∙ e))) [
             | inl old ↦ old
@@ -239,7 +239,7 @@ walk_passed {set'} {rest} {f} {marks} {j} h l mark = record {
 pub walk_entered : {set' : List Member} {rest : List Frame} {f : Frame} {marks : List Mark} {j : ℕ} → IsInnermost set' rest f marks → Leads set' f.file f.next j → slice_get marks j ≡ Some New → IsWalk set' ((rest ++ next_frame f ∷ []) ++ first_frame j ∷ []) (set marks j Visiting)
 walk_entered {set'} {rest} {f} {marks} {j} h l mark =
     let is : files_of ((rest ++ next_frame f ∷ []) ++ first_frame j ∷ []) ≡ (files_of rest ++ f.file ∷ []) ++ j ∷ [] =
-        map_push file_of (rest ++ next_frame f ∷ []) (first_frame j) ∙ ap (λ (fs : List ℕ). fs ++ j ∷ []) (files_next rest f) in
+    map_push file_of (rest ++ next_frame f ∷ []) (first_frame j) ∙ ap (λ (fs : List ℕ). fs ++ j ∷ []) (files_next rest f) in
     record {
       left = h.left;
       shows = subst (λ (fs : List ℕ). Shows set' fs h.left (set marks j Visiting)) (sym is) (shows_entered j h.shows mark);

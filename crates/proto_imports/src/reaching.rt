@@ -31,12 +31,7 @@ pub fn reach(alloc: Global, members: &[Member]) -> Result<Reach, ImportFault>
     judge_all(members, &paths)?;
     let graph = Graph::new(alloc, members, &paths)?;
     match visit_root(alloc, &graph)? {
-        Walked::Ring(frame) => Err(fault_at(
-            members,
-            ImportReason::Cycle,
-            frame.file,
-            frame.next,
-        )),
+        Walked::Ring(frame) => Err(fault_at(members, ImportReason::Cycle, frame.file, frame.next)),
         Walked::Left(marks) => {
             let order = joined(alloc, members, &marks)?;
             let sees = all_seen(alloc, &graph, order.as_slice())?;

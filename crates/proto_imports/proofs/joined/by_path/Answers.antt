@@ -20,14 +20,14 @@ loop-i-preserved c =
     elim c.if-is_left.branch [
       | then-is_left+in_ok-push w ↦
           let left : slice_get marks i ≡ Some Left =
-              slice_get-get_or marks i New within ∙ ap Some (c.is_left.ensures.0 w.if-is_left.true) in
+          slice_get-get_or marks i New within ∙ ap Some (c.is_left.ensures.0 w.if-is_left.true) in
           let e : c.if-is_left.pairs.items ≡ c.loop-i.pairs.items ++ (w.as_slice.result, i) ∷ [] =
-              ap (λ (v : Vec Pair Global). v.items) w.pairs-is ∙ w.in_ok-push.ensures.items in
+          ap (λ (v : Vec Pair Global). v.items) w.pairs-is ∙ w.in_ok-push.ensures.items in
           others_more set marks i w.index-members-i.result w.as_slice.result c.loop-i.pairs.items c.if-is_left.pairs.items
           c.loop-i-test.true c.loop-i.auto.i left w.as_slice.ensures e c.loop-i.invariant
       | else-is_left w ↦
           let other : slice_get marks i ≡ Some Left → ⊥ = λ at.
-              false≢true (sym w.if-is_left.false ∙ c.is_left.ensures.1 (get_or_from_slice_get marks i Left New at)) in
+          false≢true (sym w.if-is_left.false ∙ c.is_left.ensures.1 (get_or_from_slice_get marks i Left New at)) in
           others_skip set marks i c.loop-i.pairs.items c.if-is_left.pairs.items other
           (ap (λ (v : Vec Pair Global). v.items) w.pairs-is) c.loop-i.invariant
     ]

@@ -1,6 +1,4 @@
-use Rattle.std.proofs.Common.{◌≡◌, ◌<◌, false, true, get_or, sym, ap, ◌∙◌, arith}
-use Rattle.std.specs.Prelude.{is_some, not}
-use Rattle.std.proofs.lemmas.Bool.{not_from_true}
+use Rattle.std.proofs.Common.{get_or, ap, ◌∙◌, arith}
 use Rattle.proto_imports.specs.Faults.{missing}
 use Rattle.proto_imports.specs.Linking.{place_in}
 use Rattle.proto_imports.specs.declared.fault.ImportReason.TheVariants.{Missing}
@@ -18,7 +16,7 @@ returns-then-is_none-clause-fault c =
     let x = get_or xs c.loop-n.n c.index-imports-n.result in
     let at = import_in h c.loop-n.n c.index-imports-n.result c.loop-n-test.true in
     let nobody = no_file set c.args.paths.now x.path c.place.result c.requires.paths
-        (c.place.ensures ∙ ap (λ p. place_in c.args.paths.now p) c.as_slice.ensures) (c.if-is_none.ensures) in
+    (c.place.ensures ∙ ap (λ p. place_in c.args.paths.now p) c.as_slice.ensures) (c.if-is_none.ensures) in
     record {
       n = c.loop-n.n;
       import = x;
@@ -35,7 +33,7 @@ loop-n-preserved c =
     let h = imports_of set c.args.file c.index-members-file.result xs c.requires.here c.as_slice-imports.ensures in
     let x = get_or xs c.loop-n.n c.index-imports-n.result in
     let has = has_some set c.args.paths.now x.path c.place.result c.requires.paths
-        (c.place.ensures ∙ ap (λ p. place_in c.args.paths.now p) c.as_slice.ensures) (c.if-is_none.ensures) in
+    (c.place.ensures ∙ ap (λ p. place_in c.args.paths.now p) c.as_slice.ensures) (c.if-is_none.ensures) in
     free_more set Missing c.args.file c.loop-n.n c.loop-n.invariant
     (not_missing set c.args.file c.loop-n.n has.0 xs c.index-imports-n.result h c.loop-n-test.true has.1)
 

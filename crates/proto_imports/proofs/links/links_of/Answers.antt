@@ -1,13 +1,10 @@
-use Rattle.std.proofs.Common.{◌≡◌, ℕ, List, Some, get_or, length, refl, sym, ap, ◌∙◌, subst, arith}
+use Rattle.std.proofs.Common.{List, get_or, sym, ap, ◌∙◌, subst}
 use Rattle.std.proofs.lemmas.Bool.{false≢true}
 use Rattle.proto_file.specs.declared.file.Import.{Import}
-use Rattle.proto_imports.specs.Leading.{HasPath}
 use Rattle.proto_imports.specs.Linking.{place_in}
 use Rattle.proto_imports.specs.Faults.{missing}
 use Rattle.proto_imports.specs.Seeing.{IsLinked}
-use Rattle.proto_imports.specs.declared.set.Member.{Member}
 use Rattle.proto_imports.specs.declared.links.Link.{Link}
-use Rattle.proto_imports.specs.declared.paths.Paths.{Paths}
 use Rattle.proto_imports.proofs.Visited.{paths_apart}
 use Rattle.proto_imports.proofs.Judging.{imports_of, import_in, has_file, known_file}
 use Rattle.proto_imports.proofs.Linked.{links_none, links_more, links_all, once_all, linked_twice, unlinked_once}
@@ -41,9 +38,9 @@ returns-then-leads_to-clause-fault c = λ ne.
     let x = get_or xs c.loop-n.n c.index-imports-n.result in
     let at = import_in h c.loop-n.n c.index-imports-n.result c.loop-n-test.true in
     let has = has_file set c.args.paths.now x.path c.place.result c.unwrap-to.result c.requires.paths
-        (c.place.ensures ∙ ap (λ p. place_in c.args.paths.now p) (c.as_slice.ensures ∙ ap (λ (y : Import). y.path) c.index-imports-n.is)) c.unwrap-to.ensures in
+    (c.place.ensures ∙ ap (λ p. place_in c.args.paths.now p) (c.as_slice.ensures ∙ ap (λ (y : Import). y.path) c.index-imports-n.is)) c.unwrap-to.ensures in
     let linked : IsLinked c.loop-n.links c.unwrap-to.result =
-        subst (λ (ls : List Link). IsLinked ls c.unwrap-to.result) c.as_slice-in-loop-n.ensures (c.leads_to.ensures.0 c.if-leads_to.true) in
+    subst (λ (ls : List Link). IsLinked ls c.unwrap-to.result) c.as_slice-in-loop-n.ensures (c.leads_to.ensures.0 c.if-leads_to.true) in
     record {
       n = c.loop-n.n;
       import = x;
@@ -61,12 +58,12 @@ loop-n-preserved c =
     let x = get_or xs c.loop-n.n c.index-imports-n.result in
     let at = import_in h c.loop-n.n c.index-imports-n.result c.loop-n-test.true in
     let has = has_file set c.args.paths.now x.path c.place.result c.unwrap-to.result c.requires.paths
-        (c.place.ensures ∙ ap (λ p. place_in c.args.paths.now p) (c.as_slice.ensures ∙ ap (λ (y : Import). y.path) c.index-imports-n.is)) c.unwrap-to.ensures in
+    (c.place.ensures ∙ ap (λ p. place_in c.args.paths.now p) (c.as_slice.ensures ∙ ap (λ (y : Import). y.path) c.index-imports-n.is)) c.unwrap-to.ensures in
     let out : IsLinked c.loop-n.links c.unwrap-to.result → ⊥ = λ linked.
-        let there : IsLinked c.as_slice-in-loop-n.result.now c.unwrap-to.result =
-            subst (λ (ls : List Link). IsLinked ls c.unwrap-to.result) (sym c.as_slice-in-loop-n.ensures) linked in
-        let t = c.leads_to.ensures.1 there in
-        false≢true (sym c.if-leads_to.false ∙ t) in
+    let there : IsLinked c.as_slice-in-loop-n.result.now c.unwrap-to.result =
+    subst (λ (ls : List Link). IsLinked ls c.unwrap-to.result) (sym c.as_slice-in-loop-n.ensures) linked in
+    let t = c.leads_to.ensures.1 there in
+    false≢true (sym c.if-leads_to.false ∙ t) in
     let l : Link = record { file = c.unwrap-to.result; public = c.index-imports-n.result.public } in
     links_more set c.args.file c.loop-n.n x l c.loop-n.links c.push.new.self c.loop-n.invariant at has
     (ap (λ (y : Import). y.public) c.index-imports-n.is)

@@ -1,9 +1,8 @@
-use Rattle.std.proofs.Common.{◌≡◌, ℕ, ◌<◌, List, length, refl, sym, ap, ◌∙◌, subst, arith}
+use Rattle.std.proofs.Common.{ℕ, ◌<◌, List, length, sym, subst}
 use Rattle.std.specs.Prelude.{All}
 use Rattle.std.specs.List.{AllZip}
-use Rattle.proto_imports.specs.Visiting.{ring, VisitsRoot}
 use Rattle.proto_imports.specs.Reaching.{AreSeen}
-use Rattle.proto_imports.specs.Walking.{HasLeft, AreReached, CameOf}
+use Rattle.proto_imports.specs.Walking.{AreReached, CameOf}
 use Rattle.proto_imports.specs.declared.set.Member.{Member}
 use Rattle.proto_imports.specs.declared.set.Reach.{Reach}
 use Rattle.proto_imports.specs.declared.walk.Mark.{Mark}
@@ -17,7 +16,7 @@ pub fault_at-requires : goal.fault_at-requires
 fault_at-requires c =
     let set = c.args.members.now in
     let v : CameOf set (walked.Ring c.in-Ring.frame) =
-        subst (CameOf set) c.in-Ring.is (subst (λ (s : List Member). CameOf s c.in_ok-frame.field-0) c.in_ok-graph.ensures.graph c.in_ok-frame.ensures) in
+    subst (CameOf set) c.in-Ring.is (subst (λ (s : List Member). CameOf s c.in_ok-frame.field-0) c.in_ok-graph.ensures.graph c.in_ok-frame.ensures) in
     let r = ring_is v in
     (r.1.1.import, r.1.1.import_at)
 
@@ -25,7 +24,7 @@ pub returns-in-Ring-clause-fault : goal.returns-in-Ring-clause-fault
 returns-in-Ring-clause-fault c =
     let set = c.args.members.now in
     let v : CameOf set (walked.Ring c.in-Ring.frame) =
-        subst (CameOf set) c.in-Ring.is (subst (λ (s : List Member). CameOf s c.in_ok-frame.field-0) c.in_ok-graph.ensures.graph c.in_ok-frame.ensures) in
+    subst (CameOf set) c.in-Ring.is (subst (λ (s : List Member). CameOf s c.in_ok-frame.field-0) c.in_ok-graph.ensures.graph c.in_ok-frame.ensures) in
     let r = ring_is v in
     let x = r.1.1.import in
     let at = r.1.1.import_at in
@@ -36,7 +35,7 @@ pub joined-requires-clause-reached : goal.joined-requires-clause-reached
 joined-requires-clause-reached c =
     let set = c.args.members.now in
     let h : CameOf set (walked.Left c.in-Left.marks) =
-        subst (CameOf set) c.in-Left.is (subst (λ (s : List Member). CameOf s c.in_ok-frame.field-0) c.in_ok-graph.ensures.graph c.in_ok-frame.ensures) in
+    subst (CameOf set) c.in-Left.is (subst (λ (s : List Member). CameOf s c.in_ok-frame.field-0) c.in_ok-graph.ensures.graph c.in_ok-frame.ensures) in
     subst (λ (ms : List Mark). AreReached set ms) (sym c.deref.ensures.value)
     (left_are_reached set c.in-Left.marks.items (paths_apart c.requires.distinct) h)
 
@@ -51,13 +50,13 @@ pub returns-clause-reach : goal.returns-clause-reach
 returns-clause-reach c =
     let set = c.args.members.now in
     let h : CameOf set (walked.Left c.in-Left.marks) =
-        subst (CameOf set) c.in-Left.is (subst (λ (s : List Member). CameOf s c.in_ok-frame.field-0) c.in_ok-graph.ensures.graph c.in_ok-frame.ensures) in
+    subst (CameOf set) c.in-Left.is (subst (λ (s : List Member). CameOf s c.in_ok-frame.field-0) c.in_ok-graph.ensures.graph c.in_ok-frame.ensures) in
     let order = c.in_ok-order-in-Left.order in
     let sees = c.in_ok-sees-in-Left.sees in
     let answer : Reach = record { order = order; sees = sees } in
     let seen : AllZip (AreSeen set) order sees =
-        subst (λ (ks : List ℕ). AllZip (AreSeen set) ks sees) c.as_slice.ensures
-        (subst (λ (s : List Member). AllZip (AreSeen s) c.as_slice.result.now sees) c.in_ok-graph.ensures.graph c.in_ok-sees-in-Left.ensures) in
+    subst (λ (ks : List ℕ). AllZip (AreSeen set) ks sees) c.as_slice.ensures
+    (subst (λ (s : List Member). AllZip (AreSeen s) c.as_slice.result.now sees) c.in_ok-graph.ensures.graph c.in_ok-sees-in-Left.ensures) in
     reach_is set h.left answer (paths_apart c.requires.distinct) c.in_ok-graph.ensures.led c.in_ok-graph.ensures.once h.visits
     c.in_ok-order-in-Left.ensures seen
 
@@ -65,5 +64,5 @@ pub returns-clause-sound : goal.returns-clause-sound
 returns-clause-sound c =
     let set = c.args.members.now in
     let h : CameOf set (walked.Left c.in-Left.marks) =
-        subst (CameOf set) c.in-Left.is (subst (λ (s : List Member). CameOf s c.in_ok-frame.field-0) c.in_ok-graph.ensures.graph c.in_ok-frame.ensures) in
+    subst (CameOf set) c.in-Left.is (subst (λ (s : List Member). CameOf s c.in_ok-frame.field-0) c.in_ok-graph.ensures.graph c.in_ok-frame.ensures) in
     reach_sound set h.left (paths_apart c.requires.distinct) c.in_ok-judge_all.ensures.ok c.in_ok-graph.ensures.once h.visits

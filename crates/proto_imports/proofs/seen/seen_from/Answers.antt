@@ -1,7 +1,6 @@
-use Rattle.std.proofs.Common.{◌≡◌, ℕ, List, Bool, true, false, Some, length, replicate, refl, sym, ap, ◌∙◌, subst, arith}
-use Rattle.std.specs.Prelude.{Contains, slice_get}
+use Rattle.std.proofs.Common.{◌≡◌, List, Bool, true, false, Some, length, refl, sym, ap, ◌∙◌, subst, arith}
+use Rattle.std.specs.Prelude.{slice_get}
 use Rattle.std.proofs.lemmas.List.{nil_from_length, length-replicate}
-use Rattle.proto_imports.specs.Seeing.{IsMarked}
 use Rattle.proto_imports.specs.declared.seen.Seen.{Seen}
 use Rattle.proto_imports.proofs.Visited.{paths_apart}
 use Rattle.proto_imports.proofs.Seeing.{links_within, sees_start, sees_more, seen_is, both_ok}

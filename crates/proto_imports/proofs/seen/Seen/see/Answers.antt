@@ -1,6 +1,5 @@
-use Rattle.std.proofs.Common.{◌≡◌, Some, refl, ap, ◌∙◌}
+use Rattle.std.proofs.Common.{Some, refl, ap, ◌∙◌}
 use Rattle.std.proofs.lemmas.Option.{slice_get_read}
-use Rattle.proto_imports.specs.declared.seen.Seen.{Seen}
 use Rattle.proto_imports.proofs.Seeing.{more_none, more_one}
 use Rattle.proto_imports.proofs.seen.Seen.see.Goals as goal
 
