@@ -26,7 +26,8 @@ pub record MarksMore (P : ℕ → Type 0) (old new : Seen) : Type 0 where
   pub alone : (i : ℕ) → IsMarked new i → IsMarked old i ⊎ (P i × Contains new.next.items i)
   pub waits : (i : ℕ) → Contains old.next.items i → Contains new.next.items i
   pub fresh : (i : ℕ) → Contains new.next.items i → Contains old.next.items i ⊎ P i
-  pub within : All (λ i. i < length old.marks.items) old.next.items → All (λ i. i < length new.marks.items) new.next.items
+  pub within : All (λ i. i < length old.marks.items) old.next.items
+      → All (λ i. i < length new.marks.items) new.next.items
   pub less : work_of new ≤ work_of old
 
 -- one of some imports leads to a file

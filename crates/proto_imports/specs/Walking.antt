@@ -23,7 +23,8 @@ first_frame i = record { file = i; next = 0 }
 pub data Follows (old : Walk) (f : Frame) (l : Link) : Bool → Walk → Type 0 where
   enters : {new : Walk} → slice_get old.marks.items l.file ≡ Some New
       → new.marks.items ≡ slice_set old.marks.items l.file Visiting
-      → new.frames.items ≡ (old.frames.items ++ next_frame f ∷ []) ++ first_frame l.file ∷ [] → Follows old f l false new
+      → new.frames.items ≡ (old.frames.items ++ next_frame f ∷ []) ++ first_frame l.file ∷ []
+      → Follows old f l false new
   closes : {new : Walk} → slice_get old.marks.items l.file ≡ Some Visiting → Follows old f l true new
   passes : {new : Walk} → slice_get old.marks.items l.file ≡ Some Left → new.marks.items ≡ old.marks.items
       → new.frames.items ≡ old.frames.items ++ next_frame f ∷ [] → Follows old f l false new

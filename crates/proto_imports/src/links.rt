@@ -118,7 +118,6 @@ impl<'a> Model for Graph<'a> {
 
     ghost Value = { List Member };
 
-    ghost use Rattle.proto_imports.specs.Reaching.{HaveOwnPaths};
     ghost use Rattle.proto_imports.specs.Linking.{AreOf};
 
     ghost view = { λ g. g.members.now };
