@@ -65,6 +65,7 @@ found_enum : {F : File} {full : List (List ℕ)} → Finds (F ∷ []) an_enum fu
 found_enum (in_this h) = let s = enum_stands h.declared in (s.0, h.span, s.1)
 found_enum (in_others none rest) = elim rest [ ]
 
+-- what a type's word is of: a scalar, or a message or an enum by its place
 type_kept : (F : File) (scope : List (List ℕ)) (w : Word) (word : List ℕ) (is_message packable : Bool)
     → HasType (F ∷ []) scope w word is_message packable → (type_of : TypeOf) × IsWordOf F type_of word
 type_kept F scope w word im pk (scalar k s) = (Scalar k, sym s.named)
@@ -91,6 +92,7 @@ form_kept F scope f label word has =
 
 -- ---- fields
 
+-- the field of a clean message, with its number and its form
 judged_exists : (F : File) (place : ℕ) (m : MessageDecl) (f : FieldDecl) → IsFormed F → IsClean F
     → slice_get F.messages place ≡ Some m → Contains m.fields f → IsNotRefuted ((j : Judged) × IsJudged F place f j)
 judged_exists F place m f formed clean at field never =
@@ -216,6 +218,7 @@ oneof_placed_at words i old None keeps l at =
       placed = k.1;
     }
 
+-- the label of a field, and the oneofs with its own
 record LabelMade (words : List Word) (oneof : Option ℕ) (form : Label) (old : Oneofs) : Type 0 where
   new : Oneofs
   label : Label
@@ -230,6 +233,7 @@ label_made words (Some i) form old keeps below =
     let h = oneof_placed_at words i old at.0 keeps below at.1 in
     record { new = h.new; label = Member h.place; keeps = h.keeps; is = (h.place, refl, h.has_place, h.placed) }
 
+-- the field of the table, and the oneofs with its own
 record FieldMade (p : Plan) (words : List Word) (j : Judged) (old : Oneofs) : Type 0 where
   new : Oneofs
   field : Field
@@ -251,6 +255,7 @@ field_made p words j old keeps below =
 
 -- ---- the message
 
+-- the first fields of a message, and the oneofs that they met
 record FieldsMade (p : Plan) (words : List Word) (js : List Judged) (i : ℕ) : Type 0 where
   oneofs : Oneofs
   fields : List Field

@@ -49,6 +49,7 @@ names_with_numbers names (suc n) l =
           (get_or_default names n [] name (omega arith)) refl rest.1),
     )
 
+-- names by ascending name
 order_made : (names : List (List ℕ)) → AreDistinct names → (order : List ℕ) × IsOrder names order
 order_made names distinct =
     let known = names_with_numbers names (length names) (omega arith) in
@@ -70,6 +71,7 @@ places_put order all (suc n) l =
       subst (λ (k : ℕ). ArePut order k more) (add-one n) (put_more order n at.0 rest.0 more all at.1 refl rest.1),
     )
 
+-- names with their order and their places in it
 placed_made : (names : List (List ℕ)) → length names < 2 ^ 63 → AreDistinct names → (p : Placed) × IsPlaced names p
 placed_made names few distinct =
     let order = order_made names distinct in

@@ -9,6 +9,7 @@ use Rattle.std.proofs.lemmas.List.Sorted.{IsPermutation-refl, IsPermutation-cons
 use Rattle.mrpc_table.specs.Valid.{Ascends}
 use Rattle.schema_resolve.proofs.Orders.{ascends_past, ascends_rest}
 
+-- an element among those that ascend; what stood before them may stand before all
 record Inserted {X : Type 0} (R : X → X → Type 0) (x : X) (ys : List X) : Type 0 where
   list : List X
   moved : IsPermutation (x ∷ ys) list
@@ -40,6 +41,7 @@ inserted R total x (y ∷ ys) h = elim (total x y) [
       }
 ]
 
+-- the elements of a list by an order
 pub record InOrder {X : Type 0} (R : X → X → Type 0) (xs : List X) : Type 0 where
   pub list : List X
   pub moved : IsPermutation xs list

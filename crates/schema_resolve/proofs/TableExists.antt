@@ -94,6 +94,7 @@ first_message F full (in_this h) =
     )
 first_message F full (in_others none rest) = elim rest [ ]
 
+-- the place of the message that an rpc's type names
 record Located (F : File) (p : Plan) (name : List ℕ) : Type 0 where
   place : ℕ
   located : (T : Table) → HasNames p T → IsPlaceNamed F T name place
