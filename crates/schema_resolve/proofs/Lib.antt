@@ -5,11 +5,16 @@ mod FieldTables
 mod FullNames
 mod KindWords
 mod Making
+mod MessageExists
 mod MessageTables
 mod MethodTables
+mod NotRefuted
 mod OneTable
 mod OneofTables
 mod Orders
+mod PlanExists
+mod Sorting
+mod TableExists
 mod TableParts
 mod TextLines
 mod TextParts

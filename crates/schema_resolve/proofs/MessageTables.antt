@@ -50,7 +50,7 @@ use Rattle.schema_resolve.proofs.KindWords.{IsNoMember, single_no_member, LabelP
 
 -- ---- lists in order
 
-in_order_weaker : {X Y : Type 0} (R S : X → Y → Type 0) {xs : List X} {ys : List Y} → ((x : X) (y : Y) → R x y → S x y)
+pub in_order_weaker : {X Y : Type 0} (R S : X → Y → Type 0) {xs : List X} {ys : List Y} → ((x : X) (y : Y) → R x y → S x y)
     → AreThoseInOrder R xs ys → AreThoseInOrder S xs ys
 in_order_weaker R S h none = none
 in_order_weaker R S h (next {x} {y} r rest) = next (h x y r) (in_order_weaker R S h rest)

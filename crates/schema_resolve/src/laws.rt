@@ -34,7 +34,11 @@ pub fn one_offence()
     schema_offences::one_offence();
 }
 
-/// No file has both a table and a first offence.
+/// A file that was read has a table or a first offence, and no file has both.
 pub fn table_or_offence()
+    ensures not_neither { (text : List ℕ) (F : File) → IsTextOf text F → ((T : Table) → Resolves F T → ⊥)
+        → ((q : ResolveReason) (s : Span) → HasOffence F q s → ⊥) → ⊥ }
     ensures not_both { (F : File) (T : Table) (q : ResolveReason) (s : Span) → Resolves F T → HasOffence F q s → ⊥ }
-{}
+{
+    file_is_ordered();
+}

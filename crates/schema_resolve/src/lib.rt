@@ -3,7 +3,8 @@
 //!
 //! [`resolve`] takes what `proto_schema` has read; `schema_offences` says what stands against it. `specs/Tables.antt`
 //! says what a table is of files. The layer above uses the contract of [`resolve`]: a table that it answers is the
-//! file's, and an offence is the file's first one.
+//! file's, and an offence is the file's first one. A file that was read has one of both, and not both
+//! ([`table_or_offence`]).
 #![tactic(auto)]
 
 mod enum_table;
