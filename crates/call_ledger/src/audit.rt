@@ -15,18 +15,6 @@ use mrpc_table::{Bytes, Memory, Table};
 use std::alloc::Global;
 use wire_encode::encode;
 
-/// Appends a space and the decimal number behind it, as a further word of a line. The only error is
-/// `Memory`.
-pub fn put_number(out: &mut Bytes, number: u64) -> Result<(), Memory>
-    ensures { OnOk result (out.new ≡ out.old ++ 32 ∷ decimal number) }
-{
-    out.push(b' ')?;
-    if number < 10 {
-        return out.push(b'0' + number as u8);
-    }
-    out.append_decimal(number)
-}
-
 /// Appends a space and the bytes in lower-case hexadecimal digits behind it, or `-` where there is
 /// none, as a further word of a line. The only error is `Memory`.
 pub fn put_hex(alloc: Global, out: &mut Bytes, bytes: &[u8]) -> Result<(), Memory>
@@ -100,7 +88,7 @@ fn took_numbers(alloc: Global, numbers: &[u64]) -> Result<Bytes, Memory>
 {
     let mut out = Bytes::from_slice(alloc, b"took")?;
     for number in numbers {
-        put_number(&mut out, *number)?;
+        out.append_word(*number)?;
     }
     Ok(out)
 }
@@ -133,8 +121,8 @@ fn put_copy(
         } => {
             out.append(b" malformed ")?;
             out.append(reason.word().as_bytes())?;
-            put_number(out, *place)?;
-            put_number(out, *value)
+            out.append_word(*place)?;
+            out.append_word(*value)
         }
     }
 }
@@ -144,9 +132,9 @@ fn sent_line(alloc: Global, conn: u32, seq: u32, bytes: u64) -> Result<Bytes, Me
     ensures { IfOk result (λ line. line ≡ sent_line conn seq bytes) }
 {
     let mut out = Bytes::from_slice(alloc, b"sent")?;
-    put_number(&mut out, u64::from(conn))?;
-    put_number(&mut out, u64::from(seq))?;
-    put_number(&mut out, bytes)?;
+    out.append_word(u64::from(conn))?;
+    out.append_word(u64::from(seq))?;
+    out.append_word(bytes)?;
     out.append(b"\n")?;
     Ok(out)
 }
@@ -156,8 +144,8 @@ fn refused_line(alloc: Global, conn: u32, seq: u32, cause: Cause) -> Result<Byte
     ensures { IfOk result (λ line. line ≡ refused_line conn seq cause) }
 {
     let mut out = Bytes::from_slice(alloc, b"refused")?;
-    put_number(&mut out, u64::from(conn))?;
-    put_number(&mut out, u64::from(seq))?;
+    out.append_word(u64::from(conn))?;
+    out.append_word(u64::from(seq))?;
     match cause {
         Cause::Malformed => out.append(b" malformed\n")?,
     }
@@ -177,9 +165,9 @@ pub fn stands_line(
     ensures { IfOk result (λ line. line ≡ stands_line conn seq position name.now) }
 {
     let mut out = Bytes::from_slice(alloc, b"stands")?;
-    put_number(&mut out, u64::from(conn))?;
-    put_number(&mut out, u64::from(seq))?;
-    put_number(&mut out, u64::from(position))?;
+    out.append_word(u64::from(conn))?;
+    out.append_word(u64::from(seq))?;
+    out.append_word(u64::from(position))?;
     out.append(b" ")?;
     out.append(name)?;
     out.append(b"\n")?;

@@ -10,7 +10,7 @@ mod audit;
 mod happening;
 mod laws;
 
-pub use audit::{audit_line, copy_bytes, put_hex, put_number, stands_line};
+pub use audit::{audit_line, copy_bytes, put_hex, stands_line};
 pub use happening::{Cause, Happening, TookCopy};
 pub use laws::{
     connections_are_apart, copies_go_on, empty_is_legal, histories_join, loads_go_on,

@@ -1,4 +1,4 @@
-use call_ledger::{Happening, audit_line, put_hex, put_number, stands_line};
+use call_ledger::{Happening, audit_line, put_hex, stands_line};
 use graph_form::size_words;
 use mrpc_table::Bytes;
 use std::test::Fail;
@@ -56,7 +56,7 @@ fn lines_are_written(rt: HostRuntime) -> Result<(), Fail> {
 fn words_stand_behind_a_space(rt: HostRuntime) -> Result<(), Fail> {
     let alloc = rt.alloc();
     let mut line = Bytes::new(alloc);
-    put_number(&mut line, 70)?;
+    line.append_word(70)?;
     put_hex(alloc, &mut line, b"")?;
     put_hex(alloc, &mut line, b"\xab\x09")?;
     assert_eq!(rt; line.as_slice(), b" 70 - ab09".as_slice());

@@ -11,25 +11,9 @@ ghost use Rattle.graph_copy.specs.Expects.{role_of};
 ghost use Rattle.graph_copy.specs.Judged.{Judged, Told, IsMember};
 
 use crate::look_up::field_of;
-use crate::role::{Role, element_words, run_words};
-use graph_form::{Reason, size_words};
+use crate::role::Role;
+use graph_form::{Reason, element_words, run_words, size_words};
 use mrpc_table::{Kind, Label, MAX_DEPTH, Table};
-
-/// Whether the word is the form of a number of the kind.
-fn is_word_form(kind: Kind, word: u64) -> bool
-    ensures { IsTrue result ↔ IsWordForm kind word }
-{
-    match kind {
-        Kind::Int32 | Kind::Sint32 | Kind::Sfixed32 | Kind::Choice(_) => {
-            word < 0x8000_0000 || word >= 0xffff_ffff_8000_0000
-        }
-        Kind::Uint32 | Kind::Fixed32 | Kind::Float => word < 0x1_0000_0000,
-        Kind::Bool => word < 2,
-        Kind::Int64 | Kind::Sint64 | Kind::Uint64 | Kind::Fixed64 | Kind::Sfixed64 | Kind::Double =>
-            true,
-        Kind::Text | Kind::Octets | Kind::Message(_) => false,
-    }
-}
 
 /// Whether a span of words lies in a heap, whose word 0 belongs to nobody.
 pub fn lies_in(size: u64, place: u64, words: u64) -> bool
@@ -80,7 +64,7 @@ pub fn offence(table: &Table, size: u64, role: Role, value: u64) -> Option<Reaso
 fn judge_value(kind: Kind, value: u64) -> Option<Reason>
     ensures { Told (IsWordForm kind value) Reason.Narrow result }
 {
-    if is_word_form(kind, value) {
+    if kind.is_word_form(value) {
         None
     } else {
         Some(Reason::Narrow)

@@ -2,7 +2,7 @@
 
 ghost use Rattle.std.specs.Prelude.{◌≡◌, ◌≤◌};
 ghost use Rattle.mrpc_table.specs.declared.table.Table.{Table};
-ghost use Rattle.graph_form.specs.Roles.{plain_role, optional_role, slot_role, element_words, run_words};
+ghost use Rattle.graph_form.specs.Roles.{plain_role, optional_role, slot_role};
 ghost use Rattle.graph_copy.specs.Shapes.{shape_of};
 ghost use Rattle.graph_copy.specs.Expects.{role_of};
 
@@ -118,28 +118,5 @@ pub fn slot_role(label: Label, kind: Kind, depth: u32) -> Role
         Label::Repeated | Label::Packed => Role::Count { kind, depth },
         Label::Map(key) => Role::EntryCount { key, kind, depth },
         Label::Plain | Label::Member(_) => plain_role(kind, depth, false),
-    }
-}
-
-/// How many words an element of a repeated field takes.
-pub fn element_words(kind: Kind) -> u64
-    ensures value { result ≡ element_words kind }
-    ensures least { 1 ≤ result }
-    ensures most { result ≤ 2 }
-{
-    match shape_of(kind) {
-        Shape::Run => 2,
-        _ => 1,
-    }
-}
-
-/// How many words a run of so many bytes takes.
-pub fn run_words(bytes: u64) -> u64
-    ensures { result ≡ run_words bytes }
-{
-    if bytes % 8 == 0 {
-        bytes / 8
-    } else {
-        bytes / 8 + 1
     }
 }

@@ -8,7 +8,7 @@ ghost use Rattle.graph_copy.specs.Expects.{expected, frame_words, stack_words, n
 ghost use Rattle.graph_copy.specs.Opens.{Opens};
 
 use crate::look_up::next_slot;
-use crate::role::{Role, element_words, plain_role, slot_role};
+use crate::role::{Role, plain_role, slot_role};
 use crate::stack::Stack;
 use graph_form::oneofs_of;
 use mrpc_table::{Kind, Memory, Table};

@@ -3,6 +3,7 @@ use Rattle.std.specs.Prelude.{◌≡◌, ℕ, zero, suc, ◌+◌, ◌<◌, ◌�
 use Rattle.std.specs.List.{AllByRecursion}
 use Rattle.mrpc_table.specs.Node.{Node, no_fields, field, one, number}
 use Rattle.mrpc_table.specs.Normal.{fields_of}
+use Rattle.mrpc_table.specs.declared.limits.TheConstants.{MAX_FIELDS}
 use Rattle.mrpc_table.specs.declared.table.Kind.TheVariants.{Uint64}
 use Rattle.mrpc_table.specs.declared.table.Label.TheVariants.{Plain}
 use Rattle.mrpc_table.specs.declared.table.Field.{Field}
@@ -48,7 +49,7 @@ pub record IsPlainTable (T : Table) : Type 0 where
   pub plain : ArePlain (fields_of T 0)
   pub ascend : AscendAbove 0 (fields_of T 0)
   pub no_oneofs : oneofs_of T 0 ≡ 0
-  pub few : length (fields_of T 0) ≤ 128
+  pub few : length (fields_of T 0) ≤ MAX_FIELDS
   pub methods : 0 < length T.methods
   pub method : Method
   pub first : slice_get T.methods 0 ≡ Some method

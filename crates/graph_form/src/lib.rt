@@ -16,4 +16,4 @@ pub use laws::{
 };
 pub use placed::{Loads, Placed};
 pub use reason::Reason;
-pub use size::{is_member, oneofs_of, size_words, slot_of};
+pub use size::{element_words, is_member, oneofs_of, run_words, size_words, slot_of};

@@ -3,9 +3,9 @@
 ghost use Rattle.std.specs.Prelude.{◌≡◌, ◌<◌, ◌≤◌, ◌+◌, ◌*◌, length, IfNone, IfSome, IsSome, None, Some, slice_get};
 ghost use Rattle.mrpc_table.specs.Valid.{IsValid};
 ghost use Rattle.mrpc_table.specs.Normal.{fields_of, field_at};
-ghost use Rattle.graph_form.specs.Roles.{has_own_slot, is_member, oneofs_of, own_slots, size_words, slots_before, slot_of};
+ghost use Rattle.graph_form.specs.Roles.{element_words, has_own_slot, is_member, oneofs_of, own_slots, run_words, size_words, slots_before, slot_of};
 
-use mrpc_table::{Field, Label, Message, Table};
+use mrpc_table::{Field, Kind, Label, Message, Table};
 
 /// The number of words of a message's node: two for each field that is no member of a oneof, and
 /// three for each oneof. A message that the table lacks has none.
@@ -97,4 +97,27 @@ fn own_slots(fields: &[Field]) -> u64
         }
     }
     count
+}
+
+/// How many words an element of a repeated field takes.
+pub fn element_words(kind: Kind) -> u64
+    ensures value { result ≡ element_words kind }
+    ensures least { 1 ≤ result }
+    ensures most { result ≤ 2 }
+{
+    match kind {
+        Kind::Text | Kind::Octets => 2,
+        _ => 1,
+    }
+}
+
+/// How many words a run of so many bytes takes.
+pub fn run_words(bytes: u64) -> u64
+    ensures { result ≡ run_words bytes }
+{
+    if bytes % 8 == 0 {
+        bytes / 8
+    } else {
+        bytes / 8 + 1
+    }
 }

@@ -4,7 +4,7 @@ use Rattle.mrpc_table.specs.Node.{Node, one, Item, number, node}
 use Rattle.mrpc_table.specs.Normal.{fields_of, IsItem, HasFields, OneMemberEach, depth, item_depth}
 use Rattle.mrpc_table.specs.View.{item_of, items_of, pairs_of}
 use Rattle.mrpc_table.specs.declared.table.Kind.{Kind}
-use Rattle.mrpc_table.specs.Words.{IsWordForm, IsSigned32}
+use Rattle.mrpc_table.specs.Words.{IsWordForm, IsSigned32, message_of}
 use Rattle.mrpc_table.specs.declared.table.Kind.TheVariants.{Int32, Int64, Uint32, Uint64, Sint32, Sint64, Bool as TheBool, Fixed32, Fixed64, Sfixed32, Sfixed64, Float, Double, Text, Octets, Message as OfMessage, Choice}
 use Rattle.mrpc_table.specs.declared.table.Label.TheVariants.{Optional}
 use Rattle.mrpc_table.specs.declared.table.Table.{Table}
@@ -13,7 +13,7 @@ use Rattle.mrpc_table.specs.declared.tree.Value.TheVariants.{Number, Run, Node a
 use Rattle.graph_form.specs.Roles.{plain_role, optional_role, node_words, element_words, run_words}
 use Rattle.graph_form.specs.Forgotten.{slot_content, tree_of}
 use Rattle.graph_place.specs.Laid.{Puts, PutsWord, HoldsItem}
-use Rattle.graph_place.specs.Size.{message_of, tree_words, item_words, many_words, pairs_words, key_words}
+use Rattle.graph_place.specs.Size.{tree_words, item_words, many_words, pairs_words, key_words}
 use Rattle.graph_place.proofs.Beginning.{Loads}
 use Rattle.graph_place.proofs.Chain.{RunPut}
 use Rattle.graph_place.proofs.Laying.{number_item, run_item, run_text, run_width, node_item, optional_number, optional_run}

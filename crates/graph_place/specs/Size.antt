@@ -2,16 +2,11 @@
 use Rattle.std.specs.Prelude.{ℕ, ◌+◌, ◌-◌, ◌^◌, min, List, length}
 use Rattle.mrpc_table.specs.Node.{Node, no_fields, field, Content, one, many, pairs, Item, number, run, node, Items, no_items, item, Pairs, no_pairs, pair}
 use Rattle.mrpc_table.specs.Normal.{fields_of}
+use Rattle.mrpc_table.specs.Words.{message_of}
 use Rattle.mrpc_table.specs.declared.table.Kind.{Kind}
-use Rattle.mrpc_table.specs.declared.table.Kind.TheVariants.{Message as OfMessage}
 use Rattle.mrpc_table.specs.declared.table.Field.{Field}
 use Rattle.mrpc_table.specs.declared.table.Table.{Table}
 use Rattle.graph_form.specs.Roles.{size_words, run_words, element_words, member_kind}
-
--- the message that a kind names
-abbrev pub message_of : Kind → ℕ
-message_of (OfMessage m) = m
-message_of _ = 0
 
 -- the words of a key's content: a key is a number or a run
 abbrev pub key_words : Item → ℕ

@@ -17,10 +17,8 @@ ghost use Rattle.graph_place.specs.Content.{content_at};
 ghost use Rattle.graph_place.specs.Laid.{Puts, PutsWord, Begun, HoldsItem, members, found_words, listed, IsMemberOf, HoldsContent, run_words_of, NoMessage, run_expected, HasBytes};
 ghost use Rattle.graph_place.specs.Size.{tree_words, fields_words, content_words, item_words, many_words, pairs_words};
 
-use crate::look_up::{
-    content_of, element_words, kind_of, members_of, message_of, run_words, value_of,
-};
-use graph_form::{is_member, oneofs_of, size_words};
+use crate::look_up::{content_of, kind_of, members_of, value_of};
+use graph_form::{element_words, is_member, oneofs_of, run_words, size_words};
 use mrpc_table::{Entries, Field, FieldValue, Kind, Label, Memory, Table, Tree, Value, Values};
 use std::alloc::Global;
 
@@ -255,7 +253,7 @@ impl Builder {
             }
             FieldValue::Pairs(entries) => {
                 self.put(place, entries.len() as u64)?;
-                self.entries(table, key_kind(label), kind, entries, place + 1)
+                self.entries(table, label.key(), kind, entries, place + 1)
             }
         }
     }
@@ -351,7 +349,7 @@ impl Builder {
             }
             Value::Node(tree) => {
                 self.put(place, self.free)?;
-                self.node(table, message_of(kind), tree)
+                self.node(table, kind.message(), tree)
             }
         }
     }
@@ -429,14 +427,4 @@ fn word_of(bytes: &[u8]) -> u64
     let mut word = [0; 8];
     word[..bytes.len()].copy_from_slice(bytes);
     u64::from_le_bytes(word)
-}
-
-/// The kind of a map's keys.
-fn key_kind(label: Label) -> Kind
-    ensures { (key : Kind) → label ≡ Map key → result ≡ key }
-{
-    match label {
-        Label::Map(key) => key,
-        _ => Kind::Uint64,
-    }
 }

@@ -8,9 +8,8 @@ ghost use Rattle.mrpc_table.specs.Valid.{IsValid};
 ghost use Rattle.mrpc_table.specs.View.{content_of, item_of};
 ghost use Rattle.mrpc_table.specs.declared.table.Label.TheVariants.{Member};
 ghost use Rattle.mrpc_table.specs.Weight.{weight, content_weight, item_weight};
-ghost use Rattle.graph_form.specs.Roles.{own_slots, oneofs_of, size_words, is_member, member_kind, element_words, run_words};
+ghost use Rattle.graph_form.specs.Roles.{own_slots, oneofs_of, size_words, is_member, member_kind};
 ghost use Rattle.graph_place.specs.Content.{content_at, Ascends, is_of, is_member_of, member_of};
-ghost use Rattle.graph_place.specs.Size.{message_of};
 
 use mrpc_table::{FieldValue, Kind, Label, MAX_FIELDS, Table, Tree, Value};
 
@@ -22,39 +21,6 @@ pub fn kind_of(table: &Table, message: u32, number: u32) -> Kind
     match table.field(message, number) {
         Some(field) => field.kind,
         None => Kind::Uint64,
-    }
-}
-
-/// The message that a kind names.
-pub fn message_of(kind: Kind) -> u32
-    ensures { result ≡ message_of kind }
-{
-    match kind {
-        Kind::Message(message) => message,
-        _ => 0,
-    }
-}
-
-/// How many words an element of a repeated field takes.
-pub fn element_words(kind: Kind) -> u64
-    ensures value { result ≡ element_words kind }
-    ensures least { 1 ≤ result }
-    ensures most { result ≤ 2 }
-{
-    match kind {
-        Kind::Text | Kind::Octets => 2,
-        _ => 1,
-    }
-}
-
-/// How many words a run of so many bytes takes.
-pub fn run_words(bytes: u64) -> u64
-    ensures { result ≡ run_words bytes }
-{
-    if bytes % 8 == 0 {
-        bytes / 8
-    } else {
-        bytes / 8 + 1
     }
 }
 

@@ -6,7 +6,7 @@ ghost use Rattle.mrpc_table.specs.Valid.{IsValid};
 ghost use Rattle.mrpc_table.specs.View.{item_of, items_of, pairs_of, content_of};
 ghost use Rattle.graph_place.specs.Size.{capped, tree_words, content_words, item_words, many_words, pairs_words, key_words};
 
-use crate::look_up::{element_words, kind_of, message_of, run_words};
+use crate::look_up::kind_of;
 use graph_form::size_words;
 use mrpc_table::{Entries, FieldValue, Kind, Table, Tree, Value, Values};
 
@@ -86,7 +86,7 @@ fn item_words(value: &Value, table: &Table, kind: Kind) -> u64
     match value {
         Value::Number(_) => 0,
         Value::Run(bytes) => run_words(bytes.len() as u64),
-        Value::Node(tree) => node_words(tree, table, message_of(kind)),
+        Value::Node(tree) => node_words(tree, table, kind.message()),
     }
 }
 

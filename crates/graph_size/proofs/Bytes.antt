@@ -6,7 +6,8 @@ use Rattle.std.proofs.lemmas.Nat.{div_below}
 use Rattle.std.proofs.Math.Nat.{pow-suc}
 use Rattle.mrpc_table.specs.declared.table.Kind.{Kind}
 use Rattle.mrpc_table.specs.declared.table.Kind.TheVariants.{Sint32, Sint64, Fixed32, Fixed64, Sfixed32, Sfixed64, Float, Double, Text, Octets, Message as OfMessage}
-use Rattle.wire_base.specs.Encoding.{groups, varint, tag, delimited, wire_type_of, number_bytes}
+use Rattle.wire_base.specs.Encoding.{groups, varint, tag, delimited, number_bytes}
+use Rattle.mrpc_table.specs.WireTypes.{wire_type_of}
 
 -- ---- varints
 

@@ -6,7 +6,8 @@ use Rattle.mrpc_table.specs.Node.{Item, Pairs, no_pairs, pair}
 use Rattle.mrpc_table.specs.declared.table.Kind.{Kind}
 use Rattle.mrpc_table.specs.declared.table.Table.{Table}
 use Rattle.map_entries.specs.Last.{key_cmp, with_pair, last_of_each}
-use Rattle.wire_base.specs.Encoding.{tag, delimited, wire_len, wire_type_of, item_bytes, entries_bytes}
+use Rattle.wire_base.specs.Encoding.{tag, delimited, item_bytes, entries_bytes}
+use Rattle.mrpc_table.specs.WireTypes.{wire_len, wire_type_of}
 
 -- the record of an entry
 abbrev pub entry_payload : Table → Kind → Kind → Item → Item → List ℕ

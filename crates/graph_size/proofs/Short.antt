@@ -13,7 +13,9 @@ use Rattle.mrpc_table.specs.declared.table.Label.TheVariants.{Plain, Optional, R
 use Rattle.mrpc_table.specs.declared.table.Field.{Field}
 use Rattle.mrpc_table.specs.declared.table.Table.{Table}
 use Rattle.map_entries.specs.Last.{last_of_each}
-use Rattle.wire_base.specs.Encoding.{tag, delimited, wire_len, wire_type_of, kind_at, label_at, is_packed, key_kind, fields_bytes, content_bytes, item_bytes, joined_bytes, records_bytes, entries_bytes, encoding}
+use Rattle.wire_base.specs.Encoding.{tag, delimited, kind_at, label_at, is_packed, fields_bytes, content_bytes, item_bytes, joined_bytes, records_bytes, entries_bytes, encoding}
+use Rattle.mrpc_table.specs.Words.{key_kind}
+use Rattle.mrpc_table.specs.WireTypes.{wire_len, wire_type_of}
 use Rattle.graph_form.specs.Roles.{own_slots, member_kind, word_bytes}
 use Rattle.graph_form.specs.Placed.{Placed, nothing, first, Word, word, loads}
 use Rattle.graph_form.specs.Forgotten.{insert_field, with_field, chain_bytes, run_at, number_at, unless_zero, optional_item, slots_tree, slot_content, with_member, plain_item, elements_at, elements_in, entries_at, entries_in, tree_of}

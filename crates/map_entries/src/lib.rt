@@ -7,7 +7,6 @@
 
 ghost use Rattle.std.specs.Prelude.{◌≡◌, [], ◌∷◌, ◌++◌, if◌then◌else◌, map, IfOk, OnOk, IsTrue};
 ghost use Rattle.std.specs.Ordering.{is_eq};
-ghost use Rattle.mrpc_table.specs.Words.{rank};
 ghost use Rattle.mrpc_table.specs.View.{item_of, pairs_of};
 ghost use Rattle.map_entries.specs.Last.{last_of_each, key_cmp};
 ghost use Rattle.map_entries.specs.Sorted.{AreSorted, KeysRise, IsEntryAdded, items_of_entry};
@@ -100,7 +99,7 @@ fn compare(key: Kind, a: &Value, b: &Value) -> Ordering
 {
     match a {
         Value::Number(m) => match b {
-            Value::Number(n) => rank(key, *m).cmp(&rank(key, *n)),
+            Value::Number(n) => key.rank(*m).cmp(&key.rank(*n)),
             _ => Ordering::Less,
         },
         Value::Run(m) => match b {
@@ -112,21 +111,5 @@ fn compare(key: Kind, a: &Value, b: &Value) -> Ordering
             Value::Node(_) => Ordering::Equal,
             _ => Ordering::Greater,
         },
-    }
-}
-
-/// Where a word of the kind stands in the order of its numbers.
-fn rank(key: Kind, n: u64) -> u64
-    ensures { result ≡ rank key n }
-{
-    match key {
-        Kind::Int32
-        | Kind::Int64
-        | Kind::Sint32
-        | Kind::Sint64
-        | Kind::Sfixed32
-        | Kind::Sfixed64
-        | Kind::Choice(_) => n.wrapping_add(1 << 63),
-        _ => n,
     }
 }

@@ -2,6 +2,7 @@
 ghost use Rattle.std.specs.Prelude.{◌≡◌, ◌≢◌, ◌<◌, ◌≤◌, ◌⊎◌, ◌∷◌, [], ◌++◌, ℕ, IfOk, IfSome, IsSomeAnd};
 ghost use Rattle.mrpc_base.specs.Faults.{raised};
 ghost use Rattle.mrpc_base.specs.Quota.{drawn_in, tickets_of};
+ghost use Rattle.mrpc_base.specs.declared.tickets.TheConstants.{WINDOWS};
 
 use crate::{Tickets, WINDOWS};
 use std::alloc::{AllocError, Global};
@@ -18,12 +19,13 @@ pub struct PlainTickets {
 impl Model for PlainTickets {
     ghost use Rattle.std.specs.Prelude.{◌≡◌, ◌*◌, length};
     ghost use Rattle.mrpc_base.specs.Quota.{Counters};
+    ghost use Rattle.mrpc_base.specs.declared.tickets.TheConstants.{WINDOWS};
 
     ghost Value = { Counters };
 
     ghost view = { λ t. record { tenants = t.tenants; drawn = t.counters.items } };
 
-    ghost invariant = { λ t. length t.counters.items ≡ t.tenants * 1024 };
+    ghost invariant = { λ t. length t.counters.items ≡ t.tenants * WINDOWS };
 }
 
 impl PlainTickets {

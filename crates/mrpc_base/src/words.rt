@@ -37,7 +37,7 @@ pub trait Words {
     /// Makes room for `n` loads.
     fn room_loads(&mut self, n: u64) -> Room
         ensures made { result ≡ Room.Made → n ≤ room self.new }
-        ensures memory { result ≡ Room.Memory → room self.new ≡ room self.old }
+        ensures memory { result ≡ Room.Memory → self.new ≡ self.old }
         ensures never_falls { room self.old ≤ room self.new }
 
         ensures size { size self.new ≡ size self.old }

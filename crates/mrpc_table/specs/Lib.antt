@@ -11,4 +11,5 @@ pub mod Text
 pub mod Valid
 pub mod View
 pub mod Weight
+pub mod WireTypes
 pub mod Words

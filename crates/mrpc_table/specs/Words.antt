@@ -2,6 +2,8 @@
 -- in two's complement (Protocol Buffers, language guide, "Scalar Value Types").
 use Rattle.std.specs.Prelude.{ℕ, ◌+◌, ◌%◌, ◌^◌, ◌<◌, ◌≤◌, ◌⊎◌, Bool, true, false}
 use Rattle.mrpc_table.specs.declared.table.Kind.{Kind}
+use Rattle.mrpc_table.specs.declared.table.Label.{Label}
+use Rattle.mrpc_table.specs.declared.table.Label.TheVariants.{Map}
 use Rattle.mrpc_table.specs.declared.table.Kind.TheVariants.{Int32, Int64, Uint32, Uint64, Sint32, Sint64, Bool as TheBool, Fixed32, Fixed64, Sfixed32, Sfixed64, Float, Double, Text, Octets, Message, Choice}
 
 -- a signed 32-bit number, sign extended to 64 bits
@@ -58,3 +60,13 @@ is_key _ = true
 -- where a word of the kind stands in the order of its numbers
 abbrev pub rank : Kind → ℕ → ℕ
 rank k n = elim (is_signed k) [ true ↦ (n + 2 ^ 63) % 2 ^ 64 | false ↦ n ]
+
+-- the message that a kind names
+abbrev pub message_of : Kind → ℕ
+message_of (Message i) = i
+message_of _ = 0
+
+-- the kind of a map's keys
+abbrev pub key_kind : Label → Kind
+key_kind (Map key) = key
+key_kind _ = Uint64

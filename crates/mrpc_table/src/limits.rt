@@ -1,4 +1,4 @@
-//! The limits of tables, names and trees, which the definitions share.
+//! The limits of tables, names, trees and heaps, which the definitions share.
 
 /// How many messages a table has at most.
 pub const MAX_MESSAGES: usize = 256;
@@ -26,3 +26,12 @@ pub const MAX_FULL_NAME: usize = 255;
 
 /// How deep messages nest at most in a tree in normal form, the root counting 1.
 pub const MAX_DEPTH: u32 = 32;
+
+/// How many words a heap has at least: word 0 belongs to nobody.
+pub const MIN_HEAP: u64 = 4;
+
+/// How many words a heap has at most.
+pub const MAX_HEAP: u64 = 65536;
+
+/// How many words are loaded of a graph at most, whatever limit a script sets.
+pub const MAX_LOADS: u64 = 16384;

@@ -131,7 +131,7 @@ fn item_fits(value: &Value, kind: Kind, table: &Table, room: u32) -> bool
     ensures { IsTrue result ↔ ItemFits table.now kind room (item_of value.now) }
 {
     match value {
-        Value::Number(word) => is_word_form(kind, *word),
+        Value::Number(word) => kind.is_word_form(*word),
         Value::Run(bytes) => is_run(kind, bytes.as_slice()),
         Value::Node(tree) => match kind {
             Kind::Message(msg) => room > 0 && tree_fits(tree, table, msg, room - 1),
@@ -153,22 +153,6 @@ fn take_member(taken: &mut [bool], label: Label) -> bool
             free
         }
         _ => true,
-    }
-}
-
-// The word is the form of a number of the kind.
-fn is_word_form(kind: Kind, word: u64) -> bool
-    ensures { IsTrue result ↔ IsWordForm kind word }
-{
-    match kind {
-        Kind::Int32 | Kind::Sint32 | Kind::Sfixed32 | Kind::Choice(_) => {
-            word < 0x8000_0000 || word >= 0xffff_ffff_8000_0000
-        }
-        Kind::Uint32 | Kind::Fixed32 | Kind::Float => word < 0x1_0000_0000,
-        Kind::Bool => word < 2,
-        Kind::Int64 | Kind::Sint64 | Kind::Uint64 | Kind::Fixed64 | Kind::Sfixed64 | Kind::Double =>
-            true,
-        Kind::Text | Kind::Octets | Kind::Message(_) => false,
     }
 }
 

@@ -1,6 +1,6 @@
 //! A list that is kept in a vector. Clauses see the list, and neither room nor place.
 
-ghost use Rattle.std.specs.Prelude.{◌≡◌, ◌≤◌, ◌<◌, ◌+◌, ◌↔◌, ℕ, List, [], ◌∷◌, ◌++◌, length, IsTrue, OnOk, OnErr, IfOk};
+ghost use Rattle.std.specs.Prelude.{◌≡◌, ◌≤◌, ◌<◌, ◌+◌, ◌↔◌, ℕ, List, [], ◌∷◌, ◌++◌, ◌⊎◌, length, IsTrue, OnOk, OnErr, IfOk};
 ghost use Rattle.std.specs.Fmt.{decimal, signed_decimal};
 ghost use Rattle.hex.specs.Hex.{encode_lower};
 
@@ -128,6 +128,19 @@ impl Sequence<u8> {
     {
         let mut buffer = Buffer::new();
         self.append(buffer.format(number).as_bytes())
+    }
+
+    /// Appends a space and the digits of a decimal number, as a further word of a line. Without memory the list stays,
+    /// or has the space alone.
+    pub fn append_word(&mut self, number: u64) -> Result<(), Memory>
+        ensures ok { OnOk result (self.new ≡ self.old ++ 32 ∷ decimal number) }
+        ensures err { OnErr result ((self.new ≡ self.old) ⊎ (self.new ≡ self.old ++ 32 ∷ [])) }
+    {
+        self.push(b' ')?;
+        if number < 10 {
+            return self.push(b'0' + number as u8);
+        }
+        self.append_decimal(number)
     }
 
     /// Appends the digits of a decimal number, behind `-` where it is negative. Without memory the list stays.

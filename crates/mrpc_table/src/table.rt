@@ -1,13 +1,14 @@
 //! What a schema says: messages with their fields, enums with their values, methods of services.
 //! Messages and enums are named by their place in the table, from 0.
 
-ghost use Rattle.std.specs.Prelude.{◌≡◌, ◌<◌, length};
+ghost use Rattle.std.specs.Prelude.{◌≡◌, ◌<◌, ◌↔◌, length, IsTrue};
 ghost use Rattle.std.specs.Option.{option_copied};
 ghost use Rattle.mrpc_table.specs.Ascending.{AllAscend, FieldsAscend};
 ghost use Rattle.mrpc_table.specs.Normal.{fields_of, field_at};
 ghost use Rattle.mrpc_table.specs.Valid.{IsValid};
 ghost use Rattle.mrpc_table.specs.Calls.{message_at};
-ghost use Rattle.mrpc_table.specs.Words.{is_numeric, is_key, rank};
+ghost use Rattle.mrpc_table.specs.Words.{IsWordForm, is_numeric, is_key, key_kind, message_of, rank};
+ghost use Rattle.mrpc_table.specs.WireTypes.{wire_type_of};
 
 use crate::field_search::search;
 use crate::sequence::{Name, Sequence};
@@ -84,6 +85,49 @@ impl Kind {
             _ => word,
         }
     }
+
+    /// Whether a word is the word form of a number of this kind.
+    pub fn is_word_form(self, word: u64) -> bool
+        ensures { IsTrue result ↔ IsWordForm self word }
+    {
+        match self {
+            Kind::Int32 | Kind::Sint32 | Kind::Sfixed32 | Kind::Choice(_) => {
+                word < 0x8000_0000 || word >= 0xffff_ffff_8000_0000
+            }
+            Kind::Uint32 | Kind::Fixed32 | Kind::Float => word < 0x1_0000_0000,
+            Kind::Bool => word < 2,
+            Kind::Int64
+            | Kind::Sint64
+            | Kind::Uint64
+            | Kind::Fixed64
+            | Kind::Sfixed64
+            | Kind::Double => true,
+            Kind::Text | Kind::Octets | Kind::Message(_) => false,
+        }
+    }
+
+    /// The message that this kind names, by its place in the table; 0 where it names none.
+    pub fn message(self) -> u32
+        ensures { result ≡ message_of self }
+    {
+        match self {
+            Kind::Message(message) => message,
+            _ => 0,
+        }
+    }
+
+    /// The wire type of a record of one value of this kind (Protocol Buffers, "Encoding": "Message Structure").
+    pub fn wire_type(self) -> u64
+        ensures value { result ≡ wire_type_of self }
+        ensures small { result < 8 }
+    {
+        match self {
+            Kind::Fixed64 | Kind::Sfixed64 | Kind::Double => 1,
+            Kind::Text | Kind::Octets | Kind::Message(_) => 2,
+            Kind::Fixed32 | Kind::Sfixed32 | Kind::Float => 5,
+            _ => 0,
+        }
+    }
 }
 
 /// How often a field stands, and how it is written.
@@ -101,6 +145,18 @@ pub enum Label {
     Map(Kind),
     /// A member of the oneof at this place of its message.
     Member(u32),
+}
+
+impl Label {
+    /// The kind of a map's keys; of what is no map `uint64`.
+    pub fn key(self) -> Kind
+        ensures { result ≡ key_kind self }
+    {
+        match self {
+            Label::Map(key) => key,
+            _ => Kind::Uint64,
+        }
+    }
 }
 
 /// A field of a message.

@@ -11,7 +11,7 @@ ghost use Rattle.mrpc_top.specs.Decoding.{IsLineOf, IsFaultIn, IsFaultOfHeader, 
 ghost use Rattle.mrpc_top.specs.Telling.{Tells};
 
 use crate::laws::frame_law;
-use call_ledger::{put_hex, put_number};
+use call_ledger::put_hex;
 use frame_transport::{FeedFault, FrameRef, HEADER_LEN, HELLO, REQUEST, frame_at};
 use mrpc_base::{Sink, write_all};
 use mrpc_table::{Bytes, Memory, Table};
@@ -255,8 +255,8 @@ fn put_hello(frame: &FrameRef, lines: &mut Bytes) -> Result<(), Memory>
     ensures { OnOk result (lines.new ≡ lines.old ++ hello_line (frame_of frame.now)) }
 {
     lines.append(b"hello")?;
-    put_number(lines, u64::from(frame.conn))?;
-    put_number(lines, frame.payload.len() as u64)?;
+    lines.append_word(u64::from(frame.conn))?;
+    lines.append_word(frame.payload.len() as u64)?;
     lines.append(b"\n")
 }
 
@@ -265,10 +265,10 @@ fn put_call(alloc: Global, frame: &FrameRef, bytes: &[u8], lines: &mut Bytes) ->
     ensures { OnOk result (lines.new ≡ lines.old ++ call_line (frame_of frame.now) bytes.now) }
 {
     lines.append(b"frame")?;
-    put_number(lines, u64::from(frame.kind))?;
-    put_number(lines, u64::from(frame.method))?;
-    put_number(lines, u64::from(frame.conn))?;
-    put_number(lines, u64::from(frame.number))?;
+    lines.append_word(u64::from(frame.kind))?;
+    lines.append_word(u64::from(frame.method))?;
+    lines.append_word(u64::from(frame.conn))?;
+    lines.append_word(u64::from(frame.number))?;
     put_hex(alloc, lines, bytes)?;
     lines.push(b'\n')
 }

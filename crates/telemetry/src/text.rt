@@ -1,7 +1,7 @@
 //! The lines of counts. Their format is this project's own.
 
 ghost use Rattle.std.specs.Prelude.{◌≡◌, ◌==◌, if◌then◌else◌, [], ◌++◌, OnOk};
-ghost use Rattle.telemetry.specs.Totals.{count_words, method_line, totals_line, word};
+ghost use Rattle.telemetry.specs.Totals.{count_words, method_line, totals_line};
 
 use crate::counts::Counts;
 use mrpc_table::{Bytes, Memory};
@@ -15,7 +15,7 @@ pub fn put_method(out: &mut Bytes, method: u16, counts: Counts) -> Result<(), Me
         return Ok(());
     }
     out.append(b"method")?;
-    put_word(out, u64::from(method))?;
+    out.append_word(u64::from(method))?;
     put_counts(out, counts)?;
     out.append(b"\n")
 }
@@ -33,16 +33,8 @@ pub fn put_totals(out: &mut Bytes, counts: Counts) -> Result<(), Memory>
 fn put_counts(out: &mut Bytes, counts: Counts) -> Result<(), Memory>
     ensures { OnOk result (out.new ≡ out.old ++ count_words counts) }
 {
-    put_word(out, counts.took)?;
-    put_word(out, counts.sent)?;
-    put_word(out, counts.refused)?;
-    put_word(out, counts.standing)
-}
-
-// Appends a space and the decimal number behind it.
-fn put_word(out: &mut Bytes, number: u64) -> Result<(), Memory>
-    ensures { OnOk result (out.new ≡ out.old ++ word number) }
-{
-    out.append(b" ")?;
-    out.append_decimal(number)
+    out.append_word(counts.took)?;
+    out.append_word(counts.sent)?;
+    out.append_word(counts.refused)?;
+    out.append_word(counts.standing)
 }

@@ -4,10 +4,12 @@ use Rattle.std.specs.Prelude.{ℕ, zero, suc, ◌+◌, ◌-◌, ◌*◌, ◌/◌
 use Rattle.std.specs.Int.{w32, w64, to_le_bytes}
 use Rattle.mrpc_table.specs.Node.{Node, no_fields, field, Content, one, many, pairs, Item, number, run, node, Items, no_items, item, Pairs, no_pairs, pair}
 use Rattle.mrpc_table.specs.Normal.{fields_of, field_at}
+use Rattle.mrpc_table.specs.WireTypes.{wire_len, wire_type_of}
+use Rattle.mrpc_table.specs.Words.{key_kind, message_of}
 use Rattle.mrpc_table.specs.declared.table.Kind.{Kind}
-use Rattle.mrpc_table.specs.declared.table.Kind.TheVariants.{Uint64, Sint32, Sint64, Fixed32, Fixed64, Sfixed32, Sfixed64, Float, Double, Text, Octets, Message as OfMessage}
+use Rattle.mrpc_table.specs.declared.table.Kind.TheVariants.{Uint64, Sint32, Sint64, Fixed32, Fixed64, Sfixed32, Sfixed64, Float, Double}
 use Rattle.mrpc_table.specs.declared.table.Label.{Label}
-use Rattle.mrpc_table.specs.declared.table.Label.TheVariants.{Plain, Packed, Map}
+use Rattle.mrpc_table.specs.declared.table.Label.TheVariants.{Plain, Packed}
 use Rattle.mrpc_table.specs.declared.table.Field.{Field}
 use Rattle.mrpc_table.specs.declared.table.Table.{Table}
 
@@ -20,19 +22,7 @@ groups (suc more) n = if nat_lt n 128 then n ∷ [] else (n % 128 + 128) ∷ gro
 unfoldable pub varint : ℕ → List ℕ
 varint n = groups 9 n
 
--- the wire types
-abbrev pub wire_varint : ℕ
-wire_varint = 0
-
-abbrev pub wire_i64 : ℕ
-wire_i64 = 1
-
-abbrev pub wire_len : ℕ
-wire_len = 2
-
-abbrev pub wire_i32 : ℕ
-wire_i32 = 5
-
+-- a field's number and the wire type of its record
 abbrev pub tag : ℕ → ℕ → List ℕ
 tag n wire_type = varint (8 * n + wire_type)
 
@@ -43,18 +33,6 @@ delimited bytes = varint (length bytes) ++ bytes
 -- the ZigZag number of a word in two's complement: 0, -1, 1, -2, .. are 0, 1, 2, 3, ..
 abbrev pub zigzag_of : ℕ → ℕ
 zigzag_of n = if nat_lt n (2 ^ 63) then 2 * n else 2 * (2 ^ 64 - n) - 1
-
-abbrev pub wire_type_of : Kind → ℕ
-wire_type_of Fixed64 = wire_i64
-wire_type_of Sfixed64 = wire_i64
-wire_type_of Double = wire_i64
-wire_type_of Fixed32 = wire_i32
-wire_type_of Sfixed32 = wire_i32
-wire_type_of Float = wire_i32
-wire_type_of Text = wire_len
-wire_type_of Octets = wire_len
-wire_type_of (OfMessage i) = wire_len
-wire_type_of _ = wire_varint
 
 -- the bytes of a number, by the word form of its kind
 abbrev pub number_bytes : Kind → ℕ → List ℕ
@@ -68,7 +46,7 @@ number_bytes Sfixed32 n = to_le_bytes w32 (n % 2 ^ 32)
 number_bytes Float n = to_le_bytes w32 n
 number_bytes _ n = varint n
 
--- the kind and the label of the field of a number, and the kind of a map's keys
+-- the kind and the label of the field of a number
 abbrev pub kind_at : List Field → ℕ → Kind
 kind_at fs n = unwrap_or (option_map (λ f. f.kind) (field_at fs n)) Uint64
 
@@ -78,14 +56,6 @@ label_at fs n = unwrap_or (option_map (λ f. f.label) (field_at fs n)) Plain
 abbrev pub is_packed : Label → Bool
 is_packed Packed = true
 is_packed _ = false
-
-abbrev pub key_kind : Label → Kind
-key_kind (Map key) = key
-key_kind _ = Uint64
-
-abbrev pub message_of : Kind → ℕ
-message_of (OfMessage i) = i
-message_of _ = 0
 
 abbrev mutual
   pub fields_bytes : Table → List Field → Node → List ℕ

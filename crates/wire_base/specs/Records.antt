@@ -2,7 +2,7 @@
 -- and the first place where no record stands.
 use Rattle.std.specs.Prelude.{◌≡◌, ◌≢◌, ℕ, ◌+◌, ◌*◌, ◌/◌, ◌%◌, ◌^◌, ◌<◌, ◌≤◌, ◌⊎◌, List, [], ◌∷◌, length, drop, All, slice_range}
 use Rattle.std.specs.Int.{w32, w64, from_le_bytes}
-use Rattle.wire_base.specs.Encoding.{wire_varint, wire_i64, wire_len, wire_i32}
+use Rattle.mrpc_table.specs.WireTypes.{wire_varint, wire_i64, wire_len, wire_i32}
 use Rattle.wire_base.specs.declared.records.Payload.{Payload}
 use Rattle.wire_base.specs.declared.records.Payload.TheVariants.{Varint, I64, I32, Len}
 use Rattle.wire_base.specs.declared.records.Record.{Record}

@@ -15,7 +15,7 @@ use Rattle.mrpc_table.specs.declared.table.Label.{Label}
 use Rattle.mrpc_table.specs.declared.table.Label.TheVariants.{Map}
 use Rattle.mrpc_table.specs.declared.table.Field.{Field}
 use Rattle.mrpc_table.specs.declared.table.Table.{Table}
-use Rattle.wire_base.specs.Encoding.{wire_type_of}
+use Rattle.mrpc_table.specs.WireTypes.{wire_type_of}
 use Rattle.wire_base.specs.Records.{PayloadAt, IsWireType, IsWithin}
 use Rattle.wire_base.specs.declared.records.Payload.{Payload}
 use Rattle.wire_base.specs.declared.records.Payload.TheVariants.{Varint, I64, I32, Len}

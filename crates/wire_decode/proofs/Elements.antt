@@ -5,7 +5,7 @@ use Rattle.mrpc_table.specs.Node.{item, number, push_item}
 use Rattle.mrpc_table.specs.Words.{is_numeric}
 use Rattle.mrpc_table.specs.declared.table.Kind.{Kind}
 use Rattle.mrpc_table.specs.declared.table.Kind.TheVariants.{Int32, Int64, Uint32, Uint64, Sint32, Sint64, Bool as TheBool, Fixed32, Fixed64, Sfixed32, Sfixed64, Float, Double, Text, Octets, Message, Choice}
-use Rattle.wire_base.specs.Encoding.{wire_type_of}
+use Rattle.mrpc_table.specs.WireTypes.{wire_type_of}
 use Rattle.wire_base.specs.Records.{PayloadAt, VarintAt}
 use Rattle.wire_base.specs.declared.records.Payload.{Payload}
 use Rattle.wire_base.specs.declared.records.Payload.TheVariants.{Varint, I64, I32}

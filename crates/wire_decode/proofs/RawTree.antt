@@ -5,7 +5,8 @@ use Rattle.mrpc_table.specs.Normal.{fields_of}
 use Rattle.mrpc_table.specs.declared.table.Kind.{Kind}
 use Rattle.mrpc_table.specs.declared.table.Field.{Field}
 use Rattle.mrpc_table.specs.declared.table.Table.{Table}
-use Rattle.wire_base.specs.Encoding.{kind_at, label_at, is_packed, key_kind, message_of}
+use Rattle.wire_base.specs.Encoding.{kind_at, label_at, is_packed}
+use Rattle.mrpc_table.specs.Words.{key_kind, message_of}
 use Rattle.wire_decode.specs.Merged.{join_fields}
 
 abbrev mutual

@@ -1,7 +1,7 @@
 //! Numbers: the word form of what a record or a packed piece has.
 
 ghost use Rattle.std.specs.Prelude.{◌≡◌, ℕ, ◌%◌, ◌^◌};
-ghost use Rattle.wire_base.specs.Encoding.{wire_type_of};
+ghost use Rattle.mrpc_table.specs.WireTypes.{wire_type_of};
 ghost use Rattle.wire_decode.specs.Reads.{is_message};
 ghost use Rattle.wire_decode.specs.Words.{word_of, sign_extended, unzigzag_of, is_map, is_list, own_type, payload_type, number_in, suits, may_be_packed};
 
@@ -62,18 +62,6 @@ pub fn is_list(label: Label) -> bool
     matches!(label, Label::Repeated | Label::Packed)
 }
 
-/// The wire type of a value of the kind.
-pub fn wire_type_of(kind: Kind) -> u8
-    ensures { result ≡ wire_type_of kind }
-{
-    match kind {
-        Kind::Fixed64 | Kind::Sfixed64 | Kind::Double => 1,
-        Kind::Text | Kind::Octets | Kind::Message(_) => 2,
-        Kind::Fixed32 | Kind::Sfixed32 | Kind::Float => 5,
-        _ => 0,
-    }
-}
-
 /// Whether a field is read from a payload of this wire type.
 pub fn suits(label: Label, kind: Kind, payload: Payload) -> bool
     ensures { result ≡ suits label kind payload }
@@ -86,7 +74,7 @@ pub fn suits(label: Label, kind: Kind, payload: Payload) -> bool
     };
     let own = match label {
         Label::Map(_) => 2,
-        _ => wire_type_of(kind),
+        _ => kind.wire_type(),
     };
     found == own || (found == 2 && is_list(label) && kind.is_numeric())
 }

@@ -9,7 +9,7 @@ ghost use Rattle.mrpc_table.specs.declared.table.Label.TheVariants.{Map};
 ghost use Rattle.mrpc_table.specs.Words.{is_numeric};
 ghost use Rattle.map_entries.specs.Sorted.{items_of_entry};
 ghost use Rattle.wire_base.specs.Records.{TagAt, PayloadAt};
-ghost use Rattle.wire_base.specs.Encoding.{wire_type_of};
+ghost use Rattle.mrpc_table.specs.WireTypes.{wire_type_of};
 ghost use Rattle.wire_base.specs.declared.records.Payload.{Payload};
 ghost use Rattle.wire_base.specs.declared.records.Payload.TheVariants.{Len};
 ghost use Rattle.mrpc_table.specs.Ascending.{AllAscend, FieldsAscend};
@@ -17,7 +17,7 @@ ghost use Rattle.wire_decode.specs.Words.{is_list, number_in};
 ghost use Rattle.wire_decode.specs.Ordered.{IsWhole, IsValue, IsFieldRead, AreValues, AreEntries, IsPair, may_follow, oneofs_with, is_single, single_content};
 
 use crate::merge::{many, pairs, present, present_if_set, push_content};
-use crate::number::{wire_type_of, word_of};
+use crate::number::word_of;
 use crate::read::{element, elements, is_text};
 use crate::reuse::Spare;
 use map_entries::last_of_each;
@@ -592,7 +592,7 @@ fn number_at(bytes: &[u8], start: usize, tag: u32, kind: Kind) -> Option<(u64, u
     ensures ahead { IfSome result (λ e. start < e.1) }
     ensures within { IfSome result (λ e. e.1 ≤ length bytes.now) }
 {
-    let wire_type = wire_type_of(kind);
+    let wire_type = kind.wire_type() as u8;
     if tag % 8 != u32::from(wire_type) {
         return None;
     }

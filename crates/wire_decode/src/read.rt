@@ -4,7 +4,7 @@ ghost use Rattle.std.specs.Prelude.{◌≡◌, ℕ, ◌+◌, ◌<◌, ◌≤◌,
 ghost use Rattle.mrpc_table.specs.View.{items_of, content_of, node_of};
 ghost use Rattle.mrpc_table.specs.Node.{one, run, number as number_item};
 ghost use Rattle.mrpc_table.specs.Words.{is_numeric};
-ghost use Rattle.wire_base.specs.Encoding.{wire_type_of};
+ghost use Rattle.mrpc_table.specs.WireTypes.{wire_type_of};
 ghost use Rattle.wire_base.specs.Records.{PayloadAt, VarintAt, IsWithin};
 ghost use Rattle.wire_base.specs.declared.records.Payload.{Payload};
 ghost use Rattle.mrpc_table.specs.Ascending.{AllAscend, FieldsAscend};
@@ -18,7 +18,7 @@ ghost use Rattle.wire_decode.specs.Faults.{FaultsAs};
 ghost use Rattle.wire_decode.specs.declared.fault.DecodeReason.TheVariants.{PackedLength, Utf8};
 
 use crate::fault::{DecodeFault, DecodeReason};
-use crate::number::{is_message, suits, wire_type_of, word_of};
+use crate::number::{is_message, suits, word_of};
 use mrpc_table::{
     Bytes, Field, FieldValue, Kind, Label, Name, Numbered, Table, Tree, Value, Values, find_field,
 };
@@ -246,7 +246,7 @@ pub fn elements(
         (FaultsAs (λ reason at. (reason ≡ PackedLength) × (at ≡ start) × NoPiece kind bytes.now start)) }
 {
     payload_or_reason();
-    let wire_type = wire_type_of(kind);
+    let wire_type = kind.wire_type() as u8;
     values.reserve_exact(element_count(&bytes[start..], wire_type))?;
     let mut at = start;
     while at < bytes.len() {

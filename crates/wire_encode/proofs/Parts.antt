@@ -9,7 +9,8 @@ use Rattle.mrpc_table.specs.declared.tree.Value.{Value}
 use Rattle.mrpc_table.specs.declared.table.Kind.{Kind}
 use Rattle.mrpc_table.specs.declared.table.Field.{Field}
 use Rattle.mrpc_table.specs.declared.table.Table.{Table}
-use Rattle.wire_base.specs.Encoding.{tag, delimited, wire_len, wire_type_of, item_bytes, joined_bytes, records_bytes, entries_bytes, content_bytes, fields_bytes}
+use Rattle.wire_base.specs.Encoding.{tag, delimited, item_bytes, joined_bytes, records_bytes, entries_bytes, content_bytes, fields_bytes}
+use Rattle.mrpc_table.specs.WireTypes.{wire_len, wire_type_of}
 use Rattle.wire_encode.specs.Written.{capped}
 
 -- what is written for a field, an element, a record of an element, an entry

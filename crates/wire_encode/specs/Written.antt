@@ -3,7 +3,8 @@ use Rattle.std.specs.Prelude.{◌≡◌, ℕ, ◌+◌, ◌-◌, ◌^◌, min, Li
 use Rattle.mrpc_table.specs.Node.{Item}
 use Rattle.mrpc_table.specs.declared.table.Kind.{Kind}
 use Rattle.mrpc_table.specs.declared.table.Table.{Table}
-use Rattle.wire_base.specs.Encoding.{tag, delimited, wire_len, wire_type_of, item_bytes}
+use Rattle.wire_base.specs.Encoding.{tag, delimited, item_bytes}
+use Rattle.mrpc_table.specs.WireTypes.{wire_len, wire_type_of}
 
 -- the bytes stand right before `end`, from `start` on, and what stood behind them is as before
 pub record StandBefore (old new : List ℕ) (end start : ℕ) (bytes : List ℕ) : Type 0 where

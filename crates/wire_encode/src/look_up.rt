@@ -2,7 +2,7 @@
 
 ghost use Rattle.std.specs.Prelude.{◌≡◌, ◌<◌, length, IsTrue, IfSome, IfNone, None, slice_get};
 ghost use Rattle.mrpc_table.specs.Normal.{fields_of, field_at};
-ghost use Rattle.wire_base.specs.Encoding.{kind_at, label_at, key_kind, message_of, wire_type_of};
+ghost use Rattle.wire_base.specs.Encoding.{kind_at, label_at};
 ghost use Rattle.mrpc_table.specs.Ascending.{FieldsAscend};
 
 use mrpc_table::{Field, Kind, Label, find_field};
@@ -27,38 +27,5 @@ pub fn type_near(fields: &[Field], number: u32, hint: usize) -> (Kind, Label, us
     match find_field(fields, number, hint) {
         Some(place) => (fields[place].kind, fields[place].label, place),
         None => (Kind::Uint64, Label::Plain, hint),
-    }
-}
-
-/// The kind of a map's keys.
-pub fn key_kind(label: Label) -> Kind
-    ensures { result ≡ key_kind label }
-{
-    match label {
-        Label::Map(key) => key,
-        _ => Kind::Uint64,
-    }
-}
-
-/// The message that a kind names.
-pub fn message_of(kind: Kind) -> u32
-    ensures { result ≡ message_of kind }
-{
-    match kind {
-        Kind::Message(place) => place,
-        _ => 0,
-    }
-}
-
-/// The wire type of a value of the kind.
-pub fn wire_type_of(kind: Kind) -> u64
-    ensures value { result ≡ wire_type_of kind }
-    ensures small { result < 8 }
-{
-    match kind {
-        Kind::Fixed64 | Kind::Sfixed64 | Kind::Double => 1,
-        Kind::Text | Kind::Octets | Kind::Message(_) => 2,
-        Kind::Fixed32 | Kind::Sfixed32 | Kind::Float => 5,
-        _ => 0,
     }
 }

@@ -6,7 +6,7 @@ ghost use Rattle.wire_base.specs.Encoding.{varint, tag, number_bytes, item_bytes
 ghost use Rattle.mrpc_table.specs.Ascending.{AllAscend, FieldsAscend};
 ghost use Rattle.wire_encode.specs.Written.{capped};
 
-use crate::look_up::{key_kind, message_of, type_of, wire_type_of};
+use crate::look_up::type_of;
 use mrpc_table::{Entries, Field, FieldValue, Kind, Label, Table, Tree, Value, Values};
 use wire_base::{varint_len, zigzag};
 
@@ -35,7 +35,7 @@ fn field_len(content: &FieldValue, table: &Table, fields: &[Field], number: u32)
     let (kind, label) = type_of(fields, number);
     match content {
         FieldValue::One(value) => {
-            tag_len(number, wire_type_of(kind)).saturating_add(value_len(value, table, kind))
+            tag_len(number, kind.wire_type()).saturating_add(value_len(value, table, kind))
         }
         FieldValue::Many(values) => match label {
             Label::Packed => {
@@ -43,7 +43,7 @@ fn field_len(content: &FieldValue, table: &Table, fields: &[Field], number: u32)
             }
             _ => records_len(values, table, number, kind),
         },
-        FieldValue::Pairs(entries) => entries_len(entries, table, number, key_kind(label), kind),
+        FieldValue::Pairs(entries) => entries_len(entries, table, number, label.key(), kind),
     }
 }
 
@@ -66,7 +66,7 @@ fn records_len(values: &Values, table: &Table, number: u32, kind: Kind) -> u64
     requires { AllAscend table.now }
     ensures { result ≡ capped (length (records_bytes table.now number kind (items_of values.now.items))) }
 {
-    let tag = tag_len(number, wire_type_of(kind));
+    let tag = tag_len(number, kind.wire_type());
     let mut total = 0u64;
     for value in values {
         let len = tag.saturating_add(value_len(value, table, kind));
@@ -83,8 +83,8 @@ fn entries_len(entries: &Entries, table: &Table, number: u32, key: Kind, kind: K
         ≡ capped (length (entries_bytes table.now number key kind (pairs_of entries.now.items))) }
 {
     let tag = tag_len(number, 2);
-    let key_tag = tag_len(1, wire_type_of(key));
-    let value_tag = tag_len(2, wire_type_of(kind));
+    let key_tag = tag_len(1, key.wire_type());
+    let value_tag = tag_len(2, kind.wire_type());
     let mut total = 0u64;
     for entry in entries {
         let key_part = key_tag.saturating_add(value_len(&entry.0, table, key));
@@ -105,7 +105,7 @@ fn value_len(value: &Value, table: &Table, kind: Kind) -> u64
         Value::Number(n) => number_len(kind, *n),
         Value::Run(bytes) => delimited_len(bytes.len() as u64),
         Value::Node(tree) => {
-            let fields = table.fields(message_of(kind));
+            let fields = table.fields(kind.message());
             delimited_len(message_len(tree, table, fields))
         }
     }

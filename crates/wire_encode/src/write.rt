@@ -7,7 +7,7 @@ ghost use Rattle.wire_base.specs.Encoding.{varint, tag, delimited, kind_at, labe
 ghost use Rattle.mrpc_table.specs.Ascending.{AllAscend, FieldsAscend};
 ghost use Rattle.wire_encode.specs.Written.{record_bytes, entry_bytes};
 
-use crate::look_up::{key_kind, message_of, type_near, wire_type_of};
+use crate::look_up::type_near;
 use crate::output::Output;
 use mrpc_table::{Entries, Field, FieldValue, Kind, Label, Memory, Table, Tree, Value, Values};
 use wire_base::zigzag;
@@ -57,7 +57,7 @@ fn write_field(
             _ => write_records(out, values, table, number, kind),
         },
         FieldValue::Pairs(entries) => {
-            write_entries(out, entries, table, number, key_kind(label), kind)
+            write_entries(out, entries, table, number, label.key(), kind)
         }
     }
 }
@@ -129,7 +129,7 @@ fn write_record(
     ensures { OnOk result (out.new ≡ record_bytes table.now number kind (item_of value.now) ++ out.old) }
 {
     write_value(out, value, table, kind)?;
-    write_tag(out, number, wire_type_of(kind))
+    write_tag(out, number, kind.wire_type())
 }
 
 /// Writes a record for each entry.
@@ -189,7 +189,7 @@ fn write_value(out: &mut Output, value: &Value, table: &Table, kind: Kind) -> Re
         }
         Value::Node(tree) => {
             let behind = out.len();
-            write_message(out, tree, table, table.fields(message_of(kind)))?;
+            write_message(out, tree, table, table.fields(kind.message()))?;
             write_length(out, behind)
         }
     }

@@ -1,5 +1,5 @@
 use Rattle.std.proofs.Common.{◌≡◌, ℕ, [], ◌∷◌, ◌++◌, length, sym, subst, arith, ap, ◌∙◌}
-use Rattle.wire_base.specs.Encoding.{wire_type_of}
+use Rattle.mrpc_table.specs.WireTypes.{wire_type_of}
 use Rattle.wire_base.specs.Records.{PayloadAt}
 use Rattle.wire_base.specs.declared.records.Payload.{Payload}
 use Rattle.mrpc_table.specs.Node.{push_item, number}
