@@ -1,2 +1,4 @@
 pub mod Dot
+pub mod Joined
 pub mod Order
+pub mod Together
