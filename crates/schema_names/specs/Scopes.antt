@@ -58,6 +58,12 @@ pub data Declares (F : Joined) : ℕ → Sort → List (List ℕ) → Span → T
   rpc : (s : ServiceDecl) (r : RpcDecl) → Contains F.services s → Contains s.rpcs r
       → Declares F s.file no_type (package_at F s.file ++ s.name.name ∷ r.name.name ∷ []) r.name.span
 
+-- the package of a file has this full name, or begins with it
+pub record IsFront (F : Joined) (full : List (List ℕ)) : Type 0 where
+  pub file : ℕ
+  pub rest : List (List ℕ)
+  pub begins : package_at F file ≡ full ++ rest
+
 -- ---- references
 
 -- a type of the files that a file sees, or one of their packages or a front of one
