@@ -22,7 +22,7 @@ mod services;
 mod types;
 
 pub use first::Offence;
-pub use judge::first_offence;
+pub use judge::{first_offence, with_import};
 pub use laws::one_offence;
 pub use numbers::{enum_number, field_number};
 pub use reason::ResolveReason;
