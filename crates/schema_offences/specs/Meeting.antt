@@ -17,7 +17,7 @@ use Rattle.proto_file.specs.Joined.{Joined, package_at}
 use Rattle.schema_names.specs.Scopes.{IsScope}
 use Rattle.schema_offences.specs.Members.{Is, IsLong, IsNoMessage, MessageOffends, MethodOffends}
 use Rattle.schema_offences.specs.Lines.{PassesAt}
-use Rattle.schema_offences.specs.Offences.{IsTwice, IsLongInFull, IsOffence, HasOffence, ComesFirst, rank_of}
+use Rattle.schema_offences.specs.Offences.{Offends, IsTwice, IsLongInFull, IsOffence, HasOffence, ComesFirst, rank_of}
 use Rattle.schema_offences.specs.declared.reason.ResolveReason.{ResolveReason}
 use Rattle.schema_offences.specs.declared.reason.ResolveReason.TheVariants.{UnknownName, DuplicateName, Limit, Import as HasImport}
 use Rattle.schema_offences.specs.declared.first.Offence.{Offence}

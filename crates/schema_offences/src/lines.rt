@@ -293,7 +293,7 @@ fn method_length<'a>(
     let front = 12 + digits(index);
     Some(
         front
-            .saturating_add(lengths.full(None, &service.name))
+            .saturating_add(lengths.full(Home::File(service.file), &service.name))
             .saturating_add(rpc.name.name.len())
             .saturating_add(lengths.messages[input])
             .saturating_add(lengths.messages[output]),
