@@ -13,15 +13,15 @@ use Rattle.proto_file.specs.declared.file.MessageDecl.{MessageDecl}
 use Rattle.proto_file.specs.declared.file.EnumDecl.{EnumDecl}
 use Rattle.proto_file.specs.declared.file.RpcDecl.{RpcDecl}
 use Rattle.proto_file.specs.declared.file.ServiceDecl.{ServiceDecl}
-use Rattle.proto_file.specs.declared.file.File.{File}
+use Rattle.proto_file.specs.Joined.{Joined}
 use Rattle.proto_file.specs.Order
-use Rattle.proto_file.specs.Order.{IsOrdered, message_decl, field_decl, oneof_decl, enum_decl, value_decl, service_decl, rpc_decl, its_name}
+use Rattle.proto_file.specs.Together.{IsOrdered, message_decl, field_decl, oneof_decl, enum_decl, value_decl, service_decl, rpc_decl, its_name}
 use Rattle.schema_names.specs.Scopes
 use Rattle.schema_names.specs.Scopes.{IsScope, of_file, of_message, package_of, Sort, a_message, an_enum, no_type, is_type, Declares}
 use Rattle.schema_names.specs.Numbers.{StandBehind, IsNumber}
 use Rattle.schema_offences.specs.Offences
 use Rattle.schema_offences.specs.Offences.{IsTwice, ComesFirst}
-use Rattle.schema_offences.specs.Sources.{alone}
+use Rattle.schema_offences.specs.Methods.{alone}
 use Rattle.schema_offences.specs.Meeting.{Meets, AtSome, OfElement, TwiceIn, IsKeptBefore}
 use Rattle.schema_offences.specs.Entries
 use Rattle.schema_offences.specs.Entries.{Entry, entry, HasNumber, HasNumbers, OfMessage, OfEnum, OfService, OfSome, Adds, StartsBefore, IsLater}
@@ -55,24 +55,24 @@ if_some P (Some i) h = h i refl
 
 -- ---- full names
 
-scope_length : (F : File) (p : Option ℕ) (s : List (List ℕ)) → IsScope F p s → length (package_of F) ≤ length s
+scope_length : (F : Joined) (p : Option ℕ) (s : List (List ℕ)) → IsScope F p s → length (package_of F) ≤ length s
 scope_length F p s of_file = omega arith
 scope_length F p s (of_message i m {outer} at up) =
     omega (arith, scope_length F m.parent outer up, length-append outer (m.name.name ∷ []))
 
 -- what a message's scope is
-record MessageScope (F : File) (i : ℕ) (s : List (List ℕ)) : Type 0 where
+record MessageScope (F : Joined) (i : ℕ) (s : List (List ℕ)) : Type 0 where
   pub decl : MessageDecl
   pub outer : List (List ℕ)
   pub at : slice_get F.messages i ≡ Some decl
   pub up : IsScope F decl.parent outer
   pub is : s ≡ outer ++ decl.name.name ∷ []
 
-message_scope : {F : File} {i : ℕ} {s : List (List ℕ)} → IsScope F (Some i) s → MessageScope F i s
+message_scope : {F : Joined} {i : ℕ} {s : List (List ℕ)} → IsScope F (Some i) s → MessageScope F i s
 message_scope (of_message i m {outer} at up) = record { decl = m; outer = outer; at = at; up = up; is = refl }
 
 -- a type's full name is longer than its package
-type_longer : (F : File) (sort : Sort) (full : List (List ℕ)) (s : Span) → Declares F sort full s → is_type sort ≡ true
+type_longer : (F : Joined) (sort : Sort) (full : List (List ℕ)) (s : Span) → Declares F sort full s → is_type sort ≡ true
     → length (package_of F) < length full
 type_longer F sort full s (Scopes.message m {outer} c is) h =
     omega (arith, scope_length F m.parent outer is, length-append outer (m.name.name ∷ []))
@@ -85,7 +85,7 @@ type_longer F sort full s (Scopes.oneof m o c d is) h = absurd cc
 type_longer F sort full s (Scopes.rpc x r c d) h = absurd cc
 
 -- two declarations of a full name, of which one is earlier
-record Pair (F : File) (span : Span) : Type 0 where
+record Pair (F : Joined) (span : Span) : Type 0 where
   pub a : Sort
   pub b : Sort
   pub full : List (List ℕ)
@@ -99,7 +99,7 @@ only_one x y zero e = same_Some x y e
 only_one x y (suc i) e = absurd cc
 
 -- no type of a file alone is its package or a front of it
-pair_of : (F : File) (span : Span) → IsTwice (alone F) span → Pair F span
+pair_of : (F : Joined) (span : Span) → IsTwice (alone F) span → Pair F span
 pair_of F span (Offences.in_file a b full earlier d e l) =
     record { a = a; b = b; full = full; earlier = earlier; one = d; other = e; before = l }
 pair_of F span (Offences.in_another G a b full other c d e) =
@@ -117,7 +117,7 @@ pair_of F span (Offences.a_package G sort full rest c e d t) =
     ))
 
 -- what holds of numbers
-pub record Laws (F : File) : Type 0 where
+pub record Laws (F : Joined) : Type 0 where
   pub scope : (s t : List (List ℕ)) (k : ℕ) → IsNumber F s k → IsNumber F t k → s ≡ t
   pub number : (s : List (List ℕ)) (k l : ℕ) → IsNumber F s k → IsNumber F s l → k ≡ l
   pub small : (s : List (List ℕ)) (k : ℕ) → IsNumber F s k → k ≤ length F.messages
@@ -127,11 +127,11 @@ pub record Laws (F : File) : Type 0 where
 abbrev IsKept : File → Entry → Type 0
 IsKept F e = (OfSome F.messages (OfMessage F) e ⊎ OfSome F.enums (OfEnum F) e) ⊎ OfSome F.services (OfService F) e
 
-pub record Keeps (F : File) (es : List Entry) : Type 0 where
+pub record Keeps (F : Joined) (es : List Entry) : Type 0 where
   pub one : (e : Entry) → Contains es e → IsKept F e
   pub each : (e : Entry) → IsKept F e → Contains es e
 
-pub keeps : (F : File) (none a b c : List Entry) → none ≡ [] → Adds (OfSome F.messages (OfMessage F)) none a
+pub keeps : (F : Joined) (none a b c : List Entry) → none ≡ [] → Adds (OfSome F.messages (OfMessage F)) none a
     → Adds (OfSome F.enums (OfEnum F)) a b → Adds (OfSome F.services (OfService F)) b c → Keeps F c
 keeps F none a b c empty p q r = record {
   one = λ e h. elim (r.one e h) [
@@ -156,7 +156,7 @@ keeps F none a b c empty p q r = record {
   ];
 }
 
-module _ (F : File) (es : List Entry) (laws : Laws F) (behind : StandBehind F) (order : IsOrdered F)
+module _ (F : Joined) (es : List Entry) (laws : Laws F) (behind : StandBehind F) (order : IsOrdered F)
     (numbers : HasNumbers F) (kept : Keeps F es) where
   -- ---- what is gathered is declared
 

@@ -11,7 +11,7 @@ use Rattle.proto_file.specs.declared.file.ValueDecl.{ValueDecl}
 use Rattle.proto_file.specs.declared.file.EnumDecl.{EnumDecl}
 use Rattle.proto_file.specs.declared.file.RpcDecl.{RpcDecl}
 use Rattle.proto_file.specs.declared.file.ServiceDecl.{ServiceDecl}
-use Rattle.proto_file.specs.declared.file.File.{File}
+use Rattle.proto_file.specs.Joined.{Joined}
 use Rattle.schema_names.specs.Scopes.{of_file, package_of}
 use Rattle.schema_names.specs.Numbers.{StandBehind, IsPlace, of_file as number_of_file}
 use Rattle.schema_offences.specs.Entries
@@ -143,7 +143,7 @@ pushed ds es d e is same =
 abbrev IsTheNumber : File → Option ℕ → ℕ → Type 0
 IsTheNumber F place k = HasNumber F place k × ((j : ℕ) → HasNumber F place j → j ≡ k)
 
-module _ (F : File) (i : ℕ) (m : MessageDecl) (k l : ℕ) (outer : IsTheNumber F m.parent k)
+module _ (F : Joined) (i : ℕ) (m : MessageDecl) (k l : ℕ) (outer : IsTheNumber F m.parent k)
     (inner : IsTheNumber F (Some i) l) where
   abbrev FieldOrName : Entry → Type 0
   FieldOrName e = (e ≡ entry k m.name) ⊎ IsMapped (λ (f : FieldDecl). entry l f.name) m.fields e
@@ -168,7 +168,7 @@ module _ (F : File) (i : ℕ) (m : MessageDecl) (k l : ℕ) (outer : IsTheNumber
       (λ e h. h) (λ e h. h))
       (adds_map (entry l) m.oneofs c d oneofs) message_to message_from
 
-module _ (F : File) (i : ℕ) (x : EnumDecl) (k : ℕ) (outer : IsTheNumber F x.parent k) where
+module _ (F : Joined) (i : ℕ) (x : EnumDecl) (k : ℕ) (outer : IsTheNumber F x.parent k) where
   abbrev EnumParts : Entry → Type 0
   EnumParts e = (e ≡ entry k x.name) ⊎ IsMapped (λ (v : ValueDecl). entry k v.name) x.values e
 
@@ -187,7 +187,7 @@ module _ (F : File) (i : ℕ) (x : EnumDecl) (k : ℕ) (outer : IsTheNumber F x.
       (adds_one (entry k x.name) a b one) (adds_map (λ (v : ValueDecl). entry k v.name) x.values b c values)
       enum_to enum_from
 
-module _ (F : File) (i : ℕ) (x : ServiceDecl) (k l : ℕ) (outer : IsTheNumber F None k)
+module _ (F : Joined) (i : ℕ) (x : ServiceDecl) (k l : ℕ) (outer : IsTheNumber F None k)
     (own : l ≡ 1 + length F.messages + i) where
   abbrev ServiceParts : Entry → Type 0
   ServiceParts e = (e ≡ entry k x.name) ⊎ IsMapped (λ (r : RpcDecl). entry l r.name) x.rpcs e
@@ -210,11 +210,11 @@ module _ (F : File) (i : ℕ) (x : ServiceDecl) (k l : ℕ) (outer : IsTheNumber
 
 -- ---- places
 
-placed : (F : File) (place : Option ℕ) → ((p : ℕ) → place ≡ Some p → p < length F.messages) → IsPlace F place
+placed : (F : Joined) (place : Option ℕ) → ((p : ℕ) → place ≡ Some p → p < length F.messages) → IsPlace F place
 placed F None h = tt
 placed F (Some p) h = h p refl
 
-pub message_placed : (F : File) (i : ℕ) (m : MessageDecl) → StandBehind F → slice_get F.messages i ≡ Some m
+pub message_placed : (F : Joined) (i : ℕ) (m : MessageDecl) → StandBehind F → slice_get F.messages i ≡ Some m
     → IsPlace F m.parent
 message_placed F i m behind at =
     placed F m.parent (λ p e.
@@ -222,10 +222,10 @@ message_placed F i m behind at =
     let w : i < length F.messages = slice_get_within F.messages i m at in
     omega arith)
 
-pub enum_placed : (F : File) (i : ℕ) (x : EnumDecl) → StandBehind F → slice_get F.enums i ≡ Some x → IsPlace F x.parent
+pub enum_placed : (F : Joined) (i : ℕ) (x : EnumDecl) → StandBehind F → slice_get F.enums i ≡ Some x → IsPlace F x.parent
 enum_placed F i x behind at = placed F x.parent (λ p e. behind.enums x p (get_contains F.enums i x at) e)
 
-pub has_numbers : (F : File) (n : ℕ) → n ≡ length F.messages
+pub has_numbers : (F : Joined) (n : ℕ) → n ≡ length F.messages
     → ((j : ℕ) → j < n → (k : ℕ) × HasNumber F (Some j) k) → HasNumbers F
 has_numbers F n all each None here =
     (0, record { full = package_of F; is_scope = of_file; number = number_of_file refl refl })

@@ -13,7 +13,7 @@ use Rattle.proto_file.specs.declared.file.FieldLabel.{FieldLabel}
 use Rattle.proto_file.specs.declared.file.FieldLabel.TheVariants.{Plain, Optional, Repeated}
 use Rattle.proto_file.specs.declared.file.FieldType.TheVariants.{Named, Map}
 use Rattle.proto_file.specs.declared.file.FieldDecl.{FieldDecl}
-use Rattle.proto_file.specs.declared.file.File.{File}
+use Rattle.proto_file.specs.Joined.{Joined}
 use Rattle.schema_names.specs.Scopes.{text_of}
 use Rattle.schema_names.specs.declared.named.Named.TheVariants.{Message, Enum}
 use Rattle.schema_offences.specs.Types
@@ -74,12 +74,12 @@ map_oneof f key value e none = oneof_at f key value f.oneof e refl none
 -- ---- types
 
 -- the word that a type has
-pub record HasWord (F : File) (scope : List (List ℕ)) (w : Word) (t : TypeOf) : Type 0 where
+pub record HasWord (F : Joined) (scope : List (List ℕ)) (w : Word) (t : TypeOf) : Type 0 where
   pub word : List ℕ
   pub of_type : IsWordOf F t word
   pub has : HasType (F ∷ []) scope w word (is_message t) (is_packable t)
 
-pub has_word : (F : File) (scope : List (List ℕ)) (w : Word) (t : TypeOf) → IsType F scope w.name t
+pub has_word : (F : Joined) (scope : List (List ℕ)) (w : Word) (t : TypeOf) → IsType F scope w.name t
     → HasWord F scope w t
 has_word F scope w (Scalar k) is = record { word = w.name; of_type = sym is.named; has = Types.scalar k is }
 has_word F scope w (OfName (Message i)) is = record {
@@ -118,7 +118,7 @@ module _ (files : List File) (scope : List (List ℕ)) (f : FieldDecl) where
       no_type files scope value other m p none unknown
       (subst (λ (y : Word). HasType files scope y other m p) same has)
 
-module _ (F : File) (scope : List (List ℕ)) (f : FieldDecl) where
+module _ (F : Joined) (scope : List (List ℕ)) (f : FieldDecl) where
   pub single_form : (w : Word) (t : TypeOf) (l : Label) → f.kind ≡ Named w → IsType F scope w.name t
       → l ≡ single_label f.label f.packed (is_message t) (is_packable t)
       → IsForm F scope f (record { label = l; oneof = f.oneof; type_of = t })

@@ -13,7 +13,7 @@ use Rattle.proto_file.specs.declared.file.Span.{Span}
 use Rattle.proto_file.specs.declared.file.Word.{Word}
 use Rattle.proto_file.specs.declared.file.MessageDecl.{MessageDecl}
 use Rattle.proto_file.specs.declared.file.EnumDecl.{EnumDecl}
-use Rattle.proto_file.specs.declared.file.File.{File}
+use Rattle.proto_file.specs.Joined.{Joined}
 use Rattle.schema_names.specs.Scopes
 use Rattle.schema_names.specs.Scopes.{IsScope, text_of, package_parts, package_of}
 use Rattle.schema_names.specs.Numbers
@@ -59,7 +59,7 @@ package_length w =
 pub contains_at : {X : Type 0} (xs : List X) (i : ℕ) (x : X) → slice_get xs i ≡ Some x → Contains xs x
 contains_at xs i x at = (i, slice_get_within xs i x at, get_or_from_slice_get xs i x x at)
 
-pub full_is : (F : File) (messages enums : ℕ) (kept : Lengths) (parent : Option ℕ) (w : Word) {outer : List (List ℕ)}
+pub full_is : (F : Joined) (messages enums : ℕ) (kept : Lengths) (parent : Option ℕ) (w : Word) {outer : List (List ℕ)}
     → KeepsLengths F messages enums kept → IsPlaceBelow messages parent → IsScope F parent outer
     → full_length kept parent w ≡ at_most_64_bits (length (text_of (outer ++ w.name ∷ [])))
 full_is F messages enums kept None w k below Scopes.of_file =
@@ -78,7 +78,7 @@ full_is F messages enums kept (Some i) w k below (Scopes.of_message place m {out
 
 -- ---- places
 
-pub enum_below : (F : File) → IsFormed F → (i : ℕ) (x : EnumDecl) → slice_get F.enums i ≡ Some x
+pub enum_below : (F : Joined) → IsFormed F → (i : ℕ) (x : EnumDecl) → slice_get F.enums i ≡ Some x
     → IsPlaceBelow (length F.messages) x.parent
 enum_below F formed i x at =
     All-contains (λ (e : EnumDecl). IsPlaceBelow (length F.messages) e.parent) F.enums x formed.enum_parents
@@ -88,19 +88,19 @@ below_weaker : (m n : ℕ) (place : Option ℕ) → m ≤ n → IsPlaceBelow m p
 below_weaker m n None l b = tt
 below_weaker m n (Some i) l b = omega arith
 
-pub message_below : (F : File) → IsFormed F → (i : ℕ) (m : MessageDecl) → slice_get F.messages i ≡ Some m
+pub message_below : (F : Joined) → IsFormed F → (i : ℕ) (m : MessageDecl) → slice_get F.messages i ≡ Some m
     → IsPlaceBelow (length F.messages) m.parent
 message_below F formed i m at =
     let l : i < length F.messages = slice_get_within F.messages i m at in
     below_weaker i (length F.messages) m.parent (omega arith) (formed.parents i m at)
 
-pub is_place : (F : File) (place : Option ℕ) → IsPlaceBelow (length F.messages) place → IsPlace F place
+pub is_place : (F : Joined) (place : Option ℕ) → IsPlaceBelow (length F.messages) place → IsPlace F place
 is_place F None b = tt
 is_place F (Some i) b = b
 
 -- ---- lengths that are kept
 
-pub keeps_none : (F : File) (kept : Lengths) → kept.front ≡ at_most_64_bits (front_length (package_of F))
+pub keeps_none : (F : Joined) (kept : Lengths) → kept.front ≡ at_most_64_bits (front_length (package_of F))
     → kept.messages.items ≡ [] → kept.enums.items ≡ [] → KeepsLengths F 0 0 kept
 keeps_none F kept front ms es = record {
   front = front;
@@ -113,7 +113,7 @@ keeps_none F kept front ms es = record {
 at_end : (xs : List ℕ) (x j : ℕ) → j ≡ length xs → get_or (xs ++ x ∷ []) j 0 ≡ x
 at_end xs x j e = ap (λ (i : ℕ). get_or (xs ++ x ∷ []) i 0) e ∙ get_or-append_seam xs x [] 0
 
-module _ (F : File) (old new : Lengths) where
+module _ (F : Joined) (old new : Lengths) where
   message_added : (i : ℕ) (m : MessageDecl) → IsFormed F → KeepsLengths F i 0 old → slice_get F.messages i ≡ Some m
       → new.messages.items ≡ old.messages.items ++ full_length old m.parent m.name ∷ []
       → (j : ℕ) (full : List (List ℕ)) (s : Span) → j ≡ i → StandsAt F (Message j) full s

@@ -7,11 +7,11 @@ use Rattle.proto_file.specs.declared.file.Word.{Word}
 use Rattle.proto_file.specs.declared.file.MessageDecl.{MessageDecl}
 use Rattle.proto_file.specs.declared.file.EnumDecl.{EnumDecl}
 use Rattle.proto_file.specs.declared.file.RpcDecl.{RpcDecl}
-use Rattle.proto_file.specs.declared.file.File.{File}
+use Rattle.proto_file.specs.Joined.{Joined}
 use Rattle.schema_offences.specs.Members
 use Rattle.schema_offences.specs.Members.{Is, IsLong, IsReservedName, TypeOffends, NumberOffends, ValueOffends, NameOffends, MessageOffends, EnumOffends, MethodOffends, IsNoMessage}
 use Rattle.schema_names.specs.Scopes.{IsScope, package_of}
-use Rattle.schema_offences.specs.Sources.{alone, rpcs_of}
+use Rattle.schema_offences.specs.Methods.{alone, rpcs_of}
 use Rattle.schema_offences.specs.Offences
 use Rattle.schema_offences.specs.Offences.{Offends, IsOffence}
 use Rattle.schema_offences.specs.Meeting.{Meets, AtSome, OfElement, MessageIn, MethodIn, IsLongService, HeadOffends, an_import, a_long_package, TwiceIn, LongIn, PassesIn}
@@ -89,7 +89,7 @@ message_from files scope n m q s (Members.of_name i f at p) =
 message_from files scope n m q s (Members.of_oneof i o at p) =
     inr (record { place = i; is = record { element = o; at = at; is = p } })
 
-pub meets_message_in : (F : File) (i : ℕ) (m : MessageDecl) (scope : List (List ℕ)) (a b : First)
+pub meets_message_in : (F : Joined) (i : ℕ) (m : MessageDecl) (scope : List (List ℕ)) (a b : First)
     → IsScope F (Some i) scope → ((t : List (List ℕ)) → IsScope F (Some i) t → t ≡ scope)
     → Meets (MessageOffends (F ∷ []) scope i m) a b → Meets (MessageIn F i m) a b
 meets_message_in F i m scope a b h one met =
@@ -132,11 +132,11 @@ FileParts F q s =
 count : (i : ℕ) → 0 + i ≡ i
 count i = omega arith
 
-head_to : (F : File) (q : ResolveReason) (s : Span) → HeadOffends F q s → IsOffence F q s
+head_to : (F : Joined) (q : ResolveReason) (s : Span) → HeadOffends F q s → IsOffence F q s
 head_to F q s (an_import x at is) = Offences.has_import x at is
 head_to F q s (a_long_package w at long is) = Offences.offends (Offences.of_package w at long is)
 
-pub file_to : (F : File) (q : ResolveReason) (s : Span) → FileParts F q s → IsOffence F q s
+pub file_to : (F : Joined) (q : ResolveReason) (s : Span) → FileParts F q s → IsOffence F q s
 file_to F q s (inl (inl (inl (inl (inl (inl (inl p))))))) = head_to F q s p
 file_to F q s (inl (inl (inl (inl (inl (inl (inr p))))))) = Offences.offends (Offences.twice p.0 p.1 p.2)
 file_to F q s (inl (inl (inl (inl (inl (inr p)))))) =
@@ -153,7 +153,7 @@ file_to F q s (inl (inl (inr p))) =
 file_to F q s (inl (inr p)) = Offences.offends (Offences.long_in_full p.0 p.1 p.2)
 file_to F q s (inr p) = Offences.offends (Offences.long_text p.0 p.1 p.2)
 
-offends_from : (F : File) (q : ResolveReason) (s : Span) → Offends (alone F) q s → FileParts F q s
+offends_from : (F : Joined) (q : ResolveReason) (s : Span) → Offends (alone F) q s → FileParts F q s
 offends_from F q s (Offences.of_message i m {scope = scope} at is o) =
     inl (inl (inl (inl (inl (inr (record {
       place = i;
@@ -185,6 +185,6 @@ offends_from F q s (Offences.twice span t is) = inl (inl (inl (inl (inl (inl (in
 offends_from F q s (Offences.long_in_full span t is) = inl (inr (span, t, is))
 offends_from F q s (Offences.long_text span t is) = inr (span, t, is)
 
-pub file_from : (F : File) (q : ResolveReason) (s : Span) → IsOffence F q s → FileParts F q s
+pub file_from : (F : Joined) (q : ResolveReason) (s : Span) → IsOffence F q s → FileParts F q s
 file_from F q s (Offences.offends o) = offends_from F q s o
 file_from F q s (Offences.has_import x at is) = inl (inl (inl (inl (inl (inl (inl (an_import x at is)))))))

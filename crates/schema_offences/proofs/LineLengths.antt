@@ -16,7 +16,7 @@ use Rattle.proto_file.specs.declared.file.ValueDecl.{ValueDecl}
 use Rattle.proto_file.specs.declared.file.EnumDecl.{EnumDecl}
 use Rattle.proto_file.specs.declared.file.RpcDecl.{RpcDecl}
 use Rattle.proto_file.specs.declared.file.ServiceDecl.{ServiceDecl}
-use Rattle.proto_file.specs.declared.file.File.{File}
+use Rattle.proto_file.specs.Joined.{Joined}
 use Rattle.schema_names.specs.Scopes
 use Rattle.schema_names.specs.Scopes.{a_message, text_of, package_of, IsScope, Names}
 use Rattle.schema_names.specs.Numbers
@@ -97,7 +97,7 @@ sums_four d digits l len n i j a b c e p q x y z w = cc
 
 -- ---- types
 
-module _ (F : File) (kept : Lengths) (k : AreLengths F kept) where
+module _ (F : Joined) (kept : Lengths) (k : AreLengths F kept) where
   pub message_within : (i : ℕ) (full : List (List ℕ)) (s : Span) → StandsAt F (Message i) full s → i < length F.messages
   message_within i full s (Numbers.message j m at up) = slice_get_within F.messages j m at
 
@@ -214,7 +214,7 @@ module _ (F : File) (kept : Lengths) (k : AreLengths F kept) where
 
 -- ---- names without a line
 
-module _ (F : File) (i j : ℕ) where
+module _ (F : Joined) (i j : ℕ) where
   same_field : (m n : MessageDecl) (f g : FieldDecl) → slice_get F.messages i ≡ Some m → slice_get m.fields j ≡ Some f
       → slice_get F.messages i ≡ Some n → slice_get n.fields j ≡ Some g → g ≡ f
   same_field m n f g at fat nat gat =
@@ -258,7 +258,7 @@ module _ (F : File) (i j : ℕ) where
 
 -- ---- values
 
-no_value_line : (F : File) (i j : ℕ) (e : EnumDecl) (v : ValueDecl) → slice_get F.enums i ≡ Some e
+no_value_line : (F : Joined) (i j : ℕ) (e : EnumDecl) (v : ValueDecl) → slice_get F.enums i ≡ Some e
     → slice_get e.values j ≡ Some v → (FitsSigned w32 (value_of v.number) → ⊥)
     → (s : Span) (text : List ℕ) → LineAt F (value_decl i j) s text → ⊥
 no_value_line F i j e v at vat none s text (Lengths.of_value a b x u xat uat fits) =
@@ -266,7 +266,7 @@ no_value_line F i j e v at vat none s text (Lengths.of_value a b x u xat uat fit
     let one : u ≡ v = same_Some u v (sym (subst (λ (y : EnumDecl). slice_get y.values j ≡ Some u) same uat) ∙ vat) in
     none (subst (λ (y : ValueDecl). FitsSigned w32 (value_of y.number)) one fits)
 
-pub value_at : (F : File) (i j : ℕ) (e : EnumDecl) (v : ValueDecl) (n : Option ℕ) → slice_get F.enums i ≡ Some e
+pub value_at : (F : Joined) (i j : ℕ) (e : EnumDecl) (v : ValueDecl) (n : Option ℕ) → slice_get F.enums i ≡ Some e
     → slice_get e.values j ≡ Some v
     → MatchOption n (FitsSigned w32 (value_of v.number) → ⊥) (λ r. FitsSigned w32 (value_of v.number)
     × (r ≡ at_most_64_bits (length (value_line (value_of v.number, v.name.name)))))

@@ -17,7 +17,7 @@ use Rattle.proto_file.specs.declared.file.ValueDecl.{ValueDecl}
 use Rattle.proto_file.specs.declared.file.EnumDecl.{EnumDecl}
 use Rattle.proto_file.specs.declared.file.RpcDecl.{RpcDecl}
 use Rattle.proto_file.specs.declared.file.ServiceDecl.{ServiceDecl}
-use Rattle.proto_file.specs.declared.file.File.{File}
+use Rattle.proto_file.specs.Joined.{Joined}
 use Rattle.schema_names.specs.Scopes.{Sort, a_message, an_enum, IsScope, Names, text_of, package_of}
 use Rattle.schema_names.specs.Numbers
 use Rattle.schema_names.specs.Numbers.{StartApart, StandsAt}
@@ -31,7 +31,7 @@ use Rattle.schema_offences.proofs.Scalars.{scalar_one}
 
 -- ---- names of an ordered file
 
-one_at : (F : File) (a b : Named) (f g : List (List ℕ)) (s t : Span) → IsOrdered F → StandsAt F a f s → StandsAt F b g t
+one_at : (F : Joined) (a b : Named) (f g : List (List ℕ)) (s t : Span) → IsOrdered F → StandsAt F a f s → StandsAt F b g t
     → s.start ≡ t.start → a ≡ b
 one_at F a b f g s t order (Numbers.message i m at up) (Numbers.message j n nat nup) e =
     let same = (order.apart (message_decl i) (message_decl j) its_name its_name s t (Order.message i m at refl)
@@ -52,12 +52,12 @@ one_at F a b f g s t order (Numbers.enum i x at up) (Numbers.enum j y yat yup) e
     let one : i ≡ j = cc in
     ap Enum one
 
-pub start_apart : (F : File) → IsOrdered F → StartApart F
+pub start_apart : (F : Joined) → IsOrdered F → StartApart F
 start_apart F order = record { apart = λ a b f g s t x y e. one_at F a b f g s t order x y e }
 
 -- ---- types and forms
 
-module _ (F : File) (apart : StartApart F)
+module _ (F : Joined) (apart : StartApart F)
     (scopes : (G : File) (place : Option ℕ) (s t : List (List ℕ)) → IsScope G place s → IsScope G place t → s ≡ t)
     (names : (G : File) (scope : List (List ℕ)) (name : List ℕ) (a b : Sort) (f g : List (List ℕ)) → StartApart G
     → Names (G ∷ []) scope name a f → Names (G ∷ []) scope name b g → (a ≡ b) × (f ≡ g)) where

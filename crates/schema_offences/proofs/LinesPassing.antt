@@ -21,9 +21,9 @@ use Rattle.proto_file.specs.Order.{Declaration, message_decl, field_decl, enum_d
 use Rattle.proto_file.specs.declared.file.Span.{Span}
 use Rattle.proto_file.specs.declared.file.RpcDecl.{RpcDecl}
 use Rattle.proto_file.specs.declared.file.ServiceDecl.{ServiceDecl}
-use Rattle.proto_file.specs.declared.file.File.{File}
+use Rattle.proto_file.specs.Joined.{Joined}
 use Rattle.schema_names.specs.Scopes.{text_of, package_of}
-use Rattle.schema_offences.specs.Sources.{alone, service_rpcs, rpcs_of}
+use Rattle.schema_offences.specs.Methods.{alone, service_rpcs, rpcs_of}
 use Rattle.schema_offences.specs.Lines
 use Rattle.schema_offences.specs.Lines.{HasLine, PassesAt}
 use Rattle.schema_offences.specs.Meeting.{AtSome, OfElement, PassesIn}
@@ -104,7 +104,7 @@ count : (i : ℕ) → 0 + i ≡ i
 count i = omega arith
 
 -- the declaration of a line
-pub line_at : (F : File) (s : Span) (text : List ℕ) → HasLine (alone F) s text → (d : Declaration) × LineAt F d s text
+pub line_at : (F : Joined) (s : Span) (text : List ℕ) → HasLine (alone F) s text → (d : Declaration) × LineAt F d s text
 line_at F s text (Lines.of_message m c is) =
     let p = placed F.messages m c in
     (message_decl p.0, Lengths.of_message p.0 m p.1 is)
@@ -122,7 +122,7 @@ line_at F s text (Lines.of_method x r i at a b) =
     let p = rpc_placed F.services i x r at in
     (rpc_decl p.0 p.1, Lengths.of_method p.0 p.1 (0 + i) x r p.2 p.3 (count i ∙ p.4) a b)
 
-has_line : (F : File) (d : Declaration) (s : Span) (text : List ℕ) → LineAt F d s text → HasLine (alone F) s text
+has_line : (F : Joined) (d : Declaration) (s : Span) (text : List ℕ) → LineAt F d s text → HasLine (alone F) s text
 has_line F d s text (Lengths.of_message i m at is) = Lines.of_message m (contains_at F.messages i m at) is
 has_line F d s text (Lengths.of_enum i e at is) = Lines.of_enum e (contains_at F.enums i e at) is
 has_line F d s text (Lengths.of_value i j e v at vat fits) =
@@ -140,7 +140,7 @@ has_line F d s text (Lengths.of_method i j n x r {input = input} {output = outpu
 
 -- ---- all lines
 
-every_before : (F : File) (d : Declaration) (s : Span) (text : List ℕ) → LineAt F d s text → IsBefore 3 0 0 d
+every_before : (F : Joined) (d : Declaration) (s : Span) (text : List ℕ) → LineAt F d s text → IsBefore 3 0 0 d
 every_before F d s text (Lengths.of_message i m at is) = inl (omega arith)
 every_before F d s text (Lengths.of_field i j m f n at fat is e k form) = inl (omega arith)
 every_before F d s text (Lengths.of_enum i e at is) = inl (omega arith)
@@ -202,7 +202,7 @@ here x xs = (0, omega arith, refl)
 later : {X : Type 0} (y x : X) (xs : List X) → Contains xs x → Contains (y ∷ xs) x
 later y x xs c = (suc c.0, (let l : c.0 < length xs = c.1 in omega arith), c.2)
 
-module _ (F : File) where
+module _ (F : Joined) where
   lines_of : (xs : List (Span × ℕ)) → HaveLines F xs → List (Span × List ℕ)
   lines_of [] has = []
   lines_of (x ∷ xs) has = (x.0, (has x (here x xs)).0) ∷ lines_of xs (λ y c. has y (later x y xs c))
@@ -354,7 +354,7 @@ all_covered (x ∷ xs) (l ∷ ls) r a among =
 
 -- ---- the offence of a long text
 
-module _ (F : File) (lines ys : List (Span × ℕ)) (v : CoversAll F lines) (p : IsPermutation lines ys)
+module _ (F : Joined) (lines ys : List (Span × ℕ)) (v : CoversAll F lines) (p : IsPermutation lines ys)
     (up : IsNonDecreasingBy {X = Span × ℕ} (λ x. x.0.start) ys)
     (one : (d : Declaration) (s t : Span) (text other : List ℕ) → LineAt F d s text → LineAt F d t other
     → (s ≡ t) × (text ≡ other)) where

@@ -9,7 +9,7 @@ use Rattle.proto_file.specs.declared.file.Word.{Word}
 use Rattle.proto_file.specs.declared.file.MessageDecl.{MessageDecl}
 use Rattle.proto_file.specs.declared.file.EnumDecl.{EnumDecl}
 use Rattle.proto_file.specs.declared.file.ServiceDecl.{ServiceDecl}
-use Rattle.proto_file.specs.declared.file.File.{File}
+use Rattle.proto_file.specs.Joined.{Joined}
 use Rattle.schema_names.specs.Scopes
 use Rattle.schema_names.specs.Scopes.{IsScope, Declares, Sort, a_message, an_enum, is_type, text_of, package_of}
 use Rattle.schema_names.specs.Numbers.{StandBehind, IsPlace}
@@ -33,7 +33,7 @@ long_cut n m e l = omega arith
 long_whole : (n m : ℕ) → m ≡ at_most_64_bits n → MAX_FULL_NAME < n → MAX_FULL_NAME < m
 long_whole n m e l = omega arith
 
-module _ (F : File) (kept : Lengths) (formed : IsFormed F) (k : AreLengths F kept)
+module _ (F : Joined) (kept : Lengths) (formed : IsFormed F) (k : AreLengths F kept)
     (exists : (G : File) (place : Option ℕ) → StandBehind G → IsPlace G place
     → (scope : List (List ℕ)) × IsScope G place scope) where
   -- what stands in the file or in a message has a scope

@@ -16,10 +16,10 @@ use Rattle.proto_file.specs.declared.file.EnumDecl.{EnumDecl}
 use Rattle.proto_file.specs.declared.file.RpcDecl.{RpcDecl}
 use Rattle.proto_file.specs.declared.file.ServiceDecl.{ServiceDecl}
 use Rattle.proto_file.specs.declared.file.Import.{Import}
-use Rattle.proto_file.specs.declared.file.File.{File}
+use Rattle.proto_file.specs.Joined.{Joined}
 use Rattle.schema_names.specs.Scopes
 use Rattle.schema_names.specs.Scopes.{IsScope, of_file, of_message as in_message, Sort, a_message, message, Declares, Finds, in_this, in_others}
-use Rattle.schema_offences.specs.Sources.{alone}
+use Rattle.schema_offences.specs.Methods.{alone}
 use Rattle.schema_offences.specs.Members.{MessageOffends, of_type, of_number, of_name, number_out_of_range, number_met_before, name_reserved, first_not_zero, bad_key, scalar_key, misplaced, nested, long_message, no_input, of_value}
 use Rattle.schema_offences.specs.Lines
 use Rattle.schema_offences.specs.Lines.{HasLine, PassesAt}
@@ -68,13 +68,13 @@ in_one m q s e o =
 nothing_in : {X : Type 0} (x : X) → Contains [] x → ⊥
 nothing_in x c = let l : c.0 < 0 = c.1 in omega arith
 
-no_message : (F : File) (full : List (List ℕ)) (span : Span) → F.messages ≡ [] → Declares F a_message full span → ⊥
+no_message : (F : Joined) (full : List (List ℕ)) (span : Span) → F.messages ≡ [] → Declares F a_message full span → ⊥
 no_message F full span e (message m c s) = nothing_in m (subst (λ (ms : List MessageDecl). Contains ms m) e c)
 
 found_nothing : {sort : Sort} {full : List (List ℕ)} → Finds [] sort full → ⊥
 found_nothing f = elim f [ ]
 
-finds_none : (F : File) (full : List (List ℕ)) → F.messages ≡ [] → Finds (F ∷ []) a_message full → ⊥
+finds_none : (F : Joined) (full : List (List ℕ)) → F.messages ≡ [] → Finds (F ∷ []) a_message full → ⊥
 finds_none F full e (in_this f) = no_message F full f.span e f.declared
 finds_none F full e (in_others none f) = found_nothing f
 

@@ -12,8 +12,8 @@ use Rattle.proto_file.specs.declared.file.Word.{Word}
 use Rattle.proto_file.specs.declared.file.Import.{Import}
 use Rattle.proto_file.specs.declared.file.RpcDecl.{RpcDecl}
 use Rattle.proto_file.specs.declared.file.ServiceDecl.{ServiceDecl}
-use Rattle.proto_file.specs.declared.file.File.{File}
-use Rattle.schema_offences.specs.Sources.{service_rpcs}
+use Rattle.proto_file.specs.Joined.{Joined}
+use Rattle.schema_offences.specs.Methods.{service_rpcs}
 use Rattle.schema_offences.specs.Members
 use Rattle.schema_offences.specs.Members.{Is, MethodOffends}
 use Rattle.schema_offences.specs.Meeting.{first_of, IsWhere, Meets, HeadOffends, an_import, a_long_package}
@@ -31,23 +31,23 @@ abbrev pub PackageOffends : File → ResolveReason → Span → Type 0
 PackageOffends F q s =
     (w : Word) × (F.package ≡ Some w) × (is_short_full w.name ≡ false) × Is Limit w.span q s
 
-pub head_to : (F : File) (q : ResolveReason) (s : Span) → (ImportOffends F q s ⊎ PackageOffends F q s)
+pub head_to : (F : Joined) (q : ResolveReason) (s : Span) → (ImportOffends F q s ⊎ PackageOffends F q s)
     → HeadOffends F q s
 head_to F q s (inl p) = an_import p.0 p.1 p.2
 head_to F q s (inr p) = a_long_package p.0 p.1 p.2 p.3
 
-pub head_from : (F : File) (q : ResolveReason) (s : Span) → HeadOffends F q s
+pub head_from : (F : Joined) (q : ResolveReason) (s : Span) → HeadOffends F q s
     → ImportOffends F q s ⊎ PackageOffends F q s
 head_from F q s (an_import x at is) = inl (x, at, is)
 head_from F q s (a_long_package w at long is) = inr (w, at, long, is)
 
-pub meets_import : (F : File) (x : Import) (a b : First) → slice_get F.imports 0 ≡ Some x
+pub meets_import : (F : Joined) (x : Import) (a b : First) → slice_get F.imports 0 ≡ Some x
     → b.found ≡ Some (first_of a.found (record { reason = HasImport; span = x.span })) → Meets (ImportOffends F) a b
 meets_import F x a b at is =
     meets_as (Is HasImport x.span) (ImportOffends F) a b (meets_noted HasImport x.span a b is) (λ q s p. (x, at, p))
     (λ q s p. subst (λ (y : Import). Is HasImport y.span q s) (same_Some p.0 x (sym p.1 ∙ at)) p.2)
 
-pub meets_no_import : (F : File) (a b : First) → slice_get F.imports 0 ≡ None → b.found ≡ a.found
+pub meets_no_import : (F : Joined) (a b : First) → slice_get F.imports 0 ≡ None → b.found ≡ a.found
     → Meets (ImportOffends F) a b
 meets_no_import F a b none is =
     meets_kept (ImportOffends F) a b (λ q s p. none-some p.0 (sym none ∙ p.1)) is
@@ -60,7 +60,7 @@ true_not : (b : Bool) → b ≡ false → not b ≡ true
 true_not true e = absurd cc
 true_not false e = refl
 
-pub meets_package : (F : File) (w : Word) (a b : First) → F.package ≡ Some w
+pub meets_package : (F : Joined) (w : Word) (a b : First) → F.package ≡ Some w
     → b.found ≡ cond (not (is_short_full w.name))
     (Some (first_of a.found (record { reason = Limit; span = w.span }))) a.found
     → Meets (PackageOffends F) a b
@@ -74,7 +74,7 @@ meets_package F w a b at is =
       subst (λ (v : Word). Is Limit v.span q s) same p.3,
     ))
 
-pub meets_no_package : (F : File) (a b : First) → F.package ≡ None → b.found ≡ a.found → Meets (PackageOffends F) a b
+pub meets_no_package : (F : Joined) (a b : First) → F.package ≡ None → b.found ≡ a.found → Meets (PackageOffends F) a b
 meets_no_package F a b none is =
     meets_kept (PackageOffends F) a b (λ q s p. none-some p.0 (sym none ∙ p.1)) is
 

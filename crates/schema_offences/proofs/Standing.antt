@@ -11,12 +11,12 @@ use Rattle.proto_file.specs.declared.file.MessageDecl.{MessageDecl}
 use Rattle.proto_file.specs.declared.file.EnumDecl.{EnumDecl}
 use Rattle.proto_file.specs.declared.file.RpcDecl.{RpcDecl}
 use Rattle.proto_file.specs.declared.file.ServiceDecl.{ServiceDecl}
-use Rattle.proto_file.specs.declared.file.File.{File}
+use Rattle.proto_file.specs.Joined.{Joined}
 use Rattle.proto_file.specs.Order
 use Rattle.proto_file.specs.Order.{Declaration, Part, StandsAt, IsOrdered, message_decl, field_decl, oneof_decl, enum_decl, value_decl, service_decl, rpc_decl, package_decl, import_decl, its_type, its_key, its_value, its_name, its_number, its_input, its_output}
 use Rattle.schema_names.specs.Scopes
 use Rattle.schema_names.specs.Scopes.{Sort, Declares}
-use Rattle.schema_offences.specs.Sources.{alone, service_rpcs}
+use Rattle.schema_offences.specs.Methods.{alone, service_rpcs}
 use Rattle.schema_offences.specs.Members
 use Rattle.schema_offences.specs.Members.{KeyOffends, TypeOffends, NumberOffends, ValueOffends, NameOffends, MessageOffends, EnumOffends, MethodOffends}
 use Rattle.schema_offences.specs.Lines
@@ -61,7 +61,7 @@ rpc_placed (s ∷ ss) i x r e = elim (mapped_or_later s s.rpcs (flat_map service
 
 -- ---- members
 
-module _ (F : File) (s : Span) where
+module _ (F : Joined) (s : Span) where
   key_stands : (files : List File) (scope : List (List ℕ)) (i j : ℕ) (m : MessageDecl) (f : FieldDecl) (k v : Word)
       (q : ResolveReason) → slice_get F.messages i ≡ Some m → slice_get m.fields j ≡ Some f
       → f.kind ≡ Map k v → KeyOffends files scope k q s → Stands F s
@@ -142,7 +142,7 @@ module _ (F : File) (s : Span) where
 
 -- ---- declarations and lines
 
-declared_stands : (F : File) (sort : Sort) (full : List (List ℕ)) (s : Span) → Declares F sort full s → Stands F s
+declared_stands : (F : Joined) (sort : Sort) (full : List (List ℕ)) (s : Span) → Declares F sort full s → Stands F s
 declared_stands F sort full s (Scopes.message m c is) =
     let p = placed F.messages m c in
     (message_decl p.0, its_name, Order.message p.0 m p.1 refl)
@@ -169,7 +169,7 @@ declared_stands F sort full s (Scopes.rpc x r c d) =
     let o = placed x.rpcs r d in
     (rpc_decl p.0 o.0, its_name, Order.rpc p.0 o.0 x r p.1 o.1 (Order.rpc_name refl))
 
-line_stands : (F : File) (s : Span) (line : List ℕ) → HasLine (alone F) s line → Stands F s
+line_stands : (F : Joined) (s : Span) (line : List ℕ) → HasLine (alone F) s line → Stands F s
 line_stands F s line (Lines.of_message m c is) =
     let p = placed F.messages m c in
     (message_decl p.0, its_name, Order.message p.0 m p.1 refl)
@@ -189,24 +189,24 @@ line_stands F s line (Lines.of_method x r i at a b) =
 
 -- ---- offences
 
-twice_stands : (F : File) (s : Span) → IsTwice (alone F) s → Stands F s
+twice_stands : (F : Joined) (s : Span) → IsTwice (alone F) s → Stands F s
 twice_stands F s (Offences.in_file a b full earlier d e l) = declared_stands F b full s e
 twice_stands F s (Offences.in_another G a b full other c d e) = declared_stands F b full s e
 twice_stands F s (Offences.a_package G sort full rest c e d t) = declared_stands F sort full s d
 
-long_stands : (F : File) (s : Span) → IsLongInFull F s → Stands F s
+long_stands : (F : Joined) (s : Span) → IsLongInFull F s → Stands F s
 long_stands F s (Offences.a_type sort full d t l) = declared_stands F sort full s d
 long_stands F s (Offences.a_service x c l e) =
     let p = placed F.services x c in
     (service_decl p.0, its_name, Order.service p.0 x p.1 e)
 
-text_stands : (F : File) (s : Span) → PassesAt (alone F) s → Stands F s
+text_stands : (F : Joined) (s : Span) → PassesAt (alone F) s → Stands F s
 text_stands F s p =
     let k = p.last.0 in
     let has = p.are k (s, p.own) p.last.1 in
     line_stands F s p.own (subst (λ (l : Span × List ℕ). HasLine (alone F) l.0 l.1) p.last.2 has)
 
-offends_stands : (F : File) (q : ResolveReason) (s : Span) → Offends (alone F) q s → Stands F s
+offends_stands : (F : Joined) (q : ResolveReason) (s : Span) → Offends (alone F) q s → Stands F s
 offends_stands F q s (Offences.of_message i m at is o) = message_stands F s _ _ _ i m q at o
 offends_stands F q s (Offences.of_enum i e at o) = enum_stands F s _ i e q at o
 offends_stands F q s (Offences.of_service i x at o) = (service_decl i, its_name, Order.service i x at o.1.1)
@@ -218,7 +218,7 @@ offends_stands F q s (Offences.twice span t is) = subst (Stands F) (sym is.1) (t
 offends_stands F q s (Offences.long_in_full span t is) = subst (Stands F) (sym is.1) (long_stands F span t)
 offends_stands F q s (Offences.long_text span t is) = subst (Stands F) (sym is.1) (text_stands F span t)
 
-pub offence_stands : (F : File) (q : ResolveReason) (s : Span) → IsOffence F q s → Stands F s
+pub offence_stands : (F : Joined) (q : ResolveReason) (s : Span) → IsOffence F q s → Stands F s
 offence_stands F q s (Offences.offends o) = offends_stands F q s o
 offence_stands F q s (Offences.has_import x at is) = (import_decl 0, its_name, Order.import 0 x at is.1)
 
@@ -264,7 +264,7 @@ one_start q r s t (inr a) (inr b) =
     (a.0, omega arith)
 
 -- of an ordered file two first offences are one
-pub first_is_one : (F : File) (q r : ResolveReason) (s t : Span) → IsOrdered F → HasOffence F q s → HasOffence F r t
+pub first_is_one : (F : Joined) (q r : ResolveReason) (s t : Span) → IsOrdered F → HasOffence F q s → HasOffence F r t
     → (q ≡ r) × (s ≡ t)
 first_is_one F q r s t order a b =
     let same = one_start q r s t (a.first r t b.offence) (b.first q s a.offence) in

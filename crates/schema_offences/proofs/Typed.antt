@@ -8,7 +8,7 @@ use Rattle.proto_file.specs.declared.file.Span.{Span}
 use Rattle.proto_file.specs.declared.file.FieldType.{FieldType}
 use Rattle.proto_file.specs.declared.file.FieldType.TheVariants.{Named, Map, NestedMap}
 use Rattle.proto_file.specs.declared.file.FieldDecl.{FieldDecl}
-use Rattle.proto_file.specs.declared.file.File.{File}
+use Rattle.proto_file.specs.Joined.{Joined}
 use Rattle.schema_names.specs.Numbers.{sort_of}
 use Rattle.schema_offences.specs.Types.{IsNoScalar}
 use Rattle.schema_offences.specs.Members
@@ -29,11 +29,11 @@ use Rattle.schema_offences.proofs.Unless.{meets_unless}
 abbrev IsNone : File → List (List ℕ) → Word → Type 0
 IsNone F scope w = IsNoScalar w.name × IsUnknown (F ∷ []) scope w.name
 
-known_type : (F : File) (scope : List (List ℕ)) (w : Word) (t : TypeOf) → IsType F scope w.name t → IsNone F scope w → ⊥
+known_type : (F : Joined) (scope : List (List ℕ)) (w : Word) (t : TypeOf) → IsType F scope w.name t → IsNone F scope w → ⊥
 known_type F scope w (Scalar k) is none = none.0 k is
 known_type F scope w (OfName n) is none = none.1 (sort_of n) is.1.0 is.1.1
 
-pub meets_no_type : (F : File) (scope : List (List ℕ)) (w : Word) (o : Option TypeOf) (missing : Bool) (a b : First)
+pub meets_no_type : (F : Joined) (scope : List (List ℕ)) (w : Word) (o : Option TypeOf) (missing : Bool) (a b : First)
     → is_some o ≡ not missing
     → MatchOption o (IsNoScalar w.name × IsUnknown (F ∷ []) scope w.name) (IsType F scope w.name)
     → b.found ≡ cond missing (Some (first_of a.found (record { reason = UnknownName; span = w.span }))) a.found
@@ -55,13 +55,13 @@ true_not : (b : Bool) → b ≡ false → not b ≡ true
 true_not true e = absurd cc
 true_not false e = refl
 
-key_to : (F : File) (scope : List (List ℕ)) (key : Word) (t : TypeOf) → IsType F scope key.name t
+key_to : (F : Joined) (scope : List (List ℕ)) (key : Word) (t : TypeOf) → IsType F scope key.name t
     → (q : ResolveReason) (s : Span) → IsWhere (not (may_be_key t)) MapKey key.span q s
     → KeyOffends (F ∷ []) scope key q s
 key_to F scope key (Scalar k) is q s p = Members.scalar_key k is (not_true (is_key k) p.0) p.1
 key_to F scope key (OfName n) is q s p = Members.type_key (sort_of n) is.1.0 is.0 is.1.1 p.1
 
-key_from : (F : File) (scope : List (List ℕ)) (key : Word) (t : TypeOf) → IsType F scope key.name t
+key_from : (F : Joined) (scope : List (List ℕ)) (key : Word) (t : TypeOf) → IsType F scope key.name t
     → (q : ResolveReason) (s : Span) → KeyOffends (F ∷ []) scope key q s
     → IsWhere (not (may_be_key t)) MapKey key.span q s
 key_from F scope key t is q s (Members.unknown_key p) =
@@ -72,7 +72,7 @@ key_from F scope key (OfName n) is q s (Members.scalar_key j named bad here) = a
 key_from F scope key (Scalar k) is q s (Members.type_key sort full none names here) = absurd (none k is)
 key_from F scope key (OfName n) is q s (Members.type_key sort full none names here) = (refl, here)
 
-pub meets_key : (F : File) (scope : List (List ℕ)) (key : Word) (t : TypeOf) (bad : Bool) (a b : First)
+pub meets_key : (F : Joined) (scope : List (List ℕ)) (key : Word) (t : TypeOf) (bad : Bool) (a b : First)
     → IsType F scope key.name t → bad ≡ not (may_be_key t)
     → b.found ≡ cond bad (Some (first_of a.found (record { reason = MapKey; span = key.span }))) a.found
     → Meets (KeyOffends (F ∷ []) scope key) a b
@@ -84,13 +84,13 @@ meets_key F scope key t bad a b is e noted =
     e noted))
     (key_to F scope key t is) (key_from F scope key t is)
 
-no_key_from : (F : File) (scope : List (List ℕ)) (key : Word) → IsNoScalar key.name × IsUnknown (F ∷ []) scope key.name
+no_key_from : (F : Joined) (scope : List (List ℕ)) (key : Word) → IsNoScalar key.name × IsUnknown (F ∷ []) scope key.name
     → (q : ResolveReason) (s : Span) → KeyOffends (F ∷ []) scope key q s → Is UnknownName key.span q s
 no_key_from F scope key none q s (Members.unknown_key p) = p.is
 no_key_from F scope key none q s (Members.scalar_key j named bad here) = absurd (none.0 j named)
 no_key_from F scope key none q s (Members.type_key sort full n names here) = absurd (none.1 sort full names)
 
-pub meets_no_key : (F : File) (scope : List (List ℕ)) (key : Word) (a b : First)
+pub meets_no_key : (F : Joined) (scope : List (List ℕ)) (key : Word) (a b : First)
     → IsNoScalar key.name × IsUnknown (F ∷ []) scope key.name
     → b.found ≡ Some (first_of a.found (record { reason = UnknownName; span = key.span }))
     → Meets (KeyOffends (F ∷ []) scope key) a b

@@ -9,7 +9,7 @@ loop-i-init c = meets_start _ _
 
 pub loop-i-preserved : goal.loop-i-preserved
 loop-i-preserved c =
-    let xs = c.args.file.now.enums in
+    let xs = c.args.files.now.enums in
     let l : c.loop-i.i < length xs = omega (arith, ap length c.as_slice-enums.ensures, c.loop-i-test.true) in
     let at : slice_get xs c.loop-i.i ≡ Some c.index-enums-i.result =
     item_at c.as_slice-enums.result.now xs c.loop-i.i c.index-enums-i.result c.as_slice-enums.ensures l
@@ -18,7 +18,7 @@ loop-i-preserved c =
 
 pub returns : goal.returns
 returns c =
-    let xs = c.args.file.now.enums in
+    let xs = c.args.files.now.enums in
     let e : c.loop-i.i ≡ length xs =
     omega (arith, ap length c.as_slice-enums.ensures, c.loop-i-test.false, c.loop-i.auto.i-end) in
     meets_elements xs EnumOffends c.loop-i.i _ _ e c.loop-i.invariant

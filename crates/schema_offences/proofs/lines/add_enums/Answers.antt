@@ -12,7 +12,7 @@ use Rattle.schema_offences.proofs.lines.add_enums.Goals as goal
 
 pub add_values-requires-clause-choices : goal.add_values-requires-clause-choices
 add_values-requires-clause-choices c =
-    let F = c.args.file.now in
+    let F = c.args.files.now in
     let kept = c.args.lengths.now in
     let i = c.loop-i.i in
     let e = c.index-all-i.result in
@@ -32,7 +32,7 @@ add_values-requires-clause-choices c =
 
 pub returns : goal.returns
 returns c =
-    let F = c.args.file.now in
+    let F = c.args.files.now in
     let all : length F.enums ≤ c.loop-i.i =
     omega (arith, ap length c.as_slice-all.ensures, c.loop-i-test.false) in
     covers_class F 1 c.loop-i.i c.loop-i.lines.items c.loop-i.invariant (no_enum F c.loop-i.i all)

@@ -1,7 +1,7 @@
 use Rattle.std.proofs.Common.{◌≡◌, ◌+◌, ◌<◌, ◌≤◌, length, refl, sym, ap, subst, arith}
 use Rattle.std.specs.Prelude.{Some, slice_get}
 use Rattle.proto_file.specs.Order.{field_decl}
-use Rattle.proto_file.specs.declared.file.File.{File}
+use Rattle.proto_file.specs.Joined.{Joined}
 use Rattle.schema_offences.specs.Lengths.{Covers, IsLengthAt}
 use Rattle.schema_offences.proofs.Meetings.{item_at}
 use Rattle.schema_offences.proofs.LinesAdded.{own_field, covers_add, covers_row, no_field}
@@ -9,7 +9,7 @@ use Rattle.schema_offences.proofs.lines.add_fields.Goals as goal
 
 pub loop-j-preserved : goal.loop-j-preserved
 loop-j-preserved c =
-    let F = c.args.file.now in
+    let F = c.args.files.now in
     let m = c.index-as_slice-i.result in
     let f = c.index-fields-j.result in
     let j = c.loop-j.j in
@@ -25,7 +25,7 @@ loop-j-preserved c =
 
 pub returns : goal.returns
 returns c =
-    let F = c.args.file.now in
+    let F = c.args.files.now in
     let m = c.index-as_slice-i.result in
     let at : slice_get F.messages c.args.i ≡ Some m =
     item_at c.as_slice.result.now F.messages c.args.i m c.as_slice.ensures c.requires.place c.index-as_slice-i.is in

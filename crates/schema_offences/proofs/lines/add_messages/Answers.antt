@@ -12,12 +12,12 @@ use Rattle.schema_offences.proofs.lines.add_messages.Goals as goal
 
 pub add_fields-requires-clause-scope : goal.add_fields-requires-clause-scope
 add_fields-requires-clause-scope c =
-    c.one_scope.ensures.exists c.args.file.now (Some c.loop-i.i) (stand_behind c.args.file.now c.requires.formed)
+    c.one_scope.ensures.exists c.args.files.now (Some c.loop-i.i) (stand_behind c.args.files.now c.requires.formed)
     (omega (arith, ap length c.as_slice-all.ensures, c.loop-i-test.true))
 
 pub add_fields-requires-clause-message : goal.add_fields-requires-clause-message
 add_fields-requires-clause-message c =
-    let F = c.args.file.now in
+    let F = c.args.files.now in
     let kept = c.args.lengths.now in
     let i = c.loop-i.i in
     let m = c.index-all-i.result in
@@ -37,7 +37,7 @@ add_fields-requires-clause-message c =
 
 pub returns : goal.returns
 returns c =
-    let F = c.args.file.now in
+    let F = c.args.files.now in
     let all : length F.messages ≤ c.loop-i.i =
     omega (arith, ap length c.as_slice-all.ensures, c.loop-i-test.false) in
     covers_class F 0 c.loop-i.i c.loop-i.lines.items c.loop-i.invariant (no_message F c.loop-i.i all)

@@ -1,7 +1,7 @@
 use Rattle.std.proofs.Common.{◌≡◌, ◌∙◌, ◌+◌, ◌<◌, ◌≤◌, ℕ, length, refl, sym, ap, subst, arith}
 use Rattle.std.specs.Prelude.{Some, slice_get}
 use Rattle.proto_file.specs.Order.{rpc_decl}
-use Rattle.proto_file.specs.declared.file.File.{File}
+use Rattle.proto_file.specs.Joined.{Joined}
 use Rattle.schema_offences.specs.Lengths.{Covers, IsLengthAt, rpcs_before}
 use Rattle.schema_offences.proofs.Meetings.{item_at}
 use Rattle.schema_offences.proofs.LinesAdded.{own_rpc, covers_add, covers_row, no_rpc}
@@ -9,7 +9,7 @@ use Rattle.schema_offences.proofs.lines.add_rpcs.Goals as goal
 
 pub loop-j-preserved : goal.loop-j-preserved
 loop-j-preserved c =
-    let F = c.args.file.now in
+    let F = c.args.files.now in
     let x = c.index-as_slice-i.result in
     let r = c.index-rpcs-j.result in
     let j = c.loop-j.j in
@@ -29,7 +29,7 @@ loop-j-preserved c =
 
 pub returns : goal.returns
 returns c =
-    let F = c.args.file.now in
+    let F = c.args.files.now in
     let x = c.index-as_slice-i.result in
     let at : slice_get F.services c.args.i ≡ Some x =
     item_at c.as_slice.result.now F.services c.args.i x c.as_slice.ensures c.requires.place c.index-as_slice-i.is in

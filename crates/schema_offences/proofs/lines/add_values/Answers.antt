@@ -9,7 +9,7 @@ use Rattle.schema_offences.proofs.lines.add_values.Goals as goal
 
 pub loop-j-preserved : goal.loop-j-preserved
 loop-j-preserved c =
-    let F = c.args.file.now in
+    let F = c.args.files.now in
     let e = c.index-as_slice-i.result in
     let j = c.loop-j.j in
     let at : slice_get F.enums c.args.i ≡ Some e =
@@ -26,7 +26,7 @@ loop-j-preserved c =
 
 pub returns : goal.returns
 returns c =
-    let F = c.args.file.now in
+    let F = c.args.files.now in
     let e = c.index-as_slice-i.result in
     let at : slice_get F.enums c.args.i ≡ Some e =
     item_at c.as_slice.result.now F.enums c.args.i e c.as_slice.ensures c.requires.place c.index-as_slice-i.is in

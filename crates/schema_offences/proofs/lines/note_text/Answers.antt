@@ -10,7 +10,7 @@ use Rattle.schema_offences.proofs.lines.note_text.Goals as goal
 
 pub returns : goal.returns
 returns c =
-    let F = c.args.file.now in
+    let F = c.args.files.now in
     let xs = c.add_methods.new.lines.items in
     let ys = c.sort_by_key.new.self.items in
     let up = IsNonDecreasingBy-from_sort_by_key (λ x. x.0.start) _ c.in_ok-sort_by_key.ensures.sorted

@@ -1,6 +1,6 @@
 use Rattle.std.proofs.Common.{◌≡◌, ◌<◌, ℕ, List, [], ◌∷◌, length, ap, subst, arith}
 use Rattle.std.specs.Prelude.{Some, slice_get}
-use Rattle.proto_file.specs.declared.file.File.{File}
+use Rattle.proto_file.specs.Joined.{Joined}
 use Rattle.schema_names.specs.Scopes.{IsScope}
 use Rattle.schema_offences.specs.Members.{MessageOffends}
 use Rattle.schema_offences.specs.Meeting.{Meets, MessageIn}
@@ -14,7 +14,7 @@ loop-i-init c = meets_start _ _
 
 pub loop-i-preserved : goal.loop-i-preserved
 loop-i-preserved c =
-    let F = c.args.file.now in
+    let F = c.args.files.now in
     let i = c.loop-i.i in
     let m = c.index-messages-i.result in
     let l : i < length F.messages = omega (arith, ap length c.as_slice-messages.ensures, c.loop-i-test.true) in
@@ -33,7 +33,7 @@ loop-i-preserved c =
 
 pub returns : goal.returns
 returns c =
-    let xs = c.args.file.now.messages in
+    let xs = c.args.files.now.messages in
     let e : c.loop-i.i ≡ length xs =
     omega (arith, ap length c.as_slice-messages.ensures, c.loop-i-test.false, c.loop-i.auto.i-end) in
-    meets_elements xs (MessageIn c.args.file.now) c.loop-i.i _ _ e c.loop-i.invariant
+    meets_elements xs (MessageIn c.args.files.now) c.loop-i.i _ _ e c.loop-i.invariant

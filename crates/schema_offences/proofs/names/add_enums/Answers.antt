@@ -1,6 +1,6 @@
 use Rattle.std.proofs.Common.{◌≡◌, ◌<◌, length, sym, ap, subst, arith}
 use Rattle.std.specs.Prelude.{Some, slice_get}
-use Rattle.proto_file.specs.declared.file.File.{File}
+use Rattle.proto_file.specs.Joined.{Joined}
 use Rattle.schema_names.specs.Numbers.{IsPlace}
 use Rattle.schema_offences.specs.Entries.{OfEnum, Adds, entries_of}
 use Rattle.schema_offences.proofs.Meetings.{item_at}
@@ -9,7 +9,7 @@ use Rattle.schema_offences.proofs.names.add_enums.Goals as goal
 
 pub add_enum-requires-clause-parent : goal.add_enum-requires-clause-parent
 add_enum-requires-clause-parent c =
-    let F = c.args.file.now in
+    let F = c.args.files.now in
     let x = c.index-enums-i.result in
     let l : c.loop-i.i < length F.enums = omega (arith, ap length c.as_slice-enums.ensures, c.loop-i-test.true) in
     let at : slice_get F.enums c.loop-i.i ≡ Some x =
@@ -19,7 +19,7 @@ add_enum-requires-clause-parent c =
 
 pub loop-i-preserved : goal.loop-i-preserved
 loop-i-preserved c =
-    let F = c.args.file.now in
+    let F = c.args.files.now in
     let x = c.index-enums-i.result in
     let l : c.loop-i.i < length F.enums = omega (arith, ap length c.as_slice-enums.ensures, c.loop-i-test.true) in
     let at : slice_get F.enums c.loop-i.i ≡ Some x =
@@ -32,7 +32,7 @@ loop-i-preserved c =
 
 pub returns : goal.returns
 returns c =
-    let F = c.args.file.now in
+    let F = c.args.files.now in
     let e : c.loop-i.i ≡ length F.enums =
     omega (arith, ap length c.as_slice-enums.ensures, c.loop-i-test.false, c.loop-i.auto.i-end) in
     adds_all F.enums (OfEnum F) c.loop-i.i _ _ e c.loop-i.invariant

@@ -4,5 +4,5 @@ use Rattle.schema_offences.proofs.names.add_enums.Given as goal
 -- the enums up to here were added
 abbrev pub invariant-loop-i : goal.invariant-loop-i
 invariant-loop-i l =
-    Adds (OfFirst l.i l.fn.file.enums (OfEnum l.fn.file))
+    Adds (OfFirst l.i l.fn.files.enums (OfEnum l.fn.files))
     (entries_of l.initial.names.items) (entries_of l.names.items)

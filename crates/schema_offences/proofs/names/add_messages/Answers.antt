@@ -1,6 +1,6 @@
 use Rattle.std.proofs.Common.{◌≡◌, ℕ, ◌<◌, length, sym, ap, subst, arith, below_more}
 use Rattle.std.specs.Prelude.{Some, slice_get}
-use Rattle.proto_file.specs.declared.file.File.{File}
+use Rattle.proto_file.specs.Joined.{Joined}
 use Rattle.schema_names.specs.Numbers.{IsPlace}
 use Rattle.schema_offences.specs.Entries.{OfMessage, Adds, HasNumber, entries_of}
 use Rattle.schema_offences.proofs.Meetings.{item_at}
@@ -9,7 +9,7 @@ use Rattle.schema_offences.proofs.names.add_messages.Goals as goal
 
 pub add_message-requires-clause-parent : goal.add_message-requires-clause-parent
 add_message-requires-clause-parent c =
-    let F = c.args.file.now in
+    let F = c.args.files.now in
     let m = c.index-messages-i.result in
     let l : c.loop-i.i < length F.messages = omega (arith, ap length c.as_slice-messages.ensures, c.loop-i-test.true) in
     let at : slice_get F.messages c.loop-i.i ≡ Some m =
@@ -20,7 +20,7 @@ add_message-requires-clause-parent c =
 
 pub loop-i-preserved : goal.loop-i-preserved
 loop-i-preserved c =
-    let F = c.args.file.now in
+    let F = c.args.files.now in
     let m = c.index-messages-i.result in
     let l : c.loop-i.i < length F.messages = omega (arith, ap length c.as_slice-messages.ensures, c.loop-i-test.true) in
     let at : slice_get F.messages c.loop-i.i ≡ Some m =
@@ -38,13 +38,13 @@ loop-i-preserved c =
 
 pub returns-clause-numbers : goal.returns-clause-numbers
 returns-clause-numbers c =
-    let e : c.loop-i.i ≡ length c.args.file.now.messages =
+    let e : c.loop-i.i ≡ length c.args.files.now.messages =
     omega (arith, ap length c.as_slice-messages.ensures, c.loop-i-test.false, c.loop-i.auto.i-end) in
-    has_numbers c.args.file.now c.loop-i.i e c.loop-i.invariant.numbers
+    has_numbers c.args.files.now c.loop-i.i e c.loop-i.invariant.numbers
 
 pub returns-clause-names : goal.returns-clause-names
 returns-clause-names c =
-    let F = c.args.file.now in
+    let F = c.args.files.now in
     let e : c.loop-i.i ≡ length F.messages =
     omega (arith, ap length c.as_slice-messages.ensures, c.loop-i-test.false, c.loop-i.auto.i-end) in
     adds_all F.messages (OfMessage F) c.loop-i.i _ _ e c.loop-i.invariant.names

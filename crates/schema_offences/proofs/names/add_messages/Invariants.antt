@@ -6,7 +6,7 @@ use Rattle.schema_offences.proofs.names.add_messages.Given as goal
 -- the messages up to here were added, and have numbers
 abbrev pub invariant-loop-i : goal.invariant-loop-i
 invariant-loop-i l = record {
-  numbers : (j : ℕ) → j < l.i → (k : ℕ) × HasNumber l.fn.file (Some j) k;
-  names : Adds (OfFirst l.i l.fn.file.messages (OfMessage l.fn.file))
+  numbers : (j : ℕ) → j < l.i → (k : ℕ) × HasNumber l.fn.files (Some j) k;
+  names : Adds (OfFirst l.i l.fn.files.messages (OfMessage l.fn.files))
       (entries_of l.initial.names.items) (entries_of l.names.items);
 }

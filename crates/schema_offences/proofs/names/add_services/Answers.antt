@@ -1,6 +1,6 @@
 use Rattle.std.proofs.Common.{◌≡◌, ◌<◌, ◌+◌, length, sym, ap, ◌∙◌, subst, arith}
 use Rattle.std.specs.Prelude.{Some, slice_get}
-use Rattle.proto_file.specs.declared.file.File.{File}
+use Rattle.proto_file.specs.Joined.{Joined}
 use Rattle.schema_offences.specs.Entries.{OfService, Adds, entries_of}
 use Rattle.schema_offences.proofs.Meetings.{item_at}
 use Rattle.schema_offences.proofs.EntryLists.{adds_next, adds_all}
@@ -8,7 +8,7 @@ use Rattle.schema_offences.proofs.names.add_services.Goals as goal
 
 pub loop-i-preserved : goal.loop-i-preserved
 loop-i-preserved c =
-    let F = c.args.file.now in
+    let F = c.args.files.now in
     let x = c.index-services-i.result in
     let l : c.loop-i.i < length F.services = omega (arith, ap length c.as_slice-services.ensures, c.loop-i-test.true) in
     let at : slice_get F.services c.loop-i.i ≡ Some x =
@@ -25,7 +25,7 @@ loop-i-preserved c =
 
 pub returns : goal.returns
 returns c =
-    let F = c.args.file.now in
+    let F = c.args.files.now in
     let e : c.loop-i.i ≡ length F.services =
     omega (arith, ap length c.as_slice-services.ensures, c.loop-i-test.false, c.loop-i.auto.i-end) in
     adds_all F.services (OfService F) c.loop-i.i _ _ e c.loop-i.invariant

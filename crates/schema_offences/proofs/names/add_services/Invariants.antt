@@ -4,5 +4,5 @@ use Rattle.schema_offences.proofs.names.add_services.Given as goal
 -- the services up to here were added
 abbrev pub invariant-loop-i : goal.invariant-loop-i
 invariant-loop-i l =
-    Adds (OfFirst l.i l.fn.file.services (OfService l.fn.file))
+    Adds (OfFirst l.i l.fn.files.services (OfService l.fn.files))
     (entries_of l.initial.names.items) (entries_of l.names.items)

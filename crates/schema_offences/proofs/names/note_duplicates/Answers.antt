@@ -6,17 +6,17 @@ use Rattle.schema_offences.proofs.Duplicates.{Laws, keeps, meets_twice}
 use Rattle.schema_offences.proofs.names.note_duplicates.Goals as goal
 
 pub add_messages-requires-clause-behind : goal.add_messages-requires-clause-behind
-add_messages-requires-clause-behind c = stand_behind c.args.file.now c.requires.formed
+add_messages-requires-clause-behind c = stand_behind c.args.files.now c.requires.formed
 
 pub add_enums-requires-clause-behind : goal.add_enums-requires-clause-behind
-add_enums-requires-clause-behind c = stand_behind c.args.file.now c.requires.formed
+add_enums-requires-clause-behind c = stand_behind c.args.files.now c.requires.formed
 
 pub add_services-requires-clause-behind : goal.add_services-requires-clause-behind
-add_services-requires-clause-behind c = stand_behind c.args.file.now c.requires.formed
+add_services-requires-clause-behind c = stand_behind c.args.files.now c.requires.formed
 
 pub returns : goal.returns
 returns c =
-    let F = c.args.file.now in
+    let F = c.args.files.now in
     let laws : Laws F = record {
       scope = c.one_number.ensures.scope F;
       number = c.one_number.ensures.number F;

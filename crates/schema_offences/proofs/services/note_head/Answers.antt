@@ -12,7 +12,7 @@ use Rattle.schema_offences.proofs.services.note_head.Goals.{in-Some, in_default}
 
 pub returns-in-Some-package : goal.returns-in-Some-package
 returns-in-Some-package c =
-    let F = c.args.file.now in
+    let F = c.args.files.now in
     let all : slice_get c.as_slice.result.now 0 ≡ slice_get F.imports 0 =
     ap (λ (xs : List Import). slice_get xs 0) c.as_slice.ensures in
     let imports : Meets (ImportOffends F) c.args.first.now c.match-first.first = elim c.match-first.branch [
@@ -40,7 +40,7 @@ returns-in-Some-package c =
 
 pub returns-in_default-package : goal.returns-in_default-package
 returns-in_default-package c =
-    let F = c.args.file.now in
+    let F = c.args.files.now in
     let all : slice_get c.as_slice.result.now 0 ≡ slice_get F.imports 0 =
     ap (λ (xs : List Import). slice_get xs 0) c.as_slice.ensures in
     let imports : Meets (ImportOffends F) c.args.first.now c.match-first.first = elim c.match-first.branch [

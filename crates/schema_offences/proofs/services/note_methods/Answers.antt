@@ -2,11 +2,11 @@ use Rattle.std.proofs.Common.{◌≡◌, ℕ, ◌+◌, ◌-◌, ◌^◌, ◌<◌
 use Rattle.std.specs.Prelude.{min, Some, slice_get}
 use Rattle.std.proofs.lemmas.List.{take_all}
 use Rattle.std.specs.List.{flat_map}
-use Rattle.proto_file.specs.Order.{IsOrdered}
+use Rattle.proto_file.specs.Together.{IsOrdered}
 use Rattle.proto_file.specs.declared.file.ServiceDecl.{ServiceDecl}
-use Rattle.proto_file.specs.declared.file.File.{File}
+use Rattle.proto_file.specs.Joined.{Joined}
 use Rattle.schema_names.specs.Scopes.{package_of}
-use Rattle.schema_offences.specs.Sources.{service_rpcs, rpcs_of}
+use Rattle.schema_offences.specs.Methods.{service_rpcs, rpcs_of}
 use Rattle.schema_offences.specs.Members.{MethodOffends}
 use Rattle.schema_offences.specs.Meeting.{Meets, OfFirst, OfElement, MethodIn}
 use Rattle.schema_offences.proofs.Meetings.{meets_start, meets_next, meets_elements, item_at}
@@ -18,7 +18,7 @@ loop-service-init c = record { meets = meets_start _ _; count = refl }
 
 pub loop-service-preserved : goal.loop-service-preserved
 loop-service-preserved c =
-    let services = c.args.file.now.services in
+    let services = c.args.files.now.services in
     let i = c.loop-service.service-index in
     let x = c.service-item.result in
     let l : i < length services = omega (arith, ap length c.as_slice-service-items.ensures, c.loop-service-test.true) in
@@ -30,7 +30,7 @@ loop-service-preserved c =
     let more : methods_of services (i + 1) ≡ n + length x.rpcs = methods_more services i x at in
     let same : n + c.loop-rpc.rpc-index ≡ methods_of services (i + 1) = omega arith in
     record {
-      meets = subst (λ (k : ℕ). Meets (OfFirst k (OfElement (rpcs_of c.args.file.now) (MethodIn c.args.file.now)))
+      meets = subst (λ (k : ℕ). Meets (OfFirst k (OfElement (rpcs_of c.args.files.now) (MethodIn c.args.files.now)))
           c.args.first.now
           c.loop-rpc.first) same c.loop-rpc.invariant.meets;
       count = c.loop-rpc.invariant.count ∙ ap (λ (k : ℕ). min k (2 ^ 64 - 1)) same;
@@ -38,10 +38,10 @@ loop-service-preserved c =
 
 pub loop-rpc-init : goal.loop-rpc-init
 loop-rpc-init c =
-    let n : ℕ = methods_of c.args.file.now.services c.loop-service.service-index in
+    let n : ℕ = methods_of c.args.files.now.services c.loop-service.service-index in
     let same : n ≡ n + 0 = omega arith in
     record {
-      meets = subst (λ (k : ℕ). Meets (OfFirst k (OfElement (rpcs_of c.args.file.now) (MethodIn c.args.file.now)))
+      meets = subst (λ (k : ℕ). Meets (OfFirst k (OfElement (rpcs_of c.args.files.now) (MethodIn c.args.files.now)))
           c.args.first.now
           c.loop-service.first) same c.loop-service.invariant.meets;
       count = c.loop-service.invariant.count ∙ ap (λ (k : ℕ). min k (2 ^ 64 - 1)) same;
@@ -49,7 +49,7 @@ loop-rpc-init c =
 
 pub loop-rpc-preserved : goal.loop-rpc-preserved
 loop-rpc-preserved c =
-    let F = c.args.file.now in
+    let F = c.args.files.now in
     let services = F.services in
     let i = c.loop-service.service-index in
     let j = c.loop-rpc.rpc-index in
@@ -89,7 +89,7 @@ note_method-requires c = subst IsOrdered (sym c.requires.scopes) c.requires.orde
 
 pub returns : goal.returns
 returns c =
-    let F = c.args.file.now in
+    let F = c.args.files.now in
     let i = c.loop-service.service-index in
     let l : length F.services ≤ i =
     omega (arith, ap length c.as_slice-service-items.ensures, c.loop-service-test.false) in

@@ -9,7 +9,7 @@ loop-i-init c = meets_start _ _
 
 pub loop-i-preserved : goal.loop-i-preserved
 loop-i-preserved c =
-    let xs = c.args.file.now.services in
+    let xs = c.args.files.now.services in
     let l : c.loop-i.i < length xs = omega (arith, ap length c.as_slice-services.ensures, c.loop-i-test.true) in
     let x = get_or c.as_slice-services.result.now c.loop-i.i c.index-services-i.result in
     let at : slice_get xs c.loop-i.i ≡ Some x =
@@ -18,7 +18,7 @@ loop-i-preserved c =
 
 pub returns : goal.returns
 returns c =
-    let xs = c.args.file.now.services in
+    let xs = c.args.files.now.services in
     let e : c.loop-i.i ≡ length xs =
     omega (arith, ap length c.as_slice-services.ensures, c.loop-i-test.false, c.loop-i.auto.i-end) in
     meets_elements xs IsLongService c.loop-i.i _ _ e c.loop-i.invariant

@@ -6,11 +6,11 @@ use Rattle.schema_offences.proofs.lines.Lengths.add_enums.Goals as goal
 
 pub loop-i-preserved : goal.loop-i-preserved
 loop-i-preserved c =
-    let xs = c.args.file.now.enums in
+    let xs = c.args.files.now.enums in
     let l : c.loop-i.i < length xs = omega (arith, ap length c.as_slice-all.ensures, c.loop-i-test.true) in
     let at : slice_get xs c.loop-i.i ≡ Some c.index-all-i.result =
     item_at c.as_slice-all.result.now xs c.loop-i.i c.index-all-i.result c.as_slice-all.ensures l c.index-all-i.is in
-    keeps_enum c.args.file.now c.loop-i.self
+    keeps_enum c.args.files.now c.loop-i.self
     (record { front = c.loop-i.self.front; messages = c.loop-i.self.messages; enums = c.push.new.self })
     c.loop-i.i c.index-all-i.result c.requires.formed c.loop-i.invariant at refl refl
     (c.in_ok-push.ensures.items ∙ ap (λ (n : ℕ). c.loop-i.self.enums.items ++ n ∷ []) c.full-length.ensures)

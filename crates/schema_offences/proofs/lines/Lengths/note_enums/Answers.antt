@@ -7,7 +7,7 @@ use Rattle.schema_offences.proofs.lines.Lengths.note_enums.Goals as goal
 
 pub loop-i-preserved : goal.loop-i-preserved
 loop-i-preserved c =
-    let xs = c.args.file.now.enums in
+    let xs = c.args.files.now.enums in
     let l : c.loop-i.i < length xs = omega (arith, ap length c.as_slice-all.ensures, c.loop-i-test.true) in
     let at : slice_get xs c.loop-i.i ≡ Some c.index-all-i.result =
     item_at c.as_slice-all.result.now xs c.loop-i.i c.index-all-i.result c.as_slice-all.ensures l c.index-all-i.is in
@@ -16,7 +16,7 @@ loop-i-preserved c =
 
 pub returns : goal.returns
 returns c =
-    let xs = c.args.file.now.enums in
+    let xs = c.args.files.now.enums in
     let e : c.loop-i.i ≡ length xs =
     omega (arith, ap length c.as_slice-all.ensures, c.loop-i-test.false, c.loop-i.auto.i-end) in
     meets_elements xs (λ (i : ℕ) (e : EnumDecl). IsLongName c.args.self.now e.parent e.name) c.loop-i.i

@@ -5,5 +5,5 @@ use Rattle.schema_offences.proofs.lines.Lengths.note_enums.Given as goal
 -- the long names up to here were met
 abbrev pub invariant-loop-i : goal.invariant-loop-i
 invariant-loop-i l =
-    Meets (OfFirst l.i (OfElement l.fn.file.enums (λ i e. IsLongName l.fn.self e.parent e.name)))
+    Meets (OfFirst l.i (OfElement l.fn.files.enums (λ i e. IsLongName l.fn.self e.parent e.name)))
     l.initial.first l.first

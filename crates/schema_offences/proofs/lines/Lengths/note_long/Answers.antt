@@ -8,7 +8,7 @@ use Rattle.schema_offences.proofs.lines.Lengths.note_long.Goals as goal
 
 pub returns : goal.returns
 returns c =
-    let F = c.args.file.now in
+    let F = c.args.files.now in
     let kept = c.args.self.now in
     let exists = c.one_scope.ensures.exists in
     let ms = AtSome (OfElement F.messages (λ i m. IsLongName kept m.parent m.name)) in

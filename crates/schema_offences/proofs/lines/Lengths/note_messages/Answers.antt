@@ -9,7 +9,7 @@ use Rattle.schema_offences.proofs.lines.Lengths.note_messages.Goals as goal
 
 pub loop-i-preserved : goal.loop-i-preserved
 loop-i-preserved c =
-    let xs = c.args.file.now.messages in
+    let xs = c.args.files.now.messages in
     let l : c.loop-i.i < length xs = omega (arith, ap length c.as_slice-all.ensures, c.loop-i-test.true) in
     let at : slice_get xs c.loop-i.i ≡ Some c.index-all-i.result =
     item_at c.as_slice-all.result.now xs c.loop-i.i c.index-all-i.result c.as_slice-all.ensures l c.index-all-i.is in
@@ -19,7 +19,7 @@ loop-i-preserved c =
 
 pub returns : goal.returns
 returns c =
-    let xs = c.args.file.now.messages in
+    let xs = c.args.files.now.messages in
     let e : c.loop-i.i ≡ length xs =
     omega (arith, ap length c.as_slice-all.ensures, c.loop-i-test.false, c.loop-i.auto.i-end) in
     meets_elements xs (λ (i : ℕ) (m : MessageDecl). IsLongName c.args.self.now m.parent m.name) c.loop-i.i
@@ -27,9 +27,9 @@ returns c =
 
 pub note_full-requires : goal.note_full-requires
 note_full-requires c =
-    let xs = c.args.file.now.messages in
+    let xs = c.args.files.now.messages in
     let l : c.loop-i.i < length xs = omega (arith, ap length c.as_slice-all.ensures, c.loop-i-test.true) in
     let at : slice_get xs c.loop-i.i ≡ Some c.index-all-i.result =
     item_at c.as_slice-all.result.now xs c.loop-i.i c.index-all-i.result c.as_slice-all.ensures l c.index-all-i.is in
     subst (λ (n : ℕ). IsPlaceBelow n c.index-all-i.result.parent) (sym c.requires.lengths.all_messages)
-    (message_below c.args.file.now c.requires.formed c.loop-i.i c.index-all-i.result at)
+    (message_below c.args.files.now c.requires.formed c.loop-i.i c.index-all-i.result at)

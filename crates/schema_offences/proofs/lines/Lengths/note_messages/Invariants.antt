@@ -5,5 +5,5 @@ use Rattle.schema_offences.proofs.lines.Lengths.note_messages.Given as goal
 -- the long names up to here were met
 abbrev pub invariant-loop-i : goal.invariant-loop-i
 invariant-loop-i l =
-    Meets (OfFirst l.i (OfElement l.fn.file.messages (λ i m. IsLongName l.fn.self m.parent m.name)))
+    Meets (OfFirst l.i (OfElement l.fn.files.messages (λ i m. IsLongName l.fn.self m.parent m.name)))
     l.initial.first l.first

@@ -6,4 +6,4 @@ use Rattle.schema_offences.proofs.lines.Lengths.note_services.Given as goal
 -- the long names up to here were met
 abbrev pub invariant-loop-i : goal.invariant-loop-i
 invariant-loop-i l =
-    Meets (OfFirst l.i (OfElement l.fn.file.services (λ i x. IsLongName l.fn.self None x.name))) l.initial.first l.first
+    Meets (OfFirst l.i (OfElement l.fn.files.services (λ i x. IsLongName l.fn.self None x.name))) l.initial.first l.first
