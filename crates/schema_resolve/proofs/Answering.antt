@@ -3,28 +3,28 @@ use Rattle.std.proofs.Common.{◌≡◌, length, refl}
 use Rattle.std.specs.Prelude.{Result, Ok, Err, IfOk, IfErr, MatchResult}
 use Rattle.std.proofs.lemmas.List.Elements.{All-contains}
 use Rattle.mrpc_table.specs.declared.table.Table.{Table}
-use Rattle.proto_file.specs.Order.{IsFormed, IsPlaceBelow}
+use Rattle.proto_file.specs.Together.{IsFormed, IsPlaceBelow}
 use Rattle.proto_file.specs.declared.file.EnumDecl.{EnumDecl}
-use Rattle.proto_file.specs.declared.file.File.{File}
+use Rattle.proto_file.specs.Joined.{Joined}
 use Rattle.schema_names.specs.Numbers.{StandBehind}
 use Rattle.schema_resolve.specs.Resolving.{Resolves, IsFaultOf}
 use Rattle.schema_resolve.specs.declared.fault.ResolveFault.{ResolveFault}
 use Rattle.schema_resolve.specs.declared.fault.ResolveFault.TheVariants as faults
 use Rattle.schema_resolve.proofs.CleanFiles.{parent_below}
 
-pub stands_behind : (F : File) → IsFormed F → StandBehind F
+pub stands_behind : (F : Joined) → IsFormed F → StandBehind F
 stands_behind F formed = record {
   messages = λ i p m at e. parent_below i p m.parent e (formed.parents i m at);
   enums = λ x p c e. parent_below (length F.messages) p x.parent e
       (All-contains (λ (y : EnumDecl). IsPlaceBelow (length F.messages) y.parent) F.enums x formed.enum_parents c);
 }
 
-fault_is_memory : (F : File) (t : Table) (e : ResolveFault) → Resolves F t → IsFaultOf F e → e ≡ faults.Memory
+fault_is_memory : (F : Joined) (t : Table) (e : ResolveFault) → Resolves F t → IsFaultOf F e → e ≡ faults.Memory
 fault_is_memory F t (faults.At q start end line) r h = absurd (r.clean q _ h.offence)
 fault_is_memory F t faults.Memory r h = refl
 
 -- a file that has a table gives it, unless memory runs out
-pub only_this : (F : File) (result : Result Table ResolveFault)
+pub only_this : (F : Joined) (result : Result Table ResolveFault)
     → ((t u : Table) → Resolves F t → Resolves F u → t ≡ u) → IfOk result (Resolves F) → IfErr result (IsFaultOf F)
     → (t : Table) → Resolves F t → MatchResult result (λ u. u ≡ t) (λ e. e ≡ faults.Memory)
 only_this F (Ok u) one resolves fault t r = one u t resolves r

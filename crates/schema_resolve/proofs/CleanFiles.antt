@@ -12,7 +12,7 @@ use Rattle.proto_file.specs.Order.{Declaration, StandsAt, IsFormed, IsOrdered, I
 use Rattle.proto_file.specs.declared.file.Span.{Span}
 use Rattle.proto_file.specs.declared.file.MessageDecl.{MessageDecl}
 use Rattle.proto_file.specs.declared.file.EnumDecl.{EnumDecl}
-use Rattle.proto_file.specs.declared.file.File.{File}
+use Rattle.proto_file.specs.Joined.{Joined}
 use Rattle.schema_names.specs.Scopes
 use Rattle.schema_names.specs.Scopes.{Sort, a_message, an_enum, Declares, text_of, package_of, IsScope, of_file, of_message}
 use Rattle.schema_offences.specs.Members.{too_many_messages, too_many_enums}
@@ -50,21 +50,21 @@ push_new (y ∷ xs) x (suc i) e = push_new xs x i (omega arith)
 
 -- ---- scopes
 
-pub scope_of_file : {F : File} {s : List (List ℕ)} → IsScope F None s → s ≡ package_of F
+pub scope_of_file : {F : Joined} {s : List (List ℕ)} → IsScope F None s → s ≡ package_of F
 scope_of_file of_file = refl
 
-pub record ScopeParts (F : File) (i : ℕ) (s : List (List ℕ)) : Type 0 where
+pub record ScopeParts (F : Joined) (i : ℕ) (s : List (List ℕ)) : Type 0 where
   pub decl : MessageDecl
   pub outer : List (List ℕ)
   pub at : slice_get F.messages i ≡ Some decl
   pub up : IsScope F decl.parent outer
   pub is : s ≡ outer ++ decl.name.name ∷ []
 
-pub scope_parts : {F : File} {i : ℕ} {s : List (List ℕ)} → IsScope F (Some i) s → ScopeParts F i s
+pub scope_parts : {F : Joined} {i : ℕ} {s : List (List ℕ)} → IsScope F (Some i) s → ScopeParts F i s
 scope_parts (of_message i m {outer} at up) = record { decl = m; outer = outer; at = at; up = up; is = refl }
 
 -- what stands in the file or in a message has one scope
-pub one_scope : {F : File} {p : Option ℕ} {s t : List (List ℕ)} → IsScope F p s → IsScope F p t → s ≡ t
+pub one_scope : {F : Joined} {p : Option ℕ} {s t : List (List ℕ)} → IsScope F p s → IsScope F p t → s ≡ t
 one_scope of_file of_file = refl
 one_scope {F} (of_message i m {outer} at up) (of_message j n {outer = outer'} at' up') =
     let e : m ≡ n = same_Some m n (sym at ∙ at') in
@@ -75,12 +75,12 @@ one_scope {F} (of_message i m {outer} at up) (of_message j n {outer = outer'} at
 pub parent_below : (n p : ℕ) (place : Option ℕ) → place ≡ Some p → IsPlaceBelow n place → p < n
 parent_below n p place e h = subst (IsPlaceBelow n) e h
 
-pub parent_scope : {F : File} (p : Option ℕ)
+pub parent_scope : {F : Joined} (p : Option ℕ)
     → ((q : ℕ) → p ≡ Some q → (s : List (List ℕ)) × IsScope F (Some q) s) → (s : List (List ℕ)) × IsScope F p s
 parent_scope {F} None known = (package_of F, of_file)
 parent_scope (Some q) known = known q refl
 
-scope_below : {F : File} → IsFormed F → (n i : ℕ) → i < n → i < length F.messages
+scope_below : {F : Joined} → IsFormed F → (n i : ℕ) → i < n → i < length F.messages
     → (s : List (List ℕ)) × IsScope F (Some i) s
 scope_below formed zero i l here = absurd (omega arith)
 scope_below {F} formed (suc n) i l here =
@@ -90,17 +90,17 @@ scope_below {F} formed (suc n) i l here =
     (omega (arith, parent_below i q m.0.parent e (formed.parents i m.0 m.1)))) in
     (up.0 ++ m.0.name.name ∷ [], of_message i m.0 m.1 up.1)
 
-pub scope_at : {F : File} → IsFormed F → (i : ℕ) → i < length F.messages → (s : List (List ℕ)) × IsScope F (Some i) s
+pub scope_at : {F : Joined} → IsFormed F → (i : ℕ) → i < length F.messages → (s : List (List ℕ)) × IsScope F (Some i) s
 scope_at formed i l = scope_below formed (i + 1) i (omega arith) l
 
-pub message_outer : {F : File} → IsFormed F → (i : ℕ) (m : MessageDecl) → slice_get F.messages i ≡ Some m
+pub message_outer : {F : Joined} → IsFormed F → (i : ℕ) (m : MessageDecl) → slice_get F.messages i ≡ Some m
     → (s : List (List ℕ)) × IsScope F m.parent s
 message_outer {F} formed i m at =
     let n = slice_get_within F.messages i m at in
     parent_scope {F = F} m.parent
     (λ q e. scope_at formed q (omega (arith, parent_below i q m.parent e (formed.parents i m at))))
 
-pub enum_outer : {F : File} → IsFormed F → (e : EnumDecl) → Contains F.enums e
+pub enum_outer : {F : Joined} → IsFormed F → (e : EnumDecl) → Contains F.enums e
     → (s : List (List ℕ)) × IsScope F e.parent s
 enum_outer {F} formed e c =
     parent_scope {F = F} e.parent
@@ -109,13 +109,13 @@ enum_outer {F} formed e c =
 
 -- ---- no name stands twice
 
-not_twice : (F : File) (a b : Sort) (full : List (List ℕ)) (s t : Span) → IsClean F → Declares F a full s
+not_twice : (F : Joined) (a b : Sort) (full : List (List ℕ)) (s t : Span) → IsClean F → Declares F a full s
     → Declares F b full t → s.start < t.start → ⊥
 not_twice F a b full s t clean d e l =
     clean DuplicateName t (offends (Offences.twice t (Offences.in_file a b full s d e l) (refl, refl)))
 
 -- declarations whose full names have one text are one
-pub one_declaration : (F : File) (x y : Declaration) (a b : Sort) (f g : List (List ℕ)) (s t : Span) → IsOrdered F
+pub one_declaration : (F : Joined) (x y : Declaration) (a b : Sort) (f g : List (List ℕ)) (s t : Span) → IsOrdered F
     → IsClean F → Declares F a f s → Declares F b g t → StandsAt F s x its_name → StandsAt F t y its_name
     → AreNames f → AreNames g → text_of f ≡ text_of g → x ≡ y
 one_declaration F x y a b f g s t ordered clean d e p q m n same =
@@ -137,21 +137,21 @@ same_enum i j e = cc
 
 -- ---- the full names of messages and enums
 
-front_at : {F : File} (names : List (List ℕ)) (front : List ℕ) (place : Option ℕ) (outer : List (List ℕ))
+front_at : {F : Joined} (names : List (List ℕ)) (front : List ℕ) (place : Option ℕ) (outer : List (List ℕ))
     → front ≡ text_of (package_of F) → AreMessageNames F names → IsPlaceBelow (length names) place
     → IsScope F place outer → front_of front names place ≡ text_of outer
 front_at names front None outer e h below up = e ∙ ap text_of (sym (scope_of_file up))
 front_at names front (Some i) outer e h below up =
     get_or_from_slice_get names i (text_of outer) [] (h.each i outer below up)
 
-pub full_text : {F : File} (names : List (List ℕ)) (front name : List ℕ) (place : Option ℕ) (outer : List (List ℕ))
+pub full_text : {F : Joined} (names : List (List ℕ)) (front name : List ℕ) (place : Option ℕ) (outer : List (List ℕ))
     → IsFormed F → front ≡ text_of (package_of F) → AreMessageNames F names → IsPlaceBelow (length names) place
     → IsScope F place outer → behind (front_of front names place) name ≡ text_of (outer ++ name ∷ [])
 full_text names front name place outer formed e h below up =
     ap (λ (t : List ℕ). behind t name) (front_at names front place outer e h below up)
     ∙ behind_text outer name (scope_names formed up)
 
-pub messages_more : {F : File} (names more : List (List ℕ)) (front name : List ℕ) (i : ℕ) (m : MessageDecl)
+pub messages_more : {F : Joined} (names more : List (List ℕ)) (front name : List ℕ) (i : ℕ) (m : MessageDecl)
     → IsFormed F → front ≡ text_of (package_of F) → length names ≡ i → slice_get F.messages i ≡ Some m
     → name ≡ behind (front_of front names m.parent) m.name.name → more ≡ names ++ name ∷ [] → AreMessageNames F names
     → AreMessageNames F more
@@ -174,7 +174,7 @@ messages_more {F} names more front name i m formed e count at is grown h =
       ];
     })
 
-pub enums_more : {F : File} (messages names more : List (List ℕ)) (front name : List ℕ) (i : ℕ) (e : EnumDecl)
+pub enums_more : {F : Joined} (messages names more : List (List ℕ)) (front name : List ℕ) (i : ℕ) (e : EnumDecl)
     → IsFormed F → front ≡ text_of (package_of F) → length messages ≡ length F.messages → AreMessageNames F messages
     → length names ≡ i → slice_get F.enums i ≡ Some e
     → name ≡ behind (front_of front messages e.parent) e.name.name → more ≡ names ++ name ∷ [] → AreEnumNames F names
@@ -198,11 +198,11 @@ enums_more {F} messages names more front name i e formed front_is all known coun
       ];
     })
 
-pub parent_known : (F : File) (i : ℕ) (m : MessageDecl) (n : ℕ) → IsFormed F → slice_get F.messages i ≡ Some m → n ≡ i
+pub parent_known : (F : Joined) (i : ℕ) (m : MessageDecl) (n : ℕ) → IsFormed F → slice_get F.messages i ≡ Some m → n ≡ i
     → IsPlaceBelow n m.parent
 parent_known F i m n formed at e = subst (λ (k : ℕ). IsPlaceBelow k m.parent) (sym e) (formed.parents i m at)
 
-pub enum_parent_known : (F : File) (i : ℕ) (e : EnumDecl) (n : ℕ) → IsFormed F → slice_get F.enums i ≡ Some e
+pub enum_parent_known : (F : Joined) (i : ℕ) (e : EnumDecl) (n : ℕ) → IsFormed F → slice_get F.enums i ≡ Some e
     → n ≡ length F.messages → IsPlaceBelow n e.parent
 enum_parent_known F i e n formed at is =
     subst (λ (k : ℕ). IsPlaceBelow k e.parent) (sym is)
@@ -210,7 +210,7 @@ enum_parent_known F i e n formed at is =
     (in_list F.enums i e at))
 
 -- a message, with its full name and where that stands
-pub record HereMessage (F : File) (i : ℕ) : Type 0 where
+pub record HereMessage (F : Joined) (i : ℕ) : Type 0 where
   pub decl : MessageDecl
   pub outer : List (List ℕ)
   pub at : slice_get F.messages i ≡ Some decl
@@ -219,7 +219,7 @@ pub record HereMessage (F : File) (i : ℕ) : Type 0 where
   pub stands : StandsAt F decl.name.span (message_decl i) its_name
   pub names : AreNames (outer ++ decl.name.name ∷ [])
 
-pub here_message : (F : File) (i : ℕ) → IsFormed F → i < length F.messages → HereMessage F i
+pub here_message : (F : Joined) (i : ℕ) → IsFormed F → i < length F.messages → HereMessage F i
 here_message F i formed l =
     let m = some_at F.messages i l in
     let up = message_outer formed i m.0 m.1 in
@@ -233,7 +233,7 @@ here_message F i formed l =
       names = names_more up.0 m.0.name.name (scope_names formed up.1) (message_formed F i m.0 formed m.1).name;
     }
 
-pub record HereEnum (F : File) (i : ℕ) : Type 0 where
+pub record HereEnum (F : Joined) (i : ℕ) : Type 0 where
   pub decl : EnumDecl
   pub outer : List (List ℕ)
   pub at : slice_get F.enums i ≡ Some decl
@@ -242,7 +242,7 @@ pub record HereEnum (F : File) (i : ℕ) : Type 0 where
   pub stands : StandsAt F decl.name.span (enum_decl i) its_name
   pub names : AreNames (outer ++ decl.name.name ∷ [])
 
-pub here_enum : (F : File) (i : ℕ) → IsFormed F → i < length F.enums → HereEnum F i
+pub here_enum : (F : Joined) (i : ℕ) → IsFormed F → i < length F.enums → HereEnum F i
 here_enum F i formed l =
     let e = some_at F.enums i l in
     let c = in_list F.enums i e.0 e.1 in
@@ -258,19 +258,19 @@ here_enum F i formed l =
           (All-contains Order.IsFormedEnum F.enums e.0 formed.enums c).name;
     }
 
-pub message_text : (F : File) (names : List (List ℕ)) (i : ℕ) (h : HereMessage F i) → AreMessageNames F names
+pub message_text : (F : Joined) (names : List (List ℕ)) (i : ℕ) (h : HereMessage F i) → AreMessageNames F names
     → i < length names → (d : List ℕ) → get_or names i d ≡ text_of (h.outer ++ h.decl.name.name ∷ [])
 message_text F names i h known l d =
     get_or_from_slice_get names i (text_of (h.outer ++ h.decl.name.name ∷ [])) d
     (known.each i (h.outer ++ h.decl.name.name ∷ []) l (of_message i h.decl h.at h.up))
 
-pub enum_text : (F : File) (names : List (List ℕ)) (i : ℕ) (h : HereEnum F i) → AreEnumNames F names
+pub enum_text : (F : Joined) (names : List (List ℕ)) (i : ℕ) (h : HereEnum F i) → AreEnumNames F names
     → i < length names → (d : List ℕ) → get_or names i d ≡ text_of (h.outer ++ h.decl.name.name ∷ [])
 enum_text F names i h known l d =
     get_or_from_slice_get names i (text_of (h.outer ++ h.decl.name.name ∷ [])) d
     (known.each i h.decl h.outer l h.at h.up)
 
-pub messages_distinct : (F : File) (names : List (List ℕ)) → IsFormed F → IsOrdered F → IsClean F
+pub messages_distinct : (F : Joined) (names : List (List ℕ)) → IsFormed F → IsOrdered F → IsClean F
     → length names ≡ length F.messages → AreMessageNames F names → AreDistinct names
 messages_distinct F names formed ordered clean count known =
     apart_distinct names
@@ -282,7 +282,7 @@ messages_distinct F names formed ordered clean count known =
     (y.outer ++ y.decl.name.name ∷ []) x.decl.name.span y.decl.name.span ordered clean x.declares y.declares x.stands
     y.stands x.names y.names (sym (message_text F names i x known a d) ∙ e ∙ message_text F names j y known b d)))
 
-pub enums_distinct : (F : File) (names : List (List ℕ)) → IsFormed F → IsOrdered F → IsClean F
+pub enums_distinct : (F : Joined) (names : List (List ℕ)) → IsFormed F → IsOrdered F → IsClean F
     → length names ≡ length F.enums → AreEnumNames F names → AreDistinct names
 enums_distinct F names formed ordered clean count known =
     apart_distinct names
@@ -296,7 +296,7 @@ enums_distinct F names formed ordered clean count known =
 
 -- ---- limits
 
-pub few_messages : (F : File) → IsFormed F → IsClean F → length F.messages ≤ MAX_MESSAGES
+pub few_messages : (F : Joined) → IsFormed F → IsClean F → length F.messages ≤ MAX_MESSAGES
 few_messages F formed clean = elim (cases_lt MAX_MESSAGES (length F.messages)) [
   | inl more ↦
       let x = here_message F MAX_MESSAGES formed more in
@@ -305,7 +305,7 @@ few_messages F formed clean = elim (cases_lt MAX_MESSAGES (length F.messages)) [
   | inr few ↦ few
 ]
 
-pub few_enums : (F : File) → IsClean F → length F.enums ≤ MAX_ENUMS
+pub few_enums : (F : Joined) → IsClean F → length F.enums ≤ MAX_ENUMS
 few_enums F clean = elim (cases_lt MAX_ENUMS (length F.enums)) [
   | inl more ↦
       let e = some_at F.enums MAX_ENUMS more in

@@ -23,15 +23,15 @@ use Rattle.mrpc_table.specs.Valid.{AreDistinct, IsValueBelow}
 use Rattle.mrpc_table.specs.declared.limits.TheConstants.{MAX_VALUES, MAX_NAME, MAX_FULL_NAME}
 use Rattle.mrpc_table.specs.declared.table.Choices.{Choices}
 use Rattle.proto_file.specs.Order
-use Rattle.proto_file.specs.Order.{IsFormed, IsFormedEnum, IsOrdered, HasName, StandsAt, value_decl, its_name}
+use Rattle.proto_file.specs.Together.{IsFormed, IsFormedEnum, IsOrdered, HasName, StandsAt, value_decl, its_name}
 use Rattle.proto_file.specs.declared.file.Span.{Span}
 use Rattle.proto_file.specs.declared.file.Word.{Word}
 use Rattle.proto_file.specs.declared.file.ValueDecl.{ValueDecl}
 use Rattle.proto_file.specs.declared.file.EnumDecl.{EnumDecl}
-use Rattle.proto_file.specs.declared.file.File.{File}
+use Rattle.proto_file.specs.Joined.{Joined}
 use Rattle.schema_names.specs.Scopes
 use Rattle.schema_names.specs.Scopes.{Sort, is_type, no_type, an_enum, Declares, text_of, package_parts, package_of, IsScope, of_file, of_message}
-use Rattle.schema_offences.specs.Sources.{alone}
+use Rattle.schema_offences.specs.Methods.{alone}
 use Rattle.schema_offences.specs.Types.{value_of}
 use Rattle.schema_offences.specs.Members
 use Rattle.schema_offences.specs.Members.{IsLong, of_value, of_value_name, value_out_of_range, first_not_zero, name_too_many, name_long, long_message}
@@ -169,10 +169,10 @@ zero_at (pos zero) h = refl
 zero_at (pos (suc n)) h = absurd (h (λ e. cc))
 zero_at (negsuc n) h = absurd (h (λ e. cc))
 
-pub enum_formed : (F : File) (i : ℕ) (e : EnumDecl) → IsFormed F → slice_get F.enums i ≡ Some e → IsFormedEnum e
+pub enum_formed : (F : Joined) (i : ℕ) (e : EnumDecl) → IsFormed F → slice_get F.enums i ≡ Some e → IsFormedEnum e
 enum_formed F i e formed at = All-contains IsFormedEnum F.enums e formed.enums (in_list F.enums i e at)
 
-pub values_fit : (F : File) (i : ℕ) (e : EnumDecl) → IsClean F → slice_get F.enums i ≡ Some e
+pub values_fit : (F : Joined) (i : ℕ) (e : EnumDecl) → IsClean F → slice_get F.enums i ≡ Some e
     → All (λ (v : ValueDecl). FitsSigned w32 (value_of v.number)) e.values
 values_fit F i e clean at k d l =
     fits_at (value_of (get_or e.values k d).number)
@@ -182,7 +182,7 @@ values_fit F i e clean at k d l =
 same_value : (i j k : ℕ) → value_decl i j ≡ value_decl i k → j ≡ k
 same_value i j k e = cc
 
-pub values_distinct : (F : File) (i : ℕ) (e : EnumDecl) → IsFormed F → IsOrdered F → IsClean F
+pub values_distinct : (F : Joined) (i : ℕ) (e : EnumDecl) → IsFormed F → IsOrdered F → IsClean F
     → slice_get F.enums i ≡ Some e → AreDistinct (map (λ (v : ValueDecl). v.name.name) e.values)
 values_distinct F i e formed ordered clean at =
     let name : ValueDecl → List ℕ = λ v. v.name.name in
@@ -220,7 +220,7 @@ short_from name h = elim (cases_Bool (is_short name)) [
   | inr f ↦ absurd (h f)
 ]
 
-pub value_named : (F : File) (i : ℕ) (e : EnumDecl) (v : ValueDecl) → IsFormed F → IsClean F
+pub value_named : (F : Joined) (i : ℕ) (e : EnumDecl) (v : ValueDecl) → IsFormed F → IsClean F
     → slice_get F.enums i ≡ Some e → Contains e.values v → IsName v.name.name
 value_named F i e v formed clean at c = record {
   form = All-contains (λ (x : ValueDecl). HasName x.name) e.values v (enum_formed F i e formed at).values c;
@@ -229,7 +229,7 @@ value_named F i e v formed clean at c = record {
       (of_value_name c.0 v (at_in e.values v c) (name_long (f, (refl, refl)))))));
 }
 
-pub few_values : (F : File) (i : ℕ) (e : EnumDecl) → IsClean F → slice_get F.enums i ≡ Some e
+pub few_values : (F : Joined) (i : ℕ) (e : EnumDecl) → IsClean F → slice_get F.enums i ≡ Some e
     → length e.values ≤ MAX_VALUES
 few_values F i e clean at = elim (cases_lt MAX_VALUES (length e.values)) [
   | inl more ↦
@@ -239,7 +239,7 @@ few_values F i e clean at = elim (cases_lt MAX_VALUES (length e.values)) [
   | inr few ↦ few
 ]
 
-pub first_zero : (F : File) (i : ℕ) (e : EnumDecl) → IsFormed F → IsClean F → slice_get F.enums i ≡ Some e
+pub first_zero : (F : Joined) (i : ℕ) (e : EnumDecl) → IsFormed F → IsClean F → slice_get F.enums i ≡ Some e
     → (v : ValueDecl) × Contains e.values v × (value_of v.number ≡ pos 0)
 first_zero F i e formed clean at =
     let v = some_at e.values 0 (enum_formed F i e formed at).filled in (
@@ -256,7 +256,7 @@ pub true_from : (b : Bool) → (b ≡ false → ⊥) → b ≡ true
 true_from true h = refl
 true_from false h = absurd (h refl)
 
-package_short_at : (F : File) (word : Option Word) → F.package ≡ word → IsClean F
+package_short_at : (F : Joined) (word : Option Word) → F.package ≡ word → IsClean F
     → list_all is_short (package_parts word) ≡ true
 package_short_at F None e clean = refl
 package_short_at F (Some w) e clean =
@@ -270,7 +270,7 @@ short_more outer name h n =
     list_all-append is_short outer (name ∷ [])
     ∙ and_from (list_all is_short outer) (list_all is_short (name ∷ [])) h (and_from (is_short name) true n refl)
 
-pub scope_short : {F : File} {place : Option ℕ} {scope : List (List ℕ)} → IsClean F → IsScope F place scope
+pub scope_short : {F : Joined} {place : Option ℕ} {scope : List (List ℕ)} → IsClean F → IsScope F place scope
     → list_all is_short scope ≡ true
 scope_short {F} clean of_file = package_short_at F F.package refl clean
 scope_short {F} clean (of_message i m {outer} at up) =
@@ -295,7 +295,7 @@ full_valid full some names short not_long =
           ]);
     }
 
-pub type_valid : (F : File) (sort : Sort) (outer : List (List ℕ)) (name : List ℕ) (span : Span) → IsClean F
+pub type_valid : (F : Joined) (sort : Sort) (outer : List (List ℕ)) (name : List ℕ) (span : Span) → IsClean F
     → Declares F sort (outer ++ name ∷ []) span → is_type sort ≡ true → AreNames (outer ++ name ∷ [])
     → list_all is_short (outer ++ name ∷ []) ≡ true → IsFullName (text_of (outer ++ name ∷ []))
 type_valid F sort outer name span clean d typ names short =
@@ -305,7 +305,7 @@ type_valid F sort outer name span clean d typ names short =
 
 -- ---- the enum
 
-pub enum_at : (F : File) (p : Plan) (i : ℕ) (e : EnumDecl) (c : Choices) → IsFormed F → IsOrdered F → IsClean F
+pub enum_at : (F : Joined) (p : Plan) (i : ℕ) (e : EnumDecl) (c : Choices) → IsFormed F → IsOrdered F → IsClean F
     → IsPlan F p → slice_get F.enums i ≡ Some e → c.name ≡ name_at p.enums.names.items i
     → AreValues e.values c.values → IsEnumAt F p i c
 enum_at F p i e c formed ordered clean plan at name values =

@@ -13,7 +13,7 @@ use Rattle.mrpc_table.specs.Words.{is_key, is_numeric}
 use Rattle.mrpc_table.specs.declared.table.Kind.{Kind}
 use Rattle.mrpc_table.specs.declared.table.Label.{Label}
 use Rattle.proto_file.specs.Order
-use Rattle.proto_file.specs.Order.{IsFormed, IsFormedField, IsOrdered, HasName, field_decl, its_name}
+use Rattle.proto_file.specs.Together.{IsFormed, IsFormedField, IsOrdered, HasName, field_decl, its_name}
 use Rattle.proto_file.specs.declared.file.Span.{Span}
 use Rattle.proto_file.specs.declared.file.Word.{Word}
 use Rattle.proto_file.specs.declared.file.FieldLabel.{FieldLabel}
@@ -22,7 +22,7 @@ use Rattle.proto_file.specs.declared.file.FieldType.{FieldType}
 use Rattle.proto_file.specs.declared.file.FieldType.TheVariants.{Named, Map, NestedMap}
 use Rattle.proto_file.specs.declared.file.FieldDecl.{FieldDecl}
 use Rattle.proto_file.specs.declared.file.MessageDecl.{MessageDecl}
-use Rattle.proto_file.specs.declared.file.File.{File}
+use Rattle.proto_file.specs.Joined.{Joined}
 use Rattle.schema_names.specs.Scopes
 use Rattle.schema_names.specs.Scopes.{Sort, a_message, an_enum, no_type, is_type, Names, Finds, in_this, in_others, text_of, IsScope, of_message}
 use Rattle.schema_offences.specs.Types.{value_of, IsScalar, IsNoScalar, HasType, scalar, message, enum, HasForm, single, a_map}
@@ -41,7 +41,7 @@ use Rattle.schema_resolve.proofs.EnumTables.{contains_map, map_contains, map_twi
 
 -- ---- forms
 
-found_type : {F : File} {full : List (List ℕ)} → Finds (F ∷ []) no_type full → ⊥
+found_type : {F : Joined} {full : List (List ℕ)} → Finds (F ∷ []) no_type full → ⊥
 found_type (in_this h) = absurd (false≢true h.names_type)
 found_type (in_others none rest) = elim rest [ ]
 
@@ -52,7 +52,7 @@ field_names outer name inner h n =
     subst (λ (l : List (List ℕ)). AreNames l) (append_assoc outer (name ∷ []) (inner ∷ []))
     (names_more (outer ++ name ∷ []) inner h n)
 
-module _ (F : File) (i : ℕ) (m : MessageDecl) (scope : List (List ℕ)) (f : FieldDecl) (clean : IsClean F)
+module _ (F : Joined) (i : ℕ) (m : MessageDecl) (scope : List (List ℕ)) (f : FieldDecl) (clean : IsClean F)
     (at : slice_get F.messages i ≡ Some m) (up : IsScope F (Some i) scope) (field : Contains m.fields f) where
   well_typed : (q : ResolveReason) (s : Span) → TypeOffends (F ∷ []) scope f q s → ⊥
   well_typed q s o =
@@ -130,13 +130,13 @@ module _ (F : File) (i : ℕ) (m : MessageDecl) (scope : List (List ℕ)) (f : F
 
 -- ---- fields in the order of the text
 
-pub judged_none : (F : File) (place : ℕ) (js : List Judged) → js ≡ [] → AreJudgedInOrder F place [] js
+pub judged_none : (F : Joined) (place : ℕ) (js : List Judged) → js ≡ [] → AreJudgedInOrder F place [] js
 judged_none F place js e = subst (AreJudgedInOrder F place []) (sym e) (record {
   decls = refl;
   each = λ j c. absurd (omega (arith, c.1));
 })
 
-pub judged_more : (F : File) (place i : ℕ) (fs : List FieldDecl) (f : FieldDecl) (js more : List Judged) (j : Judged)
+pub judged_more : (F : Joined) (place i : ℕ) (fs : List FieldDecl) (f : FieldDecl) (js more : List Judged) (j : Judged)
     → slice_get fs i ≡ Some f → IsJudged F place f j → more ≡ js ++ j ∷ [] → AreJudgedInOrder F place (take i fs) js
     → AreJudgedInOrder F place (take (i + 1) fs) more
 judged_more F place i fs f js more j at is e h =
@@ -164,14 +164,14 @@ same_field i j k e = cc
 same_pos : (m n : ℕ) → pos m ≡ pos n → m ≡ n
 same_pos m n e = cc
 
-met_twice : (F : File) (place : ℕ) (m : MessageDecl) (scope : List (List ℕ)) (j k : ℕ) (f g : FieldDecl) → IsClean F
+met_twice : (F : Joined) (place : ℕ) (m : MessageDecl) (scope : List (List ℕ)) (j k : ℕ) (f g : FieldDecl) → IsClean F
     → slice_get F.messages place ≡ Some m → IsScope F (Some place) scope → slice_get m.fields j ≡ Some f
     → slice_get m.fields k ≡ Some g → value_of f.number ≡ value_of g.number → j < k → ⊥
 met_twice F place m scope j k f g clean at up fs gs e l =
     clean DuplicateNumber g.number.span (offends (Offences.of_message place m at up
     (of_number k (number_met_before g f j gs l fs e (refl, refl)))))
 
-judged_at : (F : File) (place : ℕ) (m : MessageDecl) (js : List Judged) (k : ℕ) → AreJudgedInOrder F place m.fields js
+judged_at : (F : Joined) (place : ℕ) (m : MessageDecl) (js : List Judged) (k : ℕ) → AreJudgedInOrder F place m.fields js
     → k < length js → (j : Judged) × (slice_get js k ≡ Some j) × IsJudged F place j.decl.now j
     × (slice_get m.fields k ≡ Some j.decl.now)
 judged_at F place m js k h l =
@@ -183,7 +183,7 @@ judged_at F place m js k h l =
       ap (λ (fs : List FieldDecl). slice_get fs k) (sym h.decls) ∙ slice_get-map decl js k ∙ ap (option_map decl) j.1,
     )
 
-numbers_apart : (F : File) (place : ℕ) (m : MessageDecl) (js : List Judged) → IsFormed F → IsClean F
+numbers_apart : (F : Joined) (place : ℕ) (m : MessageDecl) (js : List Judged) → IsFormed F → IsClean F
     → slice_get F.messages place ≡ Some m → AreJudgedInOrder F place m.fields js
     → AreApart (map (λ (j : Judged). j.number) js)
 numbers_apart F place m js formed clean at h i k d a b e =
@@ -209,7 +209,7 @@ numbers_apart F place m js formed clean at h i k d a b e =
       ]
     ]
 
-names_apart : (F : File) (place : ℕ) (m : MessageDecl) → IsFormed F → IsOrdered F → IsClean F
+names_apart : (F : Joined) (place : ℕ) (m : MessageDecl) → IsFormed F → IsOrdered F → IsClean F
     → slice_get F.messages place ≡ Some m → AreApart (map (λ (f : FieldDecl). f.name.name) m.fields)
 names_apart F place m formed ordered clean at j k d a b s =
     let name : FieldDecl → List ℕ = λ f. f.name.name in
@@ -255,7 +255,7 @@ number_step sorted apart ascends k d l =
     omega arith in
     omega arith
 
-pub judged_of : (F : File) (place : ℕ) (m : MessageDecl) (js sorted : List Judged) → IsFormed F → IsOrdered F
+pub judged_of : (F : Joined) (place : ℕ) (m : MessageDecl) (js sorted : List Judged) → IsFormed F → IsOrdered F
     → IsClean F → slice_get F.messages place ≡ Some m → AreJudgedInOrder F place m.fields js → IsPermutation js sorted
     → IsNonDecreasingBy (λ (j : Judged). j.number) sorted → AreJudged F place m sorted
 judged_of F place m js sorted formed ordered clean at h moved ascends =

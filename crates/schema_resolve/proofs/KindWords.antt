@@ -14,13 +14,13 @@ use Rattle.mrpc_table.specs.declared.table.Label.TheVariants as labels
 use Rattle.mrpc_table.specs.declared.table.Choices.{Choices}
 use Rattle.mrpc_table.specs.declared.table.Table.{Table}
 use Rattle.std.proofs.lemmas.List.Elements.{All-contains}
-use Rattle.proto_file.specs.Order.{IsFormed, IsFormedEnum}
+use Rattle.proto_file.specs.Together.{IsFormed, IsFormedEnum}
 use Rattle.proto_file.specs.declared.file.Span.{Span}
 use Rattle.proto_file.specs.declared.file.Word.{Word}
 use Rattle.proto_file.specs.declared.file.FieldLabel.{FieldLabel}
 use Rattle.proto_file.specs.declared.file.FieldLabel.TheVariants.{Plain, Optional, Repeated}
 use Rattle.proto_file.specs.declared.file.FieldDecl.{FieldDecl}
-use Rattle.proto_file.specs.declared.file.File.{File}
+use Rattle.proto_file.specs.Joined.{Joined}
 use Rattle.schema_names.specs.Scopes
 use Rattle.schema_names.specs.Scopes.{Sort, a_message, an_enum, is_type, Declares, Names, Finds, in_this, in_others, text_of, IsScope}
 use Rattle.schema_names.specs.Numbers
@@ -268,7 +268,7 @@ text_some_at (x ∷ xs) l h e =
     let f : s.0 ∷ s.1 ≡ [] = sym s.2 ∙ e in
     cc
 
-declared_some : {F : File} {sort : Sort} {full : List (List ℕ)} {span : Span} → IsFormed F → Declares F sort full span
+declared_some : {F : Joined} {sort : Sort} {full : List (List ℕ)} {span : Span} → IsFormed F → Declares F sort full span
     → is_type sort ≡ true → text_of full ≡ [] → ⊥
 declared_some {F} formed (Scopes.message m {outer} c up) typ e =
     text_some_at (outer ++ m.name.name ∷ []) (omega (arith, length-append outer (m.name.name ∷ [])))
@@ -284,12 +284,12 @@ declared_some formed (Scopes.field m f c d up) typ e = false≢true typ
 declared_some formed (Scopes.oneof m o c d up) typ e = false≢true typ
 declared_some formed (Scopes.rpc s r c d) typ e = false≢true typ
 
-found_some : {F : File} {sort : Sort} {full : List (List ℕ)} → IsFormed F → Finds (F ∷ []) sort full
+found_some : {F : Joined} {sort : Sort} {full : List (List ℕ)} → IsFormed F → Finds (F ∷ []) sort full
     → text_of full ≡ [] → ⊥
 found_some formed (in_this h) e = declared_some formed h.declared h.names_type e
 found_some formed (in_others none rest) e = elim rest [ ]
 
-scalar_word : (F : File) (scope : List (List ℕ)) (w : Word) (word : List ℕ) (im pk : Bool) (k : Kind) → IsFormed F
+scalar_word : (F : Joined) (scope : List (List ℕ)) (w : Word) (word : List ℕ) (im pk : Bool) (k : Kind) → IsFormed F
     → Sorted k → HasType (F ∷ []) scope w word im pk → word ≡ kind_text no_table k → is_scalar k ≡ true
 scalar_word F scope w word im pk k formed (a_scalar t) typ e = t
 scalar_word F scope w word im pk k formed (a_message_kind i q) (scalar l s) e =
@@ -307,14 +307,14 @@ scalar_word F scope w word im pk k formed (an_enum_kind i q) (enum full plain na
     absurd (found_some formed names.finds
     (append_cancel_left (codes "enum:") (text_of full) [] (e ∙ ap (kind_text no_table) q)))
 
-scalar_form : (F : File) (scope : List (List ℕ)) (f : FieldDecl) (label : Label) (word : List ℕ) (k : Kind)
+scalar_form : (F : Joined) (scope : List (List ℕ)) (f : FieldDecl) (label : Label) (word : List ℕ) (k : Kind)
     → IsFormed F → HasForm (F ∷ []) scope f label word → word ≡ kind_text no_table k → is_scalar k ≡ true
 scalar_form F scope f label word k formed (single w text im pk is typ) e =
     scalar_word F scope w text im pk k formed (sorted k) typ e
 scalar_form F scope f label word k formed (a_map key value l text im pk is plain none s keyed typ) e =
     scalar_word F scope value text im pk k formed (sorted k) typ e
 
-message_kind : (F : File) (p : Plan) (T : Table) (i : ℕ) (full : List (List ℕ)) (span : Span) → IsPlan F p
+message_kind : (F : Joined) (p : Plan) (T : Table) (i : ℕ) (full : List (List ℕ)) (span : Span) → IsPlan F p
     → HasNames p T → StandsAt F (named.Message i) full span
     → (kind_text T (kind_in p (Named (named.Message i))) ≡ codes "message:" ++ text_of full)
     × IsKnown T (kind_in p (Named (named.Message i)))
@@ -327,7 +327,7 @@ message_kind F p T i full span plan has stands =
       subst (λ (j : ℕ). j < length T.messages) (sym place) r.1,
     )
 
-enum_kind : (F : File) (p : Plan) (T : Table) (i : ℕ) (full : List (List ℕ)) (span : Span) → IsPlan F p
+enum_kind : (F : Joined) (p : Plan) (T : Table) (i : ℕ) (full : List (List ℕ)) (span : Span) → IsPlan F p
     → HasNames p T → StandsAt F (named.Enum i) full span
     → (kind_text T (kind_in p (Named (named.Enum i))) ≡ codes "enum:" ++ text_of full)
     × IsKnown T (kind_in p (Named (named.Enum i)))
@@ -346,7 +346,7 @@ enum_kind F p T i full span plan has (Numbers.enum j x {outer} there up) =
     )
 
 -- the kind of a form in a table
-pub kind_word : (F : File) (p : Plan) (T : Table) (scope : List (List ℕ)) (f : FieldDecl) (label : Label)
+pub kind_word : (F : Joined) (p : Plan) (T : Table) (scope : List (List ℕ)) (f : FieldDecl) (label : Label)
     (type_of : TypeOf) (word : List ℕ) → IsFormed F → IsPlan F p → HasNames p T → IsWordOf F type_of word
     → HasForm (F ∷ []) scope f label word → (kind_text T (kind_in p type_of) ≡ word) × IsKnown T (kind_in p type_of)
 kind_word F p T scope f label (Scalar k) word formed plan has is form =
@@ -359,11 +359,11 @@ kind_word F p T scope f label (Named (named.Enum i)) word formed plan has is for
     let r = enum_kind F p T i is.0 is.1 plan has is.2 in
     (r.0 ∙ sym is.3, r.1)
 
-enum_within : {F : File} {i : ℕ} {full : List (List ℕ)} {span : Span} → StandsAt F (named.Enum i) full span
+enum_within : {F : Joined} {i : ℕ} {full : List (List ℕ)} {span : Span} → StandsAt F (named.Enum i) full span
     → i < length F.enums
 enum_within {F} (Numbers.enum j x there up) = slice_get_within F.enums j x there
 
-pub in_plan : (F : File) (p : Plan) (type_of : TypeOf) (word : List ℕ) → IsPlan F p → IsWordOf F type_of word
+pub in_plan : (F : Joined) (p : Plan) (type_of : TypeOf) (word : List ℕ) → IsPlan F p → IsWordOf F type_of word
     → IsInPlan p type_of
 in_plan F p (Scalar k) word plan is = tt
 in_plan F p (Named (named.Message i)) word plan is =

@@ -17,14 +17,14 @@ use Rattle.mrpc_table.specs.declared.table.Field.{Field}
 use Rattle.mrpc_table.specs.declared.table.Message.{Message}
 use Rattle.mrpc_table.specs.declared.table.Table.{Table}
 use Rattle.proto_file.specs.Order
-use Rattle.proto_file.specs.Order.{IsFormed, IsFormedMessage, IsFormedField, IsOrdered, IsPlaceBelow, HasName, oneof_decl}
+use Rattle.proto_file.specs.Together.{IsFormed, IsFormedMessage, IsFormedField, IsOrdered, IsPlaceBelow, HasName, oneof_decl}
 use Rattle.proto_file.specs.declared.file.Word.{Word}
 use Rattle.proto_file.specs.declared.file.FieldDecl.{FieldDecl}
 use Rattle.proto_file.specs.declared.file.MessageDecl.{MessageDecl}
-use Rattle.proto_file.specs.declared.file.File.{File}
+use Rattle.proto_file.specs.Joined.{Joined}
 use Rattle.schema_names.specs.Scopes
 use Rattle.schema_names.specs.Scopes.{a_message, no_type, text_of, IsScope, of_message}
-use Rattle.schema_offences.specs.Sources.{alone}
+use Rattle.schema_offences.specs.Methods.{alone}
 use Rattle.schema_offences.specs.Those.{AreThoseInOrder, none, next}
 use Rattle.schema_offences.specs.Types.{single_label, label_in, HasForm, single, a_map}
 use Rattle.schema_offences.specs.Members.{long_message, of_name, of_oneof, name_long, name_too_many}
@@ -243,13 +243,13 @@ labelled_at T words names (Some i) form_oneof form label k parts is =
           (slice_get_within names is.0 is.2.word.name is.2.named);
     }
 
-record FieldParts (F : File) (T : Table) (scope : List (List ℕ)) (m : MessageDecl) (t : Message) (f : FieldDecl)
+record FieldParts (F : Joined) (T : Table) (scope : List (List ℕ)) (m : MessageDecl) (t : Message) (f : FieldDecl)
     (g : Field) : Type 0 where
   of_field : IsFieldOf T (alone F) scope m t f g
   goes : GoesWith (length t.oneofs) g.label g.kind
   known : IsKnown T g.kind
 
-field_of : (F : File) (p : Plan) (T : Table) (place : ℕ) (m : MessageDecl) (scope : List (List ℕ)) (j : Judged)
+field_of : (F : Joined) (p : Plan) (T : Table) (place : ℕ) (m : MessageDecl) (scope : List (List ℕ)) (j : Judged)
     (g : Field) (t : Message) → IsFormed F → IsPlan F p → HasNames p T → IsScope F (Some place) scope
     → IsJudged F place j.decl.now j → IsMade p m.oneofs t.oneofs j g → FieldParts F T scope m t j.decl.now g
 field_of F p T place m scope j g t formed plan has up is made =
@@ -286,7 +286,7 @@ form_plain files scope f label word (single w text im pk is typ) e =
     plain_at f.oneof (single_label f.label f.packed im pk) (single_no_member f.label f.packed im pk) e
 form_plain files scope f label word (a_map key value l text im pk is plain alone_here s keyed typ) e = tt
 
-pub judged_plain : (F : File) (place : ℕ) (j : Judged) → IsFormed F → place < length F.messages
+pub judged_plain : (F : Joined) (place : ℕ) (j : Judged) → IsFormed F → place < length F.messages
     → IsJudged F place j.decl.now j → j.decl.now.oneof ≡ None → IsNoMember j.form.label
 judged_plain F place j formed l is e =
     let scope = scope_at formed place l in
@@ -294,19 +294,19 @@ judged_plain F place j formed l is e =
     no_member_label j.form.oneof j.form.label
     (form_plain (F ∷ []) scope.0 j.decl.now (label_in j.form.oneof j.form.label) f.word f.has e)
 
-pub judged_known : (F : File) (p : Plan) (place : ℕ) (j : Judged) → IsFormed F → IsPlan F p
+pub judged_known : (F : Joined) (p : Plan) (place : ℕ) (j : Judged) → IsFormed F → IsPlan F p
     → place < length F.messages → IsJudged F place j.decl.now j → IsInPlan p j.form.type_of
 judged_known F p place j formed plan l is =
     let scope = scope_at formed place l in
     let f = is.form_is scope.0 scope.1 in
     in_plan F p j.form.type_of f.word plan f.of_type
 
-pub judged_oneof : (F : File) (place : ℕ) (m : MessageDecl) (f : FieldDecl) → IsFormed F
+pub judged_oneof : (F : Joined) (place : ℕ) (m : MessageDecl) (f : FieldDecl) → IsFormed F
     → slice_get F.messages place ≡ Some m → Contains m.fields f → IsPlaceBelow (length m.oneofs) f.oneof
 judged_oneof F place m f formed at c =
     (All-contains (IsFormedField (length m.oneofs)) m.fields f (message_formed F place m formed at).fields c).oneof
 
-pub few_fields : (F : File) (place : ℕ) (m : MessageDecl) → IsFormed F → IsClean F → slice_get F.messages place ≡ Some m
+pub few_fields : (F : Joined) (place : ℕ) (m : MessageDecl) → IsFormed F → IsClean F → slice_get F.messages place ≡ Some m
     → length m.fields ≤ MAX_FIELDS
 few_fields F place m formed clean at = elim (cases_lt MAX_FIELDS (length m.fields)) [
   | inl more ↦
@@ -317,7 +317,7 @@ few_fields F place m formed clean at = elim (cases_lt MAX_FIELDS (length m.field
   | inr few ↦ few
 ]
 
-field_named : (F : File) (place : ℕ) (m : MessageDecl) (f : FieldDecl) → IsFormed F → IsClean F
+field_named : (F : Joined) (place : ℕ) (m : MessageDecl) (f : FieldDecl) → IsFormed F → IsClean F
     → slice_get F.messages place ≡ Some m → Contains m.fields f → IsName f.name.name
 field_named F place m f formed clean at c =
     let scope = scope_at formed place (slice_get_within F.messages place m at) in record {
@@ -327,7 +327,7 @@ field_named F place m f formed clean at c =
           (of_name c.0 f (at_in m.fields f c) (name_long (no, (refl, refl)))))));
     }
 
-oneof_named : (F : File) (place : ℕ) (m : MessageDecl) (k : ℕ) (w : Word) → IsFormed F → IsClean F
+oneof_named : (F : Joined) (place : ℕ) (m : MessageDecl) (k : ℕ) (w : Word) → IsFormed F → IsClean F
     → slice_get F.messages place ≡ Some m → slice_get m.oneofs k ≡ Some w → IsName w.name
 oneof_named F place m k w formed clean at here =
     let scope = scope_at formed place (slice_get_within F.messages place m at) in record {
@@ -341,7 +341,7 @@ same_oneof : (i j k : ℕ) → oneof_decl i j ≡ oneof_decl i k → j ≡ k
 same_oneof i j k e = cc
 
 -- oneofs of one name are one
-one_oneof : (F : File) (place : ℕ) (m : MessageDecl) (j k : ℕ) (x y : Word) → IsFormed F → IsOrdered F → IsClean F
+one_oneof : (F : Joined) (place : ℕ) (m : MessageDecl) (j k : ℕ) (x y : Word) → IsFormed F → IsOrdered F → IsClean F
     → slice_get F.messages place ≡ Some m → slice_get m.oneofs j ≡ Some x → slice_get m.oneofs k ≡ Some y
     → x.name ≡ y.name → j ≡ k
 one_oneof F place m j k x y formed ordered clean at xs ys same =
@@ -378,7 +378,7 @@ met_oneof words o p keeps l =
 same_place : (p q : ℕ) → Some (Some p) ≡ Some (Some q) → p ≡ q
 same_place p q e = cc
 
-oneofs_distinct : (F : File) (place : ℕ) (m : MessageDecl) (o : Oneofs) → IsFormed F → IsOrdered F → IsClean F
+oneofs_distinct : (F : Joined) (place : ℕ) (m : MessageDecl) (o : Oneofs) → IsFormed F → IsOrdered F → IsClean F
     → slice_get F.messages place ≡ Some m → KeepsOneofs m.oneofs o → AreDistinct o.names
 oneofs_distinct F place m o formed ordered clean at keeps =
     apart_distinct o.names
@@ -399,7 +399,7 @@ label_placed words names (Some i) form label k e h =
 
 -- ---- the message
 
-pub message_at : (F : File) (p : Plan) (place : ℕ) (m : MessageDecl) (js : List Judged) (o : Oneofs) (gs : List Field)
+pub message_at : (F : Joined) (p : Plan) (place : ℕ) (m : MessageDecl) (js : List Judged) (o : Oneofs) (gs : List Field)
     (name : List ℕ) → IsFormed F → IsOrdered F → IsClean F → IsPlan F p → slice_get F.messages place ≡ Some m
     → AreJudged F place m js → AreMade p m.oneofs js o gs → name ≡ name_at p.messages.names.items place
     → IsMessageAt F p place (record { name = name; fields = gs; oneofs = o.names })

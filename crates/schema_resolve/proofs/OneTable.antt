@@ -19,7 +19,7 @@ use Rattle.mrpc_table.specs.declared.table.Choices.{Choices}
 use Rattle.mrpc_table.specs.declared.table.Method.{Method}
 use Rattle.mrpc_table.specs.declared.table.Table.{Table}
 use Rattle.proto_file.specs.Order
-use Rattle.proto_file.specs.Order.{IsOrdered, message_decl, enum_decl, its_name}
+use Rattle.proto_file.specs.Together.{IsOrdered, message_decl, enum_decl, its_name}
 use Rattle.proto_file.specs.declared.file.Span.{Span}
 use Rattle.proto_file.specs.declared.file.Word.{Word}
 use Rattle.proto_file.specs.declared.file.FieldType.TheVariants.{Named, Map}
@@ -28,13 +28,13 @@ use Rattle.proto_file.specs.declared.file.MessageDecl.{MessageDecl}
 use Rattle.proto_file.specs.declared.file.EnumDecl.{EnumDecl}
 use Rattle.proto_file.specs.declared.file.RpcDecl.{RpcDecl}
 use Rattle.proto_file.specs.declared.file.ServiceDecl.{ServiceDecl}
-use Rattle.proto_file.specs.declared.file.File.{File}
+use Rattle.proto_file.specs.Joined.{Joined}
 use Rattle.schema_names.specs.Scopes.{Sort, a_message, an_enum, text_of, package_of, Names}
 use Rattle.schema_names.specs.Numbers
 use Rattle.schema_names.specs.Numbers.{StandsAt, StartApart}
 use Rattle.schema_names.specs.declared.named.Named as names
 use Rattle.schema_names.specs.declared.named.Named.TheVariants as named
-use Rattle.schema_offences.specs.Sources.{Source, alone, messages_of, enums_of, methods_of, rpcs_of}
+use Rattle.schema_offences.specs.Methods.{Source, alone, messages_of, enums_of, methods_of, rpcs_of}
 use Rattle.schema_offences.specs.Those.{AreThoseInOrder, none, next}
 use Rattle.schema_offences.specs.Types.{no_table, single_label, label_in, HasType, scalar, message, enum, HasForm, single, a_map}
 use Rattle.schema_resolve.specs.Tables.{IsFieldOf, IsMessageOf, IsEnumOf, IsMethodOf, IsTableOf}
@@ -183,7 +183,7 @@ record SameType (word other : List ℕ) (im jm pk qk : Bool) : Type 0 where
   messages : im ≡ jm
   packables : pk ≡ qk
 
-same_type : (F : File) (scope : List (List ℕ)) (w : Word) (word other : List ℕ) (im jm pk qk : Bool) → NamesOne F
+same_type : (F : Joined) (scope : List (List ℕ)) (w : Word) (word other : List ℕ) (im jm pk qk : Bool) → NamesOne F
     → HasType (F ∷ []) scope w word im pk → HasType (F ∷ []) scope w other jm qk → SameType word other im jm pk qk
 same_type F scope w word other im jm pk qk one (scalar k s) (scalar l t) = record {
   words = refl;
@@ -218,7 +218,7 @@ same_map k v l w e = (cc, cc)
 named_map : (w k v : Word) → Named w ≡ Map k v → ⊥
 named_map w k v e = cc
 
-same_form : (F : File) (scope : List (List ℕ)) (f : FieldDecl) (a b : Label) (word other : List ℕ) → NamesOne F
+same_form : (F : Joined) (scope : List (List ℕ)) (f : FieldDecl) (a b : Label) (word other : List ℕ) → NamesOne F
     → HasForm (F ∷ []) scope f a word → HasForm (F ∷ []) scope f b other → (a ≡ b) × (word ≡ other)
 same_form F scope f a b word other one (single w x im pk is typ) (single v y jm qk is2 typ2) =
     let s : w ≡ v = same_named w v (sym is ∙ is2) in
@@ -246,7 +246,7 @@ same_form F scope f a b word other one (a_map k v l x im pk is plain o s keyed t
 same_pos : (m n : ℕ) → pos m ≡ pos n → m ≡ n
 same_pos m n e = cc
 
-same_field : (F : File) (T U : Table) (scope other : List (List ℕ)) (m : MessageDecl) (t u : Message) (f : FieldDecl)
+same_field : (F : Joined) (T U : Table) (scope other : List (List ℕ)) (m : MessageDecl) (t u : Message) (f : FieldDecl)
     (g h : Field) → NamesOne F → scope ≡ other → IsFieldOf T (alone F) scope m t f g
     → IsFieldOf U (alone F) other m u f h
     → (g.number ≡ h.number) × (field_line T t.oneofs g ≡ field_line U u.oneofs h)
@@ -276,7 +276,7 @@ less_trans x y z a b = omega arith
 less_strict : (x : ℕ) → x < x → ⊥
 less_strict x a = omega arith
 
-same_message : (F : File) (T U : Table) (m : MessageDecl) (t u : Message) → NamesOne F → IsMessage T t → IsMessage U u
+same_message : (F : Joined) (T U : Table) (m : MessageDecl) (t u : Message) → NamesOne F → IsMessage T t → IsMessage U u
     → IsMessageOf T (alone F, m) t → IsMessageOf U (alone F, m) u
     → (t.name ≡ u.name) × (message_lines T t ≡ message_lines U u)
 same_message F T U m t u one tv uv a b =
@@ -305,7 +305,7 @@ same_message F T U m t u one tv uv a b =
 
 -- ---- methods
 
-same_method : (F : File) (T U : Table) (q : ServiceDecl × RpcDecl) (m n : Method) (i : ℕ) → NamesOne F
+same_method : (F : Joined) (T U : Table) (q : ServiceDecl × RpcDecl) (m n : Method) (i : ℕ) → NamesOne F
     → IsMethodOf T (alone F, q) m → IsMethodOf U (alone F, q) n → method_line T (i, m) ≡ method_line U (i, n)
 same_method F T U q m n i one a b =
     let input : a.input ≡ b.input =
@@ -319,7 +319,7 @@ same_method F T U q m n i one a b =
     ∙ ap (λ (z : List ℕ). L n.service n.name z (message_name T m.output)) (a.input_place ∙ ap text_of input ∙ sym b.input_place)
     ∙ ap (λ (w : List ℕ). L n.service n.name (message_name U n.input) w) (a.output_place ∙ ap text_of output ∙ sym b.output_place)
 
-same_methods : (F : File) (T U : Table) (qs : List (Source × (ServiceDecl × RpcDecl))) (ms ns : List Method) (i : ℕ)
+same_methods : (F : Joined) (T U : Table) (qs : List (Source × (ServiceDecl × RpcDecl))) (ms ns : List Method) (i : ℕ)
     → NamesOne F → AreThoseInOrder (IsMethodOf T) qs ms → AreThoseInOrder (IsMethodOf U) qs ns
     → ((q : Source × (ServiceDecl × RpcDecl)) → Contains qs q → (r : ServiceDecl × RpcDecl) × (q ≡ (alone F, r)))
     → flat_map (method_line T) (enumerate_from i ms) ≡ flat_map (method_line U) (enumerate_from i ns)
@@ -336,7 +336,7 @@ same_methods F T U qs ms ns i one (next {x = q} {y = m} {xs} {ys} r rest) (next 
 -- ---- tables
 
 -- two tables of a file have one text
-pub one_text_of : (F : File) (T U : Table) → NamesOne F → IsTableOf (alone F ∷ []) T → IsTableOf (alone F ∷ []) U
+pub one_text_of : (F : Joined) (T U : Table) → NamesOne F → IsTableOf (alone F ∷ []) T → IsTableOf (alone F ∷ []) U
     → table_text T ≡ table_text U
 one_text_of F T U one a b =
     let S : Source = alone F in
@@ -389,7 +389,7 @@ same_named_message i j e = cc
 same_named_enum : (i j : ℕ) → enum_decl i ≡ enum_decl j → i ≡ j
 same_named_enum i j e = cc
 
-apart_types : (F : File) → IsOrdered F → (a b : names.Named) (f g : List (List ℕ)) (s t : Span) → StandsAt F a f s
+apart_types : (F : Joined) → IsOrdered F → (a b : names.Named) (f g : List (List ℕ)) (s t : Span) → StandsAt F a f s
     → StandsAt F b g t → s.start ≡ t.start → a ≡ b
 apart_types F ordered a b f g s t (Numbers.message i m at up) (Numbers.message j n at2 up2) e =
     ap named.Message (same_named_message i j
@@ -407,5 +407,5 @@ apart_types F ordered a b f g s t (Numbers.enum i m at up) (Numbers.message j n 
     (Order.enum i m at refl) (Order.message j n at2 refl) e).0 in cc)
 
 -- no two types start at one place
-pub starts_apart : (F : File) → IsOrdered F → StartApart F
+pub starts_apart : (F : Joined) → IsOrdered F → StartApart F
 starts_apart F ordered = record { apart = apart_types F ordered }

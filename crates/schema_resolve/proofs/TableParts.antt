@@ -14,15 +14,15 @@ use Rattle.mrpc_table.specs.declared.table.Choices.{Choices}
 use Rattle.mrpc_table.specs.declared.table.Method.{Method}
 use Rattle.mrpc_table.specs.declared.table.Table.{Table}
 use Rattle.proto_file.specs.Order
-use Rattle.proto_file.specs.Order.{IsFormed, IsFormedService, IsFormedRpc, IsOrdered, message_decl, enum_decl, rpc_decl}
+use Rattle.proto_file.specs.Together.{IsFormed, IsFormedService, IsFormedRpc, IsOrdered, message_decl, enum_decl, rpc_decl}
 use Rattle.proto_file.specs.declared.file.MessageDecl.{MessageDecl}
 use Rattle.proto_file.specs.declared.file.EnumDecl.{EnumDecl}
 use Rattle.proto_file.specs.declared.file.RpcDecl.{RpcDecl}
 use Rattle.proto_file.specs.declared.file.ServiceDecl.{ServiceDecl}
-use Rattle.proto_file.specs.declared.file.File.{File}
+use Rattle.proto_file.specs.Joined.{Joined}
 use Rattle.schema_names.specs.Scopes
 use Rattle.schema_names.specs.Scopes.{a_message, an_enum, no_type, text_of, package_of}
-use Rattle.schema_offences.specs.Sources.{Source, alone, messages_of, enums_of, methods_of, rpcs_of, service_rpcs}
+use Rattle.schema_offences.specs.Methods.{Source, alone, messages_of, enums_of, methods_of, rpcs_of, service_rpcs}
 use Rattle.schema_offences.specs.Those.{AreThose, AreThoseInOrder, none, next}
 use Rattle.schema_offences.specs.Members.{too_many_methods}
 use Rattle.schema_offences.specs.Offences
@@ -86,7 +86,7 @@ in_order_mapped R S f h (next {x} {y} r rest) = next (h x y r) (in_order_mapped 
 
 -- ---- names
 
-pub has_names : (F : File) (T : Table) (made : IsMadeTable F T) → HasNames made.plan T
+pub has_names : (F : Joined) (T : Table) (made : IsMadeTable F T) → HasNames made.plan T
 has_names F T made = record {
   messages = sym (in_order_map (IsMessageAt F made.plan) (name_at made.plan.messages.names.items)
       (λ (m : Message). m.name) (λ i m h. sym h.name) made.messages_are);
@@ -94,7 +94,7 @@ has_names F T made = record {
       (λ (e : Choices). e.name) (λ i e h. sym h.name) made.enums_are);
 }
 
-messages_ascend : (F : File) (T : Table) (made : IsMadeTable F T)
+messages_ascend : (F : Joined) (T : Table) (made : IsMadeTable F T)
     → Ascends (λ (m n : Message). IsBelow m.name n.name) T.messages
 messages_ascend F T made =
     let names = made.plan.messages.names.items in
@@ -104,7 +104,7 @@ messages_ascend F T made =
     (subst (λ (a : List ℕ). IsBelow (name_at names i) a) (sym q.name) b)) made.messages_are
     made.is_plan.message_places.order.ascend
 
-enums_ascend : (F : File) (T : Table) (made : IsMadeTable F T)
+enums_ascend : (F : Joined) (T : Table) (made : IsMadeTable F T)
     → Ascends (λ (e f : Choices). IsBelow e.name f.name) T.enums
 enums_ascend F T made =
     let names = made.plan.enums.names.items in
@@ -115,7 +115,7 @@ enums_ascend F T made =
     made.is_plan.enum_places.order.ascend
 
 -- no enum has the name of a message
-types_apart : (F : File) (p : Plan) (i j : ℕ) → IsFormed F → IsOrdered F → IsClean F → IsPlan F p
+types_apart : (F : Joined) (p : Plan) (i j : ℕ) → IsFormed F → IsOrdered F → IsClean F → IsPlan F p
     → i < length F.enums → j < length F.messages
     → name_at p.enums.names.items i ≡ name_at p.messages.names.items j → ⊥
 types_apart F p i j formed ordered clean plan a b e =
@@ -129,12 +129,12 @@ types_apart F p i j formed ordered clean plan a b e =
     ∙ message_text F p.messages.names.items j y plan.messages (omega (arith, plan.all_messages)) []) in
     cc
 
-record EnumHere (F : File) (p : Plan) (n : ℕ) (c : Choices) : Type 0 where
+record EnumHere (F : Joined) (p : Plan) (n : ℕ) (c : Choices) : Type 0 where
   place : ℕ
   within : place < length F.enums
   is_at : IsEnumAt F p place c
 
-enum_here : (F : File) (T : Table) (made : IsMadeTable F T) (k : ℕ) (c : Choices) → slice_get T.enums k ≡ Some c
+enum_here : (F : Joined) (T : Table) (made : IsMadeTable F T) (k : ℕ) (c : Choices) → slice_get T.enums k ≡ Some c
     → EnumHere F made.plan k c
 enum_here F T made k c e =
     let h = in_order_back (IsEnumAt F made.plan) made.enums_are k c e in
@@ -149,12 +149,12 @@ enum_here F T made k c e =
       is_at = h.2;
     }
 
-record MessageHere (F : File) (p : Plan) (n : ℕ) (m : Message) : Type 0 where
+record MessageHere (F : Joined) (p : Plan) (n : ℕ) (m : Message) : Type 0 where
   place : ℕ
   within : place < length F.messages
   is_at : IsMessageAt F p place m
 
-message_here : (F : File) (T : Table) (made : IsMadeTable F T) (k : ℕ) (m : Message)
+message_here : (F : Joined) (T : Table) (made : IsMadeTable F T) (k : ℕ) (m : Message)
     → slice_get T.messages k ≡ Some m → MessageHere F made.plan k m
 message_here F T made k m e =
     let h = in_order_back (IsMessageAt F made.plan) made.messages_are k m e in
@@ -169,7 +169,7 @@ message_here F T made k m e =
       is_at = h.2;
     }
 
-types_distinct : (F : File) (T : Table) → IsFormed F → IsOrdered F → IsClean F → IsMadeTable F T
+types_distinct : (F : Joined) (T : Table) → IsFormed F → IsOrdered F → IsClean F → IsMadeTable F T
     → AreDistinct (map (λ (e : Choices). e.name) T.enums ++ map (λ (m : Message). m.name) T.messages)
 types_distinct F T formed ordered clean made =
     let en : Choices → List ℕ = λ e. e.name in
@@ -241,7 +241,7 @@ same_last : (xs : List (List ℕ)) (a b : List ℕ) → xs ++ a ∷ [] ≡ xs ++
 same_last [] a b e = cc
 same_last (x ∷ xs) a b e = same_last xs a b (let f : xs ++ a ∷ [] ≡ xs ++ b ∷ [] = cc in f)
 
-rpcs_apart : (F : File) (i j : ℕ) (s t : ServiceDecl) (r u : RpcDecl) → IsFormed F → IsOrdered F → IsClean F
+rpcs_apart : (F : Joined) (i j : ℕ) (s t : ServiceDecl) (r u : RpcDecl) → IsFormed F → IsOrdered F → IsClean F
     → slice_get (rpcs_of F) i ≡ Some (s, r) → slice_get (rpcs_of F) j ≡ Some (t, u)
     → text_of (package_of F ++ s.name.name ∷ []) ≡ text_of (package_of F ++ t.name.name ∷ [])
     → r.name.name ≡ u.name.name → i ≡ j
@@ -275,7 +275,7 @@ rpcs_apart F i j s t r u formed ordered clean a b texts names =
     x.is_place ∙ ap (λ (k : ℕ). length (flat_map service_rpcs (take k F.services)) + x.rpc) p.0
     ∙ ap (λ (k : ℕ). length (flat_map service_rpcs (take y.service F.services)) + k) p.1 ∙ sym y.is_place
 
-methods_distinct : (F : File) (T : Table) → IsFormed F → IsOrdered F → IsClean F → IsMadeTable F T
+methods_distinct : (F : Joined) (T : Table) → IsFormed F → IsOrdered F → IsClean F → IsMadeTable F T
     → AreDistinct {X = List ℕ × List ℕ} (map (λ (m : Method). (m.service, m.name)) T.methods)
 methods_distinct F T formed ordered clean made =
     let pair : Method → List ℕ × List ℕ = λ m. (m.service, m.name) in
@@ -297,7 +297,7 @@ methods_distinct F T formed ordered clean made =
     (sym xr.2.is.service ∙ ap (λ (q : List ℕ × List ℕ). q.0) same ∙ yr.2.is.service)
     (sym xr.2.is.name ∙ ap (λ (q : List ℕ × List ℕ). q.1) same ∙ yr.2.is.name))
 
-few_methods : (F : File) → IsClean F → length (rpcs_of F) ≤ MAX_METHODS
+few_methods : (F : Joined) → IsClean F → length (rpcs_of F) ≤ MAX_METHODS
 few_methods F clean = elim (cases_lt MAX_METHODS (length (rpcs_of F))) [
   | inl more ↦
       let p = some_at (rpcs_of F) MAX_METHODS more in
@@ -308,7 +308,7 @@ few_methods F clean = elim (cases_lt MAX_METHODS (length (rpcs_of F))) [
 
 -- ---- the table
 
-pub valid_table : (F : File) (T : Table) → IsFormed F → IsOrdered F → IsClean F → IsMadeTable F T
+pub valid_table : (F : Joined) (T : Table) → IsFormed F → IsOrdered F → IsClean F → IsMadeTable F T
     → length (table_text T) ≤ MAX_TEXT → IsValid T
 valid_table F T formed ordered clean made short =
     let has = has_names F T made in
@@ -342,7 +342,7 @@ valid_table F T formed ordered clean made short =
       short = short;
     }
 
-pub made_is_table : (F : File) (T : Table) → IsFormed F → IsOrdered F → IsClean F → IsMadeTable F T
+pub made_is_table : (F : Joined) (T : Table) → IsFormed F → IsOrdered F → IsClean F → IsMadeTable F T
     → length (table_text T) ≤ MAX_TEXT → IsTableOf (alone F ∷ []) T
 made_is_table F T formed ordered clean made short =
     let has = has_names F T made in

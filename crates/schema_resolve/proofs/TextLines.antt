@@ -10,8 +10,8 @@ use Rattle.mrpc_table.specs.Valid.{Ascends}
 use Rattle.mrpc_table.specs.declared.limits.TheConstants.{MAX_TEXT}
 use Rattle.proto_file.specs.Order.{Declaration, StandsAt, IsOrdered, its_name}
 use Rattle.proto_file.specs.declared.file.Span.{Span}
-use Rattle.proto_file.specs.declared.file.File.{File}
-use Rattle.schema_offences.specs.Sources.{alone}
+use Rattle.proto_file.specs.Joined.{Joined}
+use Rattle.schema_offences.specs.Methods.{alone}
 use Rattle.schema_offences.specs.Lines.{HasLine, PassesAt}
 use Rattle.schema_offences.specs.Offences
 use Rattle.schema_offences.specs.Offences.{offends}
@@ -131,7 +131,7 @@ last_of x (y ∷ ys) a =
       behind = (omega arith, r.behind);
     }
 
-pass_from : (F : File) (xs : List Line) → IsClean F → AllByRecursion (λ (l : Line). HasLine (alone F) l.0 l.1) xs
+pass_from : (F : Joined) (xs : List Line) → IsClean F → AllByRecursion (λ (l : Line). HasLine (alone F) l.0 l.1) xs
     → Ascends Starts xs → MAX_TEXT < total xs → ⊥
 pass_from F [] clean h a more = omega arith
 pass_from F (x ∷ xs) clean h a more =
@@ -155,7 +155,7 @@ pub record Entry : Type 0 where
   pub span : Span
   pub line : List ℕ
 
-pub record IsEntry (F : File) (e : Entry) : Type 0 where
+pub record IsEntry (F : Joined) (e : Entry) : Type 0 where
   pub has : HasLine (alone F) e.span e.line
   pub stands : StandsAt F e.span e.decl its_name
 
@@ -172,12 +172,12 @@ line_in e = (e.span, e.line)
 abbrev pub text_in : List Entry → List ℕ
 text_in es = flat_map (λ (e : Entry). e.line) es
 
-entries_lines : (F : File) (es : List Entry) → AllByRecursion (IsEntry F) es
+entries_lines : (F : Joined) (es : List Entry) → AllByRecursion (IsEntry F) es
     → AllByRecursion (λ (l : Line). HasLine (alone F) l.0 l.1) (map line_in es)
 entries_lines F [] h = tt
 entries_lines F (e ∷ es) h = (h.0.has, entries_lines F es h.1)
 
-apart_from : (F : File) (e : Entry) (es : List Entry) → IsOrdered F → IsEntry F e → AllByRecursion (IsEntry F) es
+apart_from : (F : Joined) (e : Entry) (es : List Entry) → IsOrdered F → IsEntry F e → AllByRecursion (IsEntry F) es
     → AllByRecursion (Differ e) es → AllByRecursion (IsApart (line_in e)) (map line_in es)
 apart_from F e [] ordered i h d = tt
 apart_from F e (x ∷ xs) ordered i h d = (
@@ -185,7 +185,7 @@ apart_from F e (x ∷ xs) ordered i h d = (
   apart_from F e xs ordered i h.1 d.1,
 )
 
-entries_apart : (F : File) (es : List Entry) → IsOrdered F → AllByRecursion (IsEntry F) es → AllDiffer es
+entries_apart : (F : Joined) (es : List Entry) → IsOrdered F → AllByRecursion (IsEntry F) es → AllDiffer es
     → StartApart (map line_in es)
 entries_apart F [] ordered h d = tt
 entries_apart F (e ∷ es) ordered h d = (apart_from F e es ordered h.0 h.1 d.0, entries_apart F es ordered h.1 d.1)
@@ -195,7 +195,7 @@ entries_total [] = refl
 entries_total (e ∷ es) = ap (λ (n : ℕ). length e.line + n) (entries_total es) ∙ sym (length-append e.line (text_in es))
 
 -- the text of different declarations of a clean file isn't too long
-pub entries_short : (F : File) (es : List Entry) → IsOrdered F → IsClean F → AllByRecursion (IsEntry F) es
+pub entries_short : (F : Joined) (es : List Entry) → IsOrdered F → IsClean F → AllByRecursion (IsEntry F) es
     → AllDiffer es → length (text_in es) ≤ MAX_TEXT
 entries_short F es ordered clean h d = elim (cases_lt MAX_TEXT (length (text_in es))) [
   | inl more ↦

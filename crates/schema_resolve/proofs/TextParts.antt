@@ -27,9 +27,9 @@ use Rattle.proto_file.specs.declared.file.ValueDecl.{ValueDecl}
 use Rattle.proto_file.specs.declared.file.EnumDecl.{EnumDecl}
 use Rattle.proto_file.specs.declared.file.RpcDecl.{RpcDecl}
 use Rattle.proto_file.specs.declared.file.ServiceDecl.{ServiceDecl}
-use Rattle.proto_file.specs.declared.file.File.{File}
+use Rattle.proto_file.specs.Joined.{Joined}
 use Rattle.schema_names.specs.Scopes.{text_of, package_of, IsScope, of_message}
-use Rattle.schema_offences.specs.Sources.{alone, rpcs_of, service_rpcs}
+use Rattle.schema_offences.specs.Methods.{alone, rpcs_of, service_rpcs}
 use Rattle.schema_offences.specs.Those.{AreThoseInOrder, none, next}
 use Rattle.schema_offences.specs.Types.{value_of, no_table, isnt_false, single_label, label_in, HasForm, single, a_map}
 use Rattle.schema_offences.specs.Lines
@@ -49,7 +49,7 @@ use Rattle.schema_resolve.proofs.TableParts.{has_names, RpcHere, rpc_here, same_
 
 -- ---- parts of a text
 
-record Part (F : File) (text : List ℕ) (P : Declaration → Type 0) : Type 0 where
+record Part (F : Joined) (text : List ℕ) (P : Declaration → Type 0) : Type 0 where
   entries : List Entry
   are : AllByRecursion (IsEntry F) entries
   differ : AllDiffer entries
@@ -61,10 +61,10 @@ all_weaker : (P Q : Entry → Type 0) (es : List Entry) → ((e : Entry) → P e
 all_weaker P Q [] h a = tt
 all_weaker P Q (e ∷ es) h a = (h e a.0, all_weaker P Q es h a.1)
 
-no_part : (F : File) (P : Declaration → Type 0) → Part F [] P
+no_part : (F : Joined) (P : Declaration → Type 0) → Part F [] P
 no_part F P = record { entries = []; are = tt; differ = tt; text_is = refl; owned = tt }
 
-cons_part : (F : File) (e : Entry) (text : List ℕ) (P Q : Declaration → Type 0) → IsEntry F e → Part F text P
+cons_part : (F : Joined) (e : Entry) (text : List ℕ) (P Q : Declaration → Type 0) → IsEntry F e → Part F text P
     → ((d : Declaration) → P d → e.decl ≡ d → ⊥) → Q e.decl → ((d : Declaration) → P d → Q d)
     → Part F (e.line ++ text) Q
 cons_part F e text P Q is p apart own more = record {
@@ -75,7 +75,7 @@ cons_part F e text P Q is p apart own more = record {
   owned = (own, all_weaker (λ x. P x.decl) (λ x. Q x.decl) p.entries (λ x h. more x.decl h) p.owned);
 }
 
-join_parts : (F : File) (a b : List ℕ) (P Q R : Declaration → Type 0) → Part F a P → Part F b Q
+join_parts : (F : Joined) (a b : List ℕ) (P Q R : Declaration → Type 0) → Part F a P → Part F b Q
     → ((d f : Declaration) → P d → Q f → d ≡ f → ⊥) → ((d : Declaration) → P d → R d) → ((d : Declaration) → Q d → R d)
     → Part F (a ++ b) R
 join_parts F a b P Q R p q apart l r = record {
@@ -93,7 +93,7 @@ join_parts F a b P Q R p q apart l r = record {
 
 -- ---- the values of an enum, the fields of a message
 
-record Found (F : File) (D : ℕ → Declaration) {X : Type 0} (xs : List X) (name : X → List ℕ) (own n : List ℕ)
+record Found (F : Joined) (D : ℕ → Declaration) {X : Type 0} (xs : List X) (name : X → List ℕ) (own n : List ℕ)
     : Type 0 where
   at : ℕ
   item : X
@@ -110,7 +110,7 @@ record Owned (D : ℕ → Declaration) {X : Type 0} (xs : List X) (name : X → 
   here : slice_get xs at ≡ Some item
   among : Contains names (name item)
 
-items_part : (F : File) (D : ℕ → Declaration) {X W : Type 0} (xs : List X) (name : X → List ℕ) (wname wline : W → List ℕ)
+items_part : (F : Joined) (D : ℕ → Declaration) {X W : Type 0} (xs : List X) (name : X → List ℕ) (wname wline : W → List ℕ)
     (ws : List W) → ((i j : ℕ) → D i ≡ D j → i ≡ j) → AreDistinct (map wname ws)
     → ((w : W) → Contains ws w → Found F D xs name (wline w) (wname w))
     → Part F (flat_map wline ws) (Owned D xs name (map wname ws))
@@ -163,7 +163,7 @@ IsAtOne c is d = (class d ≡ c) × Contains is (place d)
 
 -- ---- enums
 
-value_entry : (F : File) (p : Plan) (i : ℕ) (e : EnumDecl) (v : ValueDecl) (j : ℕ) (w : ℤ × List ℕ)
+value_entry : (F : Joined) (p : Plan) (i : ℕ) (e : EnumDecl) (v : ValueDecl) (j : ℕ) (w : ℤ × List ℕ)
     → slice_get F.enums i ≡ Some e → slice_get e.values j ≡ Some v → FitsSigned w32 w.0 → IsValueOf v w
     → IsEntry F (record { decl = value_decl i j; span = v.name.span; line = value_line w })
 value_entry F p i e v j w at here fits is =
@@ -182,7 +182,7 @@ same_value i j k e = cc
 not_enum_value : (i j k : ℕ) → enum_decl i ≡ value_decl j k → ⊥
 not_enum_value i j k e = cc
 
-enum_part : (F : File) (p : Plan) (i : ℕ) (c : Choices) → IsEnumAt F p i c → i < length F.enums
+enum_part : (F : Joined) (p : Plan) (i : ℕ) (c : Choices) → IsEnumAt F p i c → i < length F.enums
     → Part F (enum_lines c) (IsAt 1 i)
 enum_part F p i c h l =
     let x = some_at F.enums i l in
@@ -213,7 +213,7 @@ enum_part F p i c h l =
     values (λ d o s. not_enum_value i i o.at (s ∙ o.is)) (refl, refl)
     (λ d o. (ap class o.is, ap place o.is))
 
-enums_part : (F : File) (p : Plan) (is : List ℕ) (cs : List Choices) → AreThoseInOrder (IsEnumAt F p) is cs
+enums_part : (F : Joined) (p : Plan) (is : List ℕ) (cs : List Choices) → AreThoseInOrder (IsEnumAt F p) is cs
     → AreDistinct is → All (λ i. i < length F.enums) is → Part F (flat_map enum_lines cs) (IsAtOne 1 is)
 enums_part F p is cs none distinct within = no_part F (IsAtOne 1 [])
 enums_part F p is cs (next {x = i} {y = c} {xs} {ys} r rest) distinct within =
@@ -251,7 +251,7 @@ form_alike T ns files scope f label word (single w text im pk is typ) =
 form_alike T ns files scope f label word (a_map key value k text im pk is plain alone_here s keyed typ) =
     ap (λ (t : List ℕ). codes "map:" ++ t) (scalar_text T k s.is_one)
 
-field_entry : (F : File) (T : Table) (i : ℕ) (m : MessageDecl) (scope : List (List ℕ)) (t : Message) (f : FieldDecl)
+field_entry : (F : Joined) (T : Table) (i : ℕ) (m : MessageDecl) (scope : List (List ℕ)) (t : Message) (f : FieldDecl)
     (g : Field) (j : ℕ) → slice_get F.messages i ≡ Some m → IsScope F (Some i) scope → slice_get m.fields j ≡ Some f
     → IsFieldOf T (alone F) scope m t f g → IsFieldNumber g.number
     → IsEntry F (record { decl = field_decl i j; span = f.name.span; line = field_line T t.oneofs g })
@@ -285,7 +285,7 @@ same_field i j k e = cc
 not_message_field : (i j k : ℕ) → message_decl i ≡ field_decl j k → ⊥
 not_message_field i j k e = cc
 
-message_part : (F : File) (p : Plan) (T : Table) (i : ℕ) (t : Message) → HasNames p T → IsMessageAt F p i t
+message_part : (F : Joined) (p : Plan) (T : Table) (i : ℕ) (t : Message) → HasNames p T → IsMessageAt F p i t
     → i < length F.messages → Part F (message_lines T t) (IsAt 2 i)
 message_part F p T i t has h l =
     let x = some_at F.messages i l in
@@ -319,7 +319,7 @@ message_part F p T i t has h l =
     fields (λ d o s. not_message_field i i o.at (s ∙ o.is)) (refl, refl)
     (λ d o. (ap class o.is, ap place o.is))
 
-messages_part : (F : File) (p : Plan) (T : Table) (is : List ℕ) (ts : List Message) → HasNames p T
+messages_part : (F : Joined) (p : Plan) (T : Table) (is : List ℕ) (ts : List Message) → HasNames p T
     → AreThoseInOrder (IsMessageAt F p) is ts → AreDistinct is → All (λ i. i < length F.messages) is
     → Part F (flat_map (message_lines T) ts) (IsAtOne 2 is)
 messages_part F p T is ts has none distinct within = no_part F (IsAtOne 2 [])
@@ -333,7 +333,7 @@ messages_part F p T is ts has (next {x = i} {y = t} {xs} {ys} r rest) distinct w
 
 -- ---- methods
 
-record IsRpcFrom (F : File) (n : ℕ) (d : Declaration) : Type 0 where
+record IsRpcFrom (F : Joined) (n : ℕ) (d : Declaration) : Type 0 where
   index : ℕ
   from : n ≤ index
   service : ServiceDecl
@@ -341,7 +341,7 @@ record IsRpcFrom (F : File) (n : ℕ) (d : Declaration) : Type 0 where
   here : RpcHere F.services index service rpc
   is : d ≡ rpc_decl here.service here.rpc
 
-method_entry : (F : File) (T : Table) (n : ℕ) (s : ServiceDecl) (r : RpcDecl) (m : Method)
+method_entry : (F : Joined) (T : Table) (n : ℕ) (s : ServiceDecl) (r : RpcDecl) (m : Method)
     (h : RpcHere F.services n s r) → slice_get (rpcs_of F) n ≡ Some (s, r) → IsMethodIn F T (s, r) m
     → IsEntry F (record { decl = rpc_decl h.service h.rpc; span = r.name.span; line = method_line T (n, m) })
 method_entry F T n s r m h at is =
@@ -363,14 +363,14 @@ method_entry F T n s r m h at is =
       stands = Order.rpc h.service h.rpc s r h.its_service h.its_rpc (Order.rpc_name refl);
     }
 
-one_place : (F : File) (m n : ℕ) (s t : ServiceDecl) (r u : RpcDecl) (a : RpcHere F.services m s r)
+one_place : (F : Joined) (m n : ℕ) (s t : ServiceDecl) (r u : RpcDecl) (a : RpcHere F.services m s r)
     (b : RpcHere F.services n t u) → rpc_decl a.service a.rpc ≡ rpc_decl b.service b.rpc → m ≡ n
 one_place F m n s t r u a b e =
     let p = same_rpc a.service b.service a.rpc b.rpc e in
     a.is_place ∙ ap (λ (k : ℕ). length (flat_map service_rpcs (take k F.services)) + a.rpc) p.0
     ∙ ap (λ (k : ℕ). length (flat_map service_rpcs (take b.service F.services)) + k) p.1 ∙ sym b.is_place
 
-methods_part : (F : File) (T : Table) (n : ℕ) (rs : List (ServiceDecl × RpcDecl)) (ms : List Method)
+methods_part : (F : Joined) (T : Table) (n : ℕ) (rs : List (ServiceDecl × RpcDecl)) (ms : List Method)
     → AreThoseInOrder (IsMethodIn F T) rs ms
     → ((k i : ℕ) (q : ServiceDecl × RpcDecl) → i ≡ n + k → slice_get rs k ≡ Some q → slice_get (rpcs_of F) i ≡ Some q)
     → Part F (flat_map (method_line T) (enumerate_from n ms)) (IsRpcFrom F n)
@@ -404,7 +404,7 @@ order_distinct names order h =
     (λ i j d a b e. (order_all names order h).once i j (get_or order i d) (slice_get-get_or order i d a)
     (slice_get-get_or order j d b ∙ ap Some (sym e)))
 
-pub text_short : (F : File) (T : Table) → IsOrdered F → IsClean F → IsMadeTable F T → length (table_text T) ≤ MAX_TEXT
+pub text_short : (F : Joined) (T : Table) → IsOrdered F → IsClean F → IsMadeTable F T → length (table_text T) ≤ MAX_TEXT
 text_short F T ordered clean made =
     let has = has_names F T made in
     let eo : List ℕ = made.plan.enums.order.items in

@@ -47,3 +47,16 @@ impl<T: Drop> From<AllocFailed<T>> for ResolveFault {
         ResolveFault::Memory
     }
 }
+
+/// An offence as a fault.
+pub fn fault_of(offence: Offence) -> ResolveFault
+    ensures { result ≡ At offence.reason offence.span.start offence.span.end offence.span.line }
+{
+    let Offence { reason, span } = offence;
+    ResolveFault::At {
+        reason,
+        start: span.start,
+        end: span.end,
+        line: span.line,
+    }
+}

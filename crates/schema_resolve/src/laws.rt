@@ -1,26 +1,33 @@
 //! Laws of tables and of first offences.
 
-ghost use Rattle.std.specs.Prelude.{◌≡◌, ℕ, List, [], ◌∷◌};
+ghost use Rattle.std.specs.Prelude.{◌≡◌, ℕ, List};
 ghost use Rattle.mrpc_table.specs.declared.table.Table.{Table};
 ghost use Rattle.proto_schema.specs.Faults.{IsTextOf};
+ghost use Rattle.proto_file.specs.Joined.{Joined, alone};
+ghost use Rattle.proto_file.specs.Together.{IsFormed, IsOrdered};
 ghost use Rattle.proto_file.specs.declared.file.Span.{Span};
 ghost use Rattle.proto_file.specs.declared.file.File.{File};
-ghost use Rattle.schema_offences.specs.Sources.{alone};
-ghost use Rattle.schema_offences.specs.Offences.{HasOffence};
+ghost use Rattle.schema_offences.specs.Offences.{HasOffence, HasFirst};
 ghost use Rattle.schema_resolve.specs.Tables.{IsTableOf};
-ghost use Rattle.schema_resolve.specs.Resolving.{Resolves};
+ghost use Rattle.schema_resolve.specs.Resolving.{Resolves, ResolvesTogether};
 ghost use Rattle.schema_offences.specs.declared.reason.ResolveReason.{ResolveReason};
 
 use crate::same_text::one_table_text;
 use proto_schema::file_is_ordered;
 use table_text::one_text;
 
-/// A file that was read has one table at most: two tables that say what it says are equal.
-pub fn one_table()
-    ensures { (text : List ℕ) (F : File) (T U : Table) → IsTextOf text F → IsTableOf (alone F ∷ []) T
-        → IsTableOf (alone F ∷ []) U → T ≡ U }
+/// A file that was read is well formed and in order, as one that is resolved alone.
+pub fn alone_is_ordered()
+    ensures formed { (text : List ℕ) (F : File) → IsTextOf text F → IsFormed (alone F) }
+    ensures ordered { (text : List ℕ) (F : File) → IsTextOf text F → IsOrdered (alone F) }
 {
     file_is_ordered();
+}
+
+/// Files in order have one table at most: two tables that say what they say are equal.
+pub fn one_table()
+    ensures { (F : Joined) (T U : Table) → IsOrdered F → IsTableOf F T → IsTableOf F U → T ≡ U }
+{
     one_table_text();
     one_text();
 }
@@ -34,7 +41,9 @@ pub fn one_offence()
     schema_offences::one_offence();
 }
 
-/// No file has both a table and a first offence.
+/// No file has both a table and a first offence, nor have files that are resolved together.
 pub fn table_or_offence()
     ensures not_both { (F : File) (T : Table) (q : ResolveReason) (s : Span) → Resolves F T → HasOffence F q s → ⊥ }
+    ensures not_both_of_all { (F : Joined) (T : Table) (q : ResolveReason) (s : Span) → ResolvesTogether F T
+        → HasFirst F q s → ⊥ }
 {}

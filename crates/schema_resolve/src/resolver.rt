@@ -1,19 +1,49 @@
-//! The table of a file, or its first offence.
+//! The table of a file alone, or its first offence.
 
 ghost use Rattle.std.specs.Prelude.{◌≡◌, List, ℕ, IfOk, IfErr, MatchResult};
 ghost use Rattle.mrpc_table.specs.declared.table.Table.{Table};
 ghost use Rattle.mrpc_table.specs.Valid.{IsValid};
+ghost use Rattle.proto_file.specs.Joined.{alone};
 ghost use Rattle.proto_schema.specs.Faults.{IsTextOf};
 ghost use Rattle.schema_resolve.specs.Resolving.{Resolves, IsFaultOf};
 ghost use Rattle.schema_resolve.specs.declared.fault.ResolveFault.TheVariants as faults;
 
-use crate::fault::ResolveFault;
-use crate::laws::one_table;
-use crate::resolved::resolved;
-use mrpc_table::Table;
-use proto_file::File;
+use crate::fault::{ResolveFault, fault_of};
+use crate::laws::{alone_is_ordered, one_table};
+use crate::table::table_of;
+use mrpc_table::{Memory, Sequence, Table};
+use proto_file::{File, Head, Heads, Joined, Word};
 use proto_schema::file_is_ordered;
+use schema_names::Scopes;
+use schema_offences::{first_offence, with_import};
 use std::alloc::Global;
+
+fn package_of(alloc: Global, file: &File) -> Result<Option<Word>, Memory>
+    ensures { IfOk result (λ w. w ≡ file.now.package) }
+{
+    match &file.package {
+        Some(word) => {
+            let name = word.name.copied(alloc)?;
+            Ok(Some(Word {
+                name,
+                span: word.span,
+            }))
+        }
+        None => Ok(None),
+    }
+}
+
+// The head of a file alone, which sees itself.
+fn head_of(alloc: Global, file: &File) -> Result<Heads, Memory>
+    ensures { IfOk result (λ heads. heads ≡ (alone file.now).heads) }
+{
+    let mut sees = Sequence::new(alloc);
+    sees.push(0)?;
+    let package = package_of(alloc, file)?;
+    let mut heads = Sequence::new(alloc);
+    heads.push(Head { package, sees })?;
+    Ok(heads)
+}
 
 /// The table of a file that was read, or the offence that starts first: of several at one place, the first one in the
 /// list of [`ResolveReason`]. Without memory it answers `Memory`.
@@ -34,6 +64,19 @@ pub fn resolve(alloc: Global, file: &File) -> Result<Table, ResolveFault>
     ensures offence { IfErr result (λ e. IsFaultOf file.now e) }
 {
     file_is_ordered();
+    alone_is_ordered();
     one_table();
-    resolved(alloc, file)
+    let heads = head_of(alloc, file)?;
+    let files = Joined::new(
+        heads.as_slice(),
+        file.messages.as_slice(),
+        file.enums.as_slice(),
+        file.services.as_slice(),
+    );
+    let scopes = Scopes::new(alloc, &files)?;
+    let found = first_offence(alloc, &files, &scopes)?;
+    match with_import(file, found) {
+        Some(offence) => Err(fault_of(offence)),
+        None => Ok(table_of(alloc, &files, &scopes)?),
+    }
 }

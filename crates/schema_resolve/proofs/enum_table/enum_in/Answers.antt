@@ -14,21 +14,21 @@ use Rattle.schema_resolve.proofs.enum_table.enum_in.Goals as goal
 
 pub sorted-requires-clause-fits : goal.sorted-requires-clause-fits
 sorted-requires-clause-fits c =
-    let F = c.args.file.now in
+    let F = c.args.files.now in
     let at = item_at c.as_slice.result.now F.enums c.args.place c.index-as_slice-place.result c.as_slice.ensures c.requires.within c.index-as_slice-place.is in
     let P : List ValueDecl → Type 0 = λ vs. All (λ (v : ValueDecl). FitsSigned w32 (value_of v.number)) vs in
     subst P (sym c.as_slice-2.ensures) (values_fit F c.args.place c.index-as_slice-place.result c.requires.clean at)
 
 pub sorted-requires-clause-distinct : goal.sorted-requires-clause-distinct
 sorted-requires-clause-distinct c =
-    let F = c.args.file.now in
+    let F = c.args.files.now in
     let at = item_at c.as_slice.result.now F.enums c.args.place c.index-as_slice-place.result c.as_slice.ensures c.requires.within c.index-as_slice-place.is in
     let P : List ValueDecl → Type 0 = λ vs. AreDistinct (map (λ (v : ValueDecl). v.name.name) vs) in
     subst P (sym c.as_slice-2.ensures) (values_distinct F c.args.place c.index-as_slice-place.result c.requires.formed c.requires.ordered c.requires.clean at)
 
 pub returns : goal.returns
 returns c =
-    let F = c.args.file.now in
+    let F = c.args.files.now in
     let e = c.index-as_slice-place.result in
     let at = item_at c.as_slice.result.now F.enums c.args.place e c.as_slice.ensures c.requires.within c.index-as_slice-place.is in
     let pairs : List (ℤ × Bor (List ℕ)) → List (ℤ × List ℕ) = λ vs. map value_pair vs in

@@ -5,7 +5,7 @@ use Rattle.schema_resolve.proofs.plan.message_names.Goals as goal
 
 pub full_name-requires : goal.full_name-requires
 full_name-requires c =
-    let F = c.args.file.now in
+    let F = c.args.files.now in
     let l : c.loop-i.i < length F.messages = omega (arith, ap length c.as_slice-decls.ensures) in
     let at = item_at c.as_slice-decls.result.now F.messages c.loop-i.i c.index-decls-i.result c.as_slice-decls.ensures l c.index-decls-i.is in
     parent_known F c.loop-i.i c.index-decls-i.result (length c.as_slice.result.now) c.requires.formed at
@@ -13,7 +13,7 @@ full_name-requires c =
 
 pub loop-i-preserved : goal.loop-i-preserved
 loop-i-preserved c =
-    let F = c.args.file.now in
+    let F = c.args.files.now in
     let l : c.loop-i.i < length F.messages = omega (arith, ap length c.as_slice-decls.ensures) in
     let at = item_at c.as_slice-decls.result.now F.messages c.loop-i.i c.index-decls-i.result c.as_slice-decls.ensures l c.index-decls-i.is in
     let m = c.index-decls-i.result in
