@@ -41,3 +41,9 @@ pub fn file_is_ordered()
     ensures formed { (text : List ℕ) (F : File) → IsTextOf text F → IsFormed F }
     ensures ordered { (text : List ℕ) (F : File) → IsTextOf text F → IsOrdered F }
 {}
+
+/// A file that was read is well formed and in order also as one that is resolved alone.
+pub fn alone_is_ordered()
+    ensures formed { (text : List ℕ) (F : File) → IsTextOf text F → Together.IsFormed (alone F) }
+    ensures ordered { (text : List ℕ) (F : File) → IsTextOf text F → Together.IsOrdered (alone F) }
+{}

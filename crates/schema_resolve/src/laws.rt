@@ -3,8 +3,8 @@
 ghost use Rattle.std.specs.Prelude.{◌≡◌, ℕ, List};
 ghost use Rattle.mrpc_table.specs.declared.table.Table.{Table};
 ghost use Rattle.proto_schema.specs.Faults.{IsTextOf};
-ghost use Rattle.proto_file.specs.Joined.{Joined, alone};
-ghost use Rattle.proto_file.specs.Together.{IsFormed, IsOrdered};
+ghost use Rattle.proto_file.specs.Joined.{Joined};
+ghost use Rattle.proto_file.specs.Together.{IsOrdered};
 ghost use Rattle.proto_file.specs.declared.file.Span.{Span};
 ghost use Rattle.proto_file.specs.declared.file.File.{File};
 ghost use Rattle.schema_offences.specs.Offences.{HasOffence, HasFirst};
@@ -13,16 +13,8 @@ ghost use Rattle.schema_resolve.specs.Resolving.{Resolves, ResolvesTogether};
 ghost use Rattle.schema_offences.specs.declared.reason.ResolveReason.{ResolveReason};
 
 use crate::same_text::one_table_text;
-use proto_schema::file_is_ordered;
+use proto_schema::alone_is_ordered;
 use table_text::one_text;
-
-/// A file that was read is well formed and in order, as one that is resolved alone.
-pub fn alone_is_ordered()
-    ensures formed { (text : List ℕ) (F : File) → IsTextOf text F → IsFormed (alone F) }
-    ensures ordered { (text : List ℕ) (F : File) → IsTextOf text F → IsOrdered (alone F) }
-{
-    file_is_ordered();
-}
 
 /// Files in order have one table at most: two tables that say what they say are equal.
 pub fn one_table()
@@ -37,7 +29,7 @@ pub fn one_offence()
     ensures { (text : List ℕ) (F : File) (q r : ResolveReason) (s t : Span) → IsTextOf text F → HasOffence F q s
         → HasOffence F r t → (q ≡ r) × (s ≡ t) }
 {
-    file_is_ordered();
+    alone_is_ordered();
     schema_offences::one_offence();
 }
 

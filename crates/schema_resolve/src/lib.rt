@@ -21,6 +21,6 @@ mod same_text;
 mod table;
 
 pub use fault::ResolveFault;
-pub use laws::{alone_is_ordered, one_offence, one_table, table_or_offence};
+pub use laws::{one_offence, one_table, table_or_offence};
 pub use resolved::resolve_together;
 pub use resolver::resolve;

@@ -9,11 +9,11 @@ ghost use Rattle.schema_resolve.specs.Resolving.{Resolves, IsFaultOf};
 ghost use Rattle.schema_resolve.specs.declared.fault.ResolveFault.TheVariants as faults;
 
 use crate::fault::{ResolveFault, fault_of};
-use crate::laws::{alone_is_ordered, one_table};
+use crate::laws::one_table;
 use crate::table::table_of;
 use mrpc_table::{Memory, Sequence, Table};
 use proto_file::{File, Head, Heads, Joined, Word};
-use proto_schema::file_is_ordered;
+use proto_schema::alone_is_ordered;
 use schema_names::Scopes;
 use schema_offences::{first_offence, with_import};
 use std::alloc::Global;
@@ -63,7 +63,6 @@ pub fn resolve(alloc: Global, file: &File) -> Result<Table, ResolveFault>
     // An offence is the file's first one.
     ensures offence { IfErr result (λ e. IsFaultOf file.now e) }
 {
-    file_is_ordered();
     alone_is_ordered();
     one_table();
     let heads = head_of(alloc, file)?;
