@@ -2,3 +2,4 @@ pub mod Dot
 pub mod Joined
 pub mod Order
 pub mod Together
+pub mod Within
