@@ -43,6 +43,7 @@ small_says = record {
   imports = [];
   messages = record {
     name = word_at (codes "M") (here 5);
+    file = 0;
     parent = None;
     fields = record { name = word_at (codes "a") (here 8); number = number_at false (Small 1) (here 10); kind = Named (word_at (codes "uint64") (here 7)); label = Plain; oneof = None; packed = None } ∷ [];
     oneofs = [];
@@ -79,7 +80,7 @@ small_number = Order.field 0 0 _ _ refl refl (Order.field_number refl)
 
 -- no file has a message that stands before an earlier one
 abbrev message_at : ℕ → MessageDecl
-message_at n = record { name = word_at (codes "M") (here n); parent = None; fields = []; oneofs = []; ranges = []; names = [] }
+message_at n = record { name = word_at (codes "M") (here n); file = 0; parent = None; fields = []; oneofs = []; ranges = []; names = [] }
 
 abbrev of_messages : List MessageDecl → File
 of_messages ms = record { «package» = None; imports = []; messages = ms; enums = []; services = [] }
