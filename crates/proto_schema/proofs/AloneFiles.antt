@@ -1,6 +1,6 @@
 -- A file that was read, as one that is resolved alone: each of its declarations is of the file at place 0, and what
 -- `Order` says of it, `Together` says of it too.
-use Rattle.std.proofs.Common.{◌≡◌, inl, inr, ℕ, zero, suc, ◌<◌, List, [], ◌∷◌, ◌++◌, length, refl, ap, subst, sym, ◌∙◌, arith}
+use Rattle.std.proofs.Common.{◌≡◌, inl, inr, ℕ, zero, suc, ◌<◌, List, [], ◌∷◌, ◌++◌, refl, ap, subst, sym, ◌∙◌, arith}
 use Rattle.std.specs.Prelude.{Option, Some, slice_get, Contains}
 use Rattle.std.proofs.lemmas.Option.{slice_get-get_or}
 use Rattle.proto_schema.specs.Lexemes.{Lexeme}
@@ -256,8 +256,8 @@ of_zero F z (Together.in_rpc_of i j s e q) h = sym q ∙ z.services i s e
 ordered_alone : (F : File) → IsAtZero F → Order.IsOrdered F → Together.IsOrdered (alone F)
 ordered_alone F z o = record {
   apart = λ x y p q s t h g e.
-    let (a, b, c) = o.apart (by_itself x) (by_itself y) p q s t (stands h) (stands g) e in
-    (sym (there_and_back F x h) ∙ (ap back a ∙ there_and_back F y g), b, c);
+      let (a, b, c) = o.apart (by_itself x) (by_itself y) p q s t (stands h) (stands g) e in
+      (sym (there_and_back F x h) ∙ (ap back a ∙ there_and_back F y g), b, c);
   ascend = λ x y p q s t l h g. o.ascend (by_itself x) (by_itself y) p q s t (precedes l) (stands h) (stands g);
   parts = λ x p q s t l h g. o.parts (by_itself x) p q s t l (stands h) (stands g);
   enum_behind = o.enum_behind;

@@ -1,6 +1,6 @@
 -- A package, an import, a message, an enum or a service that is declared behind all others keeps the order, and so does a
 -- change that declares nothing.
-use Rattle.std.proofs.Common.{◌≡◌, ◌⊎◌, inl, inr, ℕ, zero, suc, ◌+◌, ◌-◌, ◌<◌, ◌≤◌, Bool, List, [], ◌∷◌, ◌++◌, length, refl, ap, subst, sym, ◌∙◌, arith}
+use Rattle.std.proofs.Common.{◌≡◌, ◌⊎◌, inl, inr, ℕ, zero, suc, ◌-◌, ◌<◌, ◌≤◌, List, [], ◌∷◌, ◌++◌, length, refl, ap, subst, sym, ◌∙◌, arith}
 use Rattle.std.specs.Prelude.{Option, Some, None, slice_get}
 use Rattle.std.proofs.lemmas.Bool.{cases_lt}
 use Rattle.std.proofs.lemmas.Option.{slice_get_within}
@@ -15,7 +15,7 @@ use Rattle.proto_file.specs.declared.file.Import.{Import}
 use Rattle.proto_file.specs.declared.file.FieldDecl.{FieldDecl}
 use Rattle.proto_file.specs.declared.file.ValueDecl.{ValueDecl}
 use Rattle.proto_file.specs.declared.file.ServiceDecl.{ServiceDecl}
-use Rattle.proto_schema.specs.Files.{edit, edit_at, edit_last, field}
+use Rattle.proto_schema.specs.Files.{edit, edit_at, edit_last}
 use Rattle.proto_file.specs.Order.{IsPlaceBelow}
 use Rattle.proto_schema.proofs.Drafts.{edit_beyond}
 use Rattle.proto_schema.proofs.Places.{nothing_at, in_pushed, changed, kept, in_edited_at, in_edited_last}
