@@ -39,3 +39,4 @@ mod KeptOrder
 mod Declares
 mod Members
 mod Ordered
+mod AloneFiles

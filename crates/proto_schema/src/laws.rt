@@ -2,7 +2,9 @@
 
 ghost use Rattle.std.specs.Prelude.{◌≡◌, ◌⊎◌, ℕ, List};
 ghost use Rattle.proto_schema.specs.Faults.{IsTextOf, HasFault};
+ghost use Rattle.proto_file.specs.Joined.{alone};
 ghost use Rattle.proto_file.specs.Order.{IsFormed, IsOrdered};
+ghost use Rattle.proto_file.specs.Together as Together;
 ghost use Rattle.proto_file.specs.declared.file.File.{File};
 ghost use Rattle.proto_file.specs.declared.file.Span.{Span};
 ghost use Rattle.proto_schema.specs.declared.fault.ProtoReason.{ProtoReason};
