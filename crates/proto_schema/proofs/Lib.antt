@@ -40,3 +40,4 @@ mod Declares
 mod Members
 mod Ordered
 mod AloneFiles
+mod Insides

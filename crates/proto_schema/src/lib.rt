@@ -26,5 +26,7 @@ mod tail;
 mod value;
 
 pub use fault::{ProtoFault, ProtoReason};
-pub use laws::{alone_is_ordered, file_is_ordered, file_is_within, file_or_fault, one_fault, one_file};
+pub use laws::{
+    alone_is_ordered, file_is_ordered, file_is_within, file_or_fault, one_fault, one_file,
+};
 pub use read::read_proto;
