@@ -1,5 +1,5 @@
--- What a text says stands in it: each of its tokens but the last starts before the text's end and ends there at the latest,
--- and each name and number of the file starts where one of them starts and ends where one ends.
+-- What a text says stands in it: each of its tokens but the last starts before the text's end and ends there at the
+-- latest, and each name and number of the file starts where one of them starts, and ends where one ends.
 use Rattle.std.proofs.Common.{◌≡◌, ℕ, zero, suc, ◌<◌, ◌≤◌, Bool, true, false, List, [], ◌∷◌, ◌++◌, length, ap, subst, sym, ◌∙◌, arith}
 use Rattle.std.specs.Prelude.{Option, Some, None, All}
 use Rattle.std.proofs.lemmas.List.Elements.{All-nil, All-cons, All-head, All-tail, All-append, All-push}
