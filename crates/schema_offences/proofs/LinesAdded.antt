@@ -6,7 +6,9 @@ use Rattle.std.proofs.lemmas.List.{append-nil}
 use Rattle.std.proofs.lemmas.List.Elements.{Contains-append_left, Contains-push, Contains-push_cases}
 use Rattle.std.proofs.lemmas.Option.{same_Some, slice_get_within}
 use Rattle.proto_file.specs.Order
-use Rattle.proto_file.specs.Order.{Declaration, message_decl, field_decl, enum_decl, value_decl, rpc_decl, its_name, IsOrdered, StandsAt}
+use Rattle.proto_file.specs.Together
+use Rattle.proto_file.specs.Order.{its_name}
+use Rattle.proto_file.specs.Together.{Declaration, message_decl, field_decl, enum_decl, value_decl, rpc_decl, IsOrdered, StandsAt}
 use Rattle.proto_file.specs.declared.file.Span.{Span}
 use Rattle.proto_file.specs.declared.file.MessageDecl.{MessageDecl}
 use Rattle.proto_file.specs.declared.file.EnumDecl.{EnumDecl}
@@ -61,12 +63,12 @@ same_decl F d e s text own at c p q =
 
 -- the name of a line stands in the text
 pub line_stands : (F : Joined) (d : Declaration) (s : Span) (text : List ℕ) → LineAt F d s text → StandsAt F s d its_name
-line_stands F d s text (Lengths.of_message i m at is) = Order.message i m at refl
+line_stands F d s text (Lengths.of_message i m at is) = Together.message i m at refl
 line_stands F d s text (Lengths.of_field i j m f n at fat is e k form) =
-    Order.field i j m f at fat (Order.field_name refl)
-line_stands F d s text (Lengths.of_enum i e at is) = Order.enum i e at refl
-line_stands F d s text (Lengths.of_value i j e v at vat fits) = Order.value i j e v at vat (Order.value_name refl)
-line_stands F d s text (Lengths.of_method i j n x r at rat e a b) = Order.rpc i j x r at rat (Order.rpc_name refl)
+    Together.field i j m f at fat (Order.field_name refl)
+line_stands F d s text (Lengths.of_enum i e at is) = Together.enum i e at refl
+line_stands F d s text (Lengths.of_value i j e v at vat fits) = Together.value i j e v at vat (Order.value_name refl)
+line_stands F d s text (Lengths.of_method i j n x r at rat e a b) = Together.rpc i j x r at rat (Order.rpc_name refl)
 
 -- ---- the order
 

@@ -1,6 +1,6 @@
 -- The names that files declare, each with the number of its scope. The methods of a service stand in a scope of their
 -- own here, whose number is behind those of all scopes.
-use Rattle.std.specs.Prelude.{◌≡◌, ◌⊎◌, ◌↔◌, ℕ, ◌+◌, ◌<◌, List, [], ◌∷◌, ◌++◌, map, length, Option, Some, None, slice_get, Contains}
+use Rattle.std.specs.Prelude.{◌≡◌, ◌⊎◌, ◌↔◌, ℕ, ◌+◌, ◌<◌, List, [], ◌∷◌, ◌++◌, map, length, Option, Some, slice_get, Contains}
 use Rattle.std.specs.Ordering.{nat_cmp, ordering_then}
 use Rattle.std.specs.Cmp.Lexicographic.{slice_cmp}
 use Rattle.std.specs.BTreeMap.{get_by}
@@ -16,7 +16,7 @@ use Rattle.proto_file.specs.Joined.{Joined, home_of, enum_home_of}
 use Rattle.proto_file.specs.declared.joined.Home.{Home}
 use Rattle.proto_file.specs.declared.joined.Home.TheVariants as home
 use Rattle.schema_names.specs.Scopes.{IsScope, IsFront}
-use Rattle.schema_names.specs.Numbers.{IsPlace, IsNumber, scope_count}
+use Rattle.schema_names.specs.Numbers.{IsNumber, scope_count}
 use Rattle.schema_offences.specs.Members.{Is}
 use Rattle.schema_offences.specs.declared.reason.ResolveReason.{ResolveReason}
 use Rattle.schema_offences.specs.declared.reason.ResolveReason.TheVariants.{DuplicateName}
@@ -46,13 +46,20 @@ pub record HasNumber (F : Joined) (place : Home) (k : ℕ) : Type 0 where
   pub is_scope : IsScope F place full
   pub number : IsNumber F full k
 
-abbrev pub HasNumbers : Joined → Type 0
-HasNumbers F = (place : Home) → IsPlace F place → (k : ℕ) × HasNumber F place k
+-- what each of the first n things of a list stands in has a scope with a number
+abbrev pub HaveNumbers : {X : Type 0} → Joined → ℕ → List X → (X → Home) → Type 0
+HaveNumbers {X} F n xs stands_in =
+    (i : ℕ) (x : X) → i < n → slice_get xs i ≡ Some x → (k : ℕ) × HasNumber F (stands_in x) k
+
+-- the scopes of the first n messages have numbers
+abbrev pub HaveOwnNumbers : Joined → ℕ → Type 0
+HaveOwnNumbers F n = (i : ℕ) → i < n → (k : ℕ) × HasNumber F (home.Message i) k
 
 -- a message, and what stands in it
 pub data OfMessage (F : Joined) (i : ℕ) (m : MessageDecl) : Entry → Type 0 where
   message : (k : ℕ) → HasNumber F (home_of m) k → OfMessage F i m (entry k m.name)
-  field : (k : ℕ) (f : FieldDecl) → HasNumber F (home.Message i) k → Contains m.fields f → OfMessage F i m (entry k f.name)
+  field : (k : ℕ) (f : FieldDecl) → HasNumber F (home.Message i) k → Contains m.fields f
+      → OfMessage F i m (entry k f.name)
   oneof : (k : ℕ) (o : Word) → HasNumber F (home.Message i) k → Contains m.oneofs o → OfMessage F i m (entry k o)
 
 -- an enum, and its values beside it
@@ -109,7 +116,7 @@ AreStarts es s = (scope : ℕ) (name : List ℕ) (place : ℕ)
 abbrev pub IsLater : List Entry → ℕ → Entry → ResolveReason → Span → Type 0
 IsLater es i e q s = StartsBefore es e.scope e.name e.span.start × Is DuplicateName e.span q s
 
--- a type of this name in this scope is a package, too, or a front of one
+-- what has this name in this scope is a package, too, or a front of one
 pub record IsPackageNamed (F : Joined) (place : Home) (w : Word) (q : ResolveReason) (s : Span) : Type 0 where
   pub scope : List (List ℕ)
   pub is_scope : IsScope F place scope

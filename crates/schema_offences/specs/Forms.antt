@@ -1,5 +1,5 @@
 -- Types and forms of fields as the resolver keeps them: a named type by its place.
-use Rattle.std.specs.Prelude.{◌≡◌, ℕ, Bool, true, false, List, [], ◌∷◌, ◌++◌, codes}
+use Rattle.std.specs.Prelude.{◌≡◌, ℕ, Bool, true, false, List, ◌++◌, codes}
 use Rattle.mrpc_table.specs.Words.{is_numeric, is_key}
 use Rattle.mrpc_table.specs.Text.{kind_text}
 use Rattle.proto_file.specs.declared.file.Span.{Span}

@@ -19,7 +19,6 @@ use Rattle.proto_file.specs.declared.file.EnumDecl.{EnumDecl}
 use Rattle.proto_file.specs.declared.file.RpcDecl.{RpcDecl}
 use Rattle.proto_file.specs.declared.file.ServiceDecl.{ServiceDecl}
 use Rattle.proto_file.specs.Joined.{Joined, home_of, enum_home_of, package_parts, package_at}
-use Rattle.proto_file.specs.declared.joined.Head.{Head}
 use Rattle.proto_file.specs.declared.joined.Home.{Home}
 use Rattle.proto_file.specs.declared.joined.Home.TheVariants as home
 use Rattle.schema_names.specs.Scopes.{a_message, text_of, IsScope, Names}

@@ -1,12 +1,11 @@
 -- What the search for the first offence keeps of the offences that it meets.
-use Rattle.std.specs.Prelude.{◌≡◌, ◌⊎◌, ℕ, ◌<◌, ◌==◌, nat_lt, Bool, true, false, ◌&&◌, ◌||◌, if◌then◌else◌, List, [], ◌∷◌, Option, Some, None, slice_get}
+use Rattle.std.specs.Prelude.{◌≡◌, ◌⊎◌, ℕ, ◌<◌, ◌==◌, nat_lt, Bool, true, false, ◌&&◌, ◌||◌, if◌then◌else◌, List, Option, Some, None, slice_get}
 use Rattle.std.specs.Option.{is_some}
 use Rattle.std.specs.Ordering.{nat_cmp}
 use Rattle.std.specs.BTreeMap.{BTreeMap, get_by}
 use Rattle.proto_file.specs.declared.file.Span.{Span}
 use Rattle.mrpc_table.specs.Names.{is_short_full}
 use Rattle.proto_file.specs.declared.file.Word.{Word}
-use Rattle.proto_file.specs.declared.file.Import.{Import}
 use Rattle.proto_file.specs.declared.file.MessageDecl.{MessageDecl}
 use Rattle.proto_file.specs.declared.file.RpcDecl.{RpcDecl}
 use Rattle.proto_file.specs.declared.file.ServiceDecl.{ServiceDecl}
@@ -17,9 +16,9 @@ use Rattle.proto_file.specs.Joined.{Joined, package_at}
 use Rattle.schema_names.specs.Scopes.{IsScope}
 use Rattle.schema_offences.specs.Members.{Is, IsLong, IsNoMessage, MessageOffends, MethodOffends}
 use Rattle.schema_offences.specs.Lines.{PassesAt}
-use Rattle.schema_offences.specs.Offences.{Offends, IsTwice, IsLongInFull, IsOffence, HasOffence, ComesFirst, rank_of}
+use Rattle.schema_offences.specs.Offences.{Offends, IsTwice, IsLongInFull, IsOffence, HasFirst, HasOffence, ComesFirst, rank_of}
 use Rattle.schema_offences.specs.declared.reason.ResolveReason.{ResolveReason}
-use Rattle.schema_offences.specs.declared.reason.ResolveReason.TheVariants.{UnknownName, DuplicateName, Limit, Import as HasImport}
+use Rattle.schema_offences.specs.declared.reason.ResolveReason.TheVariants.{UnknownName, DuplicateName, Limit}
 use Rattle.schema_offences.specs.declared.first.Offence.{Offence}
 use Rattle.schema_offences.specs.declared.first.First.{First}
 

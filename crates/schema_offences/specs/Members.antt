@@ -136,6 +136,7 @@ pub data MethodOffends (F : Joined) (file : ℕ) (scope : List (List ℕ)) (n : 
     (s : Span) : Type 0 where
   too_many_methods : MAX_METHODS ≤ n → Is Limit r.name.span q s → MethodOffends F file scope n r q s
   long_method : IsLong r.name q s → MethodOffends F file scope n r q s
-  no_input : IsNoMessage F file scope r.input.name → Is UnknownName r.input.span q s → MethodOffends F file scope n r q s
+  no_input : IsNoMessage F file scope r.input.name → Is UnknownName r.input.span q s
+      → MethodOffends F file scope n r q s
   no_output : IsNoMessage F file scope r.output.name → Is UnknownName r.output.span q s
       → MethodOffends F file scope n r q s

@@ -1,7 +1,6 @@
 -- What stands against files, and where (Protocol Buffers, proto3 language guide; the limits, and which name or number
 -- each offence stands at, are this project's own). Of several the first one counts.
-use Rattle.std.specs.Prelude.{◌≡◌, ◌⊎◌, ℕ, ◌+◌, ◌<◌, ◌≤◌, true, false, List, [], ◌∷◌, ◌++◌, length, Some, slice_get, Contains}
-use Rattle.std.specs.List.{flat_map}
+use Rattle.std.specs.Prelude.{◌≡◌, ◌⊎◌, ℕ, ◌<◌, ◌≤◌, true, false, List, [], ◌∷◌, ◌++◌, length, Some, slice_get, Contains}
 use Rattle.mrpc_table.specs.Names.{is_short_full}
 use Rattle.mrpc_table.specs.declared.limits.TheConstants.{MAX_FULL_NAME}
 use Rattle.proto_file.specs.declared.file.Word.{Word}
@@ -24,13 +23,15 @@ use Rattle.schema_offences.specs.declared.reason.ResolveReason.TheVariants.{Unkn
 
 -- ---- full names
 
--- what files declare twice, or what is a type and a package too, or a front of one
+-- what files declare twice, or what is a type or a service, and a package too, or a front of one
 pub data IsTwice (F : Joined) (span : Span) : Type 0 where
   -- two things of one scope, at the later one
   declared : (j k : ℕ) (a b : Sort) (full : List (List ℕ)) (earlier : Span) → Declares F j a full earlier
       → Declares F k b full span → earlier.start < span.start → IsTwice F span
   a_package : (k : ℕ) (sort : Sort) (full : List (List ℕ)) → Declares F k sort full span → is_type sort ≡ true
       → IsFront F full → IsTwice F span
+  a_service_package : (s : ServiceDecl) → Contains F.services s
+      → IsFront F (package_at F s.file ++ s.name.name ∷ []) → span ≡ s.name.span → IsTwice F span
 
 -- a message, enum or service whose full name has more than 255 bytes
 pub data IsLongInFull (F : Joined) (span : Span) : Type 0 where

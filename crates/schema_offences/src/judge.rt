@@ -41,7 +41,7 @@ pub fn first_offence<'a>(
     Ok(first.found)
 }
 
-/// The first offence of a file alone, of which all offences but an import are known: where it has imports, the first one
+/// The first offence of a file alone, whose first offence but for imports was found: where it has imports, the first one
 /// stands against it, too.
 pub fn with_import(file: &File, found: Option<Offence>) -> Option<Offence>
     requires { FirstIs (alone file.now) found }

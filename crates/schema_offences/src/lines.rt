@@ -44,8 +44,10 @@ fn package_front(declared: &Option<Word>) -> usize
     }
 }
 
+// The same for each file.
 fn package_fronts(alloc: Global, heads: &[Head]) -> Result<Vec<usize>, Memory>
-    ensures { IfOk result (λ v. v.items ≡ map (λ h. at_most_64_bits (front_length (package_parts h.package))) heads.now) }
+    ensures { IfOk result (λ v.
+        v.items ≡ map (λ h. at_most_64_bits (front_length (package_parts h.package))) heads.now) }
 {
     let mut fronts = Vec::with_capacity(alloc, heads.len())?;
     for head in heads {
@@ -55,7 +57,7 @@ fn package_fronts(alloc: Global, heads: &[Head]) -> Result<Vec<usize>, Memory>
 }
 
 impl Lengths {
-    /// The lengths of the full names of a file's messages and enums.
+    /// The lengths of the full names of messages and enums.
     pub fn new(alloc: Global, files: &Joined<'_>) -> Result<Lengths, Memory>
         requires { IsFormed files.now }
         ensures { IfOk result (AreLengths files.now) }
@@ -259,6 +261,7 @@ fn field_length<'a>(
 ) -> Option<usize>
     requires lengths { AreLengths scopes.now lengths.now }
     requires place { slice_get scopes.now.messages i ≡ Some message.now }
+    requires file { message.now.file < length scopes.now.heads }
     requires scope { (scope : List (List ℕ)) × IsScope scopes.now (home.Message i) scope }
     ensures { (j : ℕ) → slice_get message.now.fields j ≡ Some field.now
         → IsLengthAt scopes.now (field_decl i j) field.now.name.span result }
@@ -284,6 +287,7 @@ fn method_length<'a>(
 ) -> Option<usize>
     requires ordered { IsOrdered scopes.now }
     requires lengths { AreLengths scopes.now lengths.now }
+    requires file { service.now.file < length scopes.now.heads }
     ensures { (i j : ℕ) → slice_get scopes.now.services i ≡ Some service.now
         → slice_get service.now.rpcs j ≡ Some rpc.now → index ≡ rpcs_before scopes.now i + j
         → IsLengthAt scopes.now (rpc_decl i j) rpc.now.name.span result }
@@ -319,6 +323,7 @@ fn add_fields<'a>(
     i: usize,
     lines: &mut Lines,
 ) -> Result<(), Memory>
+    requires formed { IsFormed files.now }
     requires ordered { IsOrdered files.now }
     requires scopes { scopes.now ≡ files.now }
     requires lengths { AreLengths files.now lengths.now }
@@ -404,6 +409,7 @@ fn add_rpcs<'a>(
     before: u128,
     lines: &mut Lines,
 ) -> Result<(), Memory>
+    requires formed { IsFormed files.now }
     requires ordered { IsOrdered files.now }
     requires scopes { scopes.now ≡ files.now }
     requires lengths { AreLengths files.now lengths.now }
@@ -429,6 +435,7 @@ fn add_methods<'a>(
     lengths: &Lengths,
     lines: &mut Lines,
 ) -> Result<(), Memory>
+    requires formed { IsFormed files.now }
     requires ordered { IsOrdered files.now }
     requires scopes { scopes.now ≡ files.now }
     requires lengths { AreLengths files.now lengths.now }

@@ -37,13 +37,7 @@ fn note_type<'a>(
     first.note_if(unknown, ResolveReason::UnknownName, word.span);
 }
 
-fn note_key<'a>(
-    scopes: &Scopes<'a>,
-    file: usize,
-    message: usize,
-    key: &'a Word,
-    first: &mut First,
-)
+fn note_key<'a>(scopes: &Scopes<'a>, file: usize, message: usize, key: &'a Word, first: &mut First)
     requires file { file < length scopes.now.heads }
     requires message { message < length scopes.now.messages }
     ensures { (scope : List (List ℕ)) → IsScope scopes.now (home.Message message) scope

@@ -6,7 +6,7 @@ ghost use Rattle.proto_file.specs.Joined.{home_of, enum_home_of};
 ghost use Rattle.proto_file.specs.declared.joined.Home.TheVariants as home;
 ghost use Rattle.schema_names.specs.Numbers.{StandBehind, IsPlace, scope_count};
 ghost use Rattle.schema_offences.specs.Meeting.{Meets, TwiceIn, AtSome, OfElement};
-ghost use Rattle.schema_offences.specs.Entries.{Entry, entry, entry_of, entries_of, HasNumber, HasNumbers, OfMessage, OfEnum, OfService, OfSome, Adds, IsBefore, start_in, AreStarts, IsLater, IsPackageNamed};
+ghost use Rattle.schema_offences.specs.Entries.{Entry, entry, entry_of, entries_of, HasNumber, HaveNumbers, HaveOwnNumbers, OfMessage, OfEnum, OfService, OfSome, Adds, IsBefore, start_in, AreStarts, IsLater, IsPackageNamed};
 
 use crate::first::First;
 use crate::reason::ResolveReason;
@@ -112,7 +112,8 @@ fn add_message<'a>(
     requires behind { StandBehind scopes.now }
     requires within { i < length scopes.now.messages }
     requires home { IsPlace scopes.now (home_of message.now) }
-    ensures number { OnOk result ((k : ℕ) × HasNumber scopes.now (home.Message i) k) }
+    ensures outer { OnOk result ((k : ℕ) × HasNumber scopes.now (home_of message.now) k) }
+    ensures own { OnOk result ((k : ℕ) × HasNumber scopes.now (home.Message i) k) }
     ensures names { OnOk result (Adds (OfMessage scopes.now i message.now)
         (entries_of names.old.items) (entries_of names.new.items)) }
 {
@@ -130,7 +131,8 @@ fn add_messages<'a>(
 ) -> Result<(), Memory>
     requires behind { StandBehind files.now }
     requires scopes { scopes.now ≡ files.now }
-    ensures numbers { OnOk result (HasNumbers files.now) }
+    ensures outer { OnOk result (HaveNumbers files.now (length files.now.messages) files.now.messages home_of) }
+    ensures own { OnOk result (HaveOwnNumbers files.now (length files.now.messages)) }
     ensures names { OnOk result (Adds (OfSome files.now.messages (OfMessage files.now))
         (entries_of names.old.items) (entries_of names.new.items)) }
 {
@@ -148,7 +150,8 @@ fn add_enum<'a>(
 ) -> Result<(), Memory>
     requires behind { StandBehind scopes.now }
     requires home { IsPlace scopes.now (enum_home_of choices.now) }
-    ensures { OnOk result ((i : ℕ) → Adds (OfEnum scopes.now i choices.now)
+    ensures number { OnOk result ((k : ℕ) × HasNumber scopes.now (enum_home_of choices.now) k) }
+    ensures names { OnOk result ((i : ℕ) → Adds (OfEnum scopes.now i choices.now)
         (entries_of names.old.items) (entries_of names.new.items)) }
 {
     let scope = number_in(scopes, choices.home());
@@ -163,7 +166,8 @@ fn add_enums<'a>(
 ) -> Result<(), Memory>
     requires behind { StandBehind files.now }
     requires scopes { scopes.now ≡ files.now }
-    ensures { OnOk result (Adds (OfSome files.now.enums (OfEnum files.now))
+    ensures numbers { OnOk result (HaveNumbers files.now (length files.now.enums) files.now.enums enum_home_of) }
+    ensures names { OnOk result (Adds (OfSome files.now.enums (OfEnum files.now))
         (entries_of names.old.items) (entries_of names.new.items)) }
 {
     let enums = files.enums();
@@ -181,7 +185,9 @@ fn add_service<'a>(
     names: &mut Vec<Declared<'a>>,
 ) -> Result<(), Memory>
     requires behind { StandBehind scopes.now }
-    ensures { OnOk result ((i : ℕ) → scope ≡ scope_count scopes.now + i
+    requires home { IsPlace scopes.now (home.File service.now.file) }
+    ensures number { OnOk result ((k : ℕ) × HasNumber scopes.now (home.File service.now.file) k) }
+    ensures names { OnOk result ((i : ℕ) → scope ≡ scope_count scopes.now + i
         → Adds (OfService scopes.now i service.now) (entries_of names.old.items) (entries_of names.new.items)) }
 {
     let outer = number_in(scopes, Home::File(service.file));
@@ -194,9 +200,11 @@ fn add_services<'a>(
     scopes: &Scopes<'a>,
     names: &mut Vec<Declared<'a>>,
 ) -> Result<(), Memory>
-    requires behind { StandBehind files.now }
+    requires formed { IsFormed files.now }
     requires scopes { scopes.now ≡ files.now }
-    ensures { OnOk result (Adds (OfSome files.now.services (OfService files.now))
+    ensures numbers { OnOk result (HaveNumbers files.now (length files.now.services) files.now.services
+        (λ s. home.File s.file)) }
+    ensures names { OnOk result (Adds (OfSome files.now.services (OfService files.now))
         (entries_of names.old.items) (entries_of names.new.items)) }
 {
     let services = files.services();
@@ -268,6 +276,7 @@ fn note_later<'a>(names: &[Declared<'a>], starts: &Starts<'a>, first: &mut First
     }
 }
 
+// Meets a name that is a package's in its scope, or a front of one.
 fn note_package_name<'a>(scopes: &Scopes<'a>, home: Home, word: &'a Word, first: &mut First)
     requires behind { StandBehind scopes.now }
     requires place { IsPlace scopes.now home }
@@ -304,7 +313,20 @@ fn note_enum_packages<'a>(files: &Joined<'a>, scopes: &Scopes<'a>, first: &mut F
     }
 }
 
-/// Meets each name that an earlier thing of its scope has, and each type that has the name of a package.
+fn note_service_packages<'a>(files: &Joined<'a>, scopes: &Scopes<'a>, first: &mut First)
+    requires formed { IsFormed files.now }
+    requires scopes { scopes.now ≡ files.now }
+    ensures { Meets (AtSome (OfElement files.now.services (λ i x. IsPackageNamed files.now (home.File x.file) x.name)))
+        first.old first.new }
+{
+    let services = files.services();
+    for i in 0..services.len() {
+        let service = &services[i];
+        note_package_name(scopes, Home::File(service.file), &service.name, first);
+    }
+}
+
+/// Meets each name that an earlier thing of its scope has, and each type or service that has the name of a package.
 pub fn note_duplicates<'a>(
     alloc: Global,
     files: &Joined<'a>,
@@ -326,5 +348,6 @@ pub fn note_duplicates<'a>(
     note_later(&names, &starts, first);
     note_message_packages(files, scopes, first);
     note_enum_packages(files, scopes, first);
+    note_service_packages(files, scopes, first);
     Ok(())
 }

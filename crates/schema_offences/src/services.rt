@@ -43,13 +43,7 @@ fn note_message<'a>(scopes: &Scopes<'a>, file: usize, word: &'a Word, first: &mu
     first.note_if(unknown, ResolveReason::UnknownName, word.span);
 }
 
-fn note_method<'a>(
-    scopes: &Scopes<'a>,
-    file: usize,
-    i: usize,
-    rpc: &'a RpcDecl,
-    first: &mut First,
-)
+fn note_method<'a>(scopes: &Scopes<'a>, file: usize, i: usize, rpc: &'a RpcDecl, first: &mut First)
     requires file { file < length scopes.now.heads }
     requires ordered { IsOrdered scopes.now }
     ensures { Meets (MethodOffends scopes.now file (package_at scopes.now file) i rpc.now) first.old first.new }

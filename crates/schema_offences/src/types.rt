@@ -75,7 +75,8 @@ fn scalar_of(name: &[u8]) -> Option<Kind>
     }
 }
 
-/// What a type's name in a field of a message means, as a file sees it: a scalar's name is that scalar, whatever is declared.
+/// What a type's name in a field of a message means, as a file sees it: a scalar's name is that scalar, whatever is
+/// declared.
 pub fn type_of<'a>(
     scopes: &Scopes<'a>,
     file: usize,

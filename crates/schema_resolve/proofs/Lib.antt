@@ -7,9 +7,11 @@ mod KindWords
 mod Making
 mod MessageTables
 mod MethodTables
+mod OneOffence
 mod OneTable
 mod OneofTables
 mod Orders
+mod Rows
 mod TableParts
 mod TextLines
 mod TextParts

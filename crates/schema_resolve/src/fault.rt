@@ -1,10 +1,10 @@
 //! Why a file has no table.
 
 ghost use Rattle.std.specs.Prelude.{◌≡◌};
-ghost use Rattle.schema_resolve.specs.declared.fault.ResolveFault.TheVariants.{Memory as NoMemory};
+ghost use Rattle.schema_resolve.specs.declared.fault.ResolveFault.TheVariants.{At, Memory as NoMemory};
 
 use mrpc_table::Memory;
-use schema_offences::ResolveReason;
+use schema_offences::{Offence, ResolveReason};
 use std::alloc::{AllocError, AllocFailed};
 use thiserror::Error;
 

@@ -4,7 +4,8 @@ use Rattle.proto_file.specs.declared.file.Span.{Span}
 use Rattle.schema_offences.specs.Meeting.{Meets, AtSome, OfElement, PassesIn}
 use Rattle.schema_offences.specs.Lengths.{IsPast}
 use Rattle.schema_offences.proofs.Meetings.{meets_as}
-use Rattle.schema_offences.proofs.LinesOne.{start_apart, line_one}
+use Rattle.schema_offences.proofs.Formed.{start_apart}
+use Rattle.schema_offences.proofs.LinesOne.{line_one}
 use Rattle.schema_offences.proofs.LinesPassing.{text_to, text_from}
 use Rattle.schema_offences.proofs.lines.note_text.Goals as goal
 

@@ -19,11 +19,11 @@ add_methods-requires-clause-ordered c = subst IsOrdered (sym c.requires.scopes) 
 
 pub loop-i-preserved : goal.loop-i-preserved
 loop-i-preserved c =
-    let l : c.loop-i.i < length c.args.files.now.services = omega (arith, ap length c.as_slice-services.ensures) in
-    let at = item_at c.as_slice-services.result.now c.args.files.now.services c.loop-i.i c.index-services-i.result c.as_slice-services.ensures l c.index-services-i.is in
+    let l : c.loop-i.i < length c.args.files.now.services = omega (arith, ap length c.services-services.ensures) in
+    let at = item_at c.services-services.result.now c.args.files.now.services c.loop-i.i c.index-services-i.result c.services-services.ensures l c.index-services-i.is in
     next_service c.args.files.now c.args.plan.now c.loop-i.i c.index-services-i.result c.loop-i.methods _ at
     (λ done h.
-    let P : File → Type 0 = λ F. AreMethods F c.args.plan.now done c.loop-i.methods in
-    let Q : File → Type 0 = λ F. AreMethods F c.args.plan.now (done ++ service_rpcs c.index-services-i.result) c.add_methods.new.methods in
+    let P : Joined → Type 0 = λ F. AreMethods F c.args.plan.now done c.loop-i.methods in
+    let Q : Joined → Type 0 = λ F. AreMethods F c.args.plan.now (done ++ service_rpcs c.index-services-i.result) c.add_methods.new.methods in
     subst Q c.requires.scopes (c.in_ok-add_methods.ensures done (subst P (sym c.requires.scopes) h)))
     c.loop-i.invariant

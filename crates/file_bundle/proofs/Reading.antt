@@ -1,0 +1,52 @@
+-- One file after another, as they are read.
+use Rattle.std.proofs.Common.{◌≡◌, ◌≢◌, ℕ, ◌+◌, ◌<◌, ◌≤◌, ◌==◌, true, false, List, [], ◌∷◌, ◌++◌, length, inl, inr, refl, ap, sym, ◌∙◌, arith}
+use Rattle.std.proofs.lemmas.Bool.{eq-eqb}
+use Rattle.std.proofs.lemmas.List.{append-nil, length-map}
+use Rattle.file_bundle.specs.Bundle.{File, bundle_text, Spells}
+use Rattle.file_bundle.specs.Faults.{BreaksOff, too_many, no_header, too_few, IsBundleFault}
+use Rattle.file_bundle.specs.Packed.{file_of, files_of}
+use Rattle.file_bundle.specs.Parts.{HasNoFile}
+use Rattle.file_bundle.specs.declared.packed.Packed.{Packed}
+use Rattle.file_bundle.proofs.Fronts.{AreWords, all_words}
+
+-- these files stand in front of the rest of an input
+pub record StandInFront (input : List ℕ) (files : List File) (rest : List ℕ) : Type 0 where
+  pub text : input ≡ bundle_text files ++ rest
+  pub words : AreWords files
+  pub few : length files ≤ 64
+
+pub length-files : (packed : List Packed) → length (files_of packed) ≡ length packed
+length-files packed = length-map packed file_of
+
+breaks : (input : List ℕ) (packed : List Packed) (rest : List ℕ) (n : ℕ) → StandInFront input (files_of packed) rest → BreaksOff (files_of packed) rest → n ≡ length packed → IsBundleFault input (n + 1)
+breaks input packed rest n s ends is = record {
+  files = files_of packed;
+  rest = rest;
+  text = s.text;
+  words = all_words (files_of packed) s.words;
+  ends = ends;
+  number = ap (λ (k : ℕ). k + 1) (is ∙ sym (length-files packed));
+}
+
+pub breaks_full : (input : List ℕ) (packed : List Packed) (rest : List ℕ) (n : ℕ) → StandInFront input (files_of packed) rest → rest ≢ [] → n ≡ length packed → n ≡ 64 → IsBundleFault input (n + 1)
+breaks_full input packed rest n s some is all = breaks input packed rest n s (too_many (length-files packed ∙ sym is ∙ all) some) is
+
+pub breaks_off : (input : List ℕ) (packed : List Packed) (rest : List ℕ) (n : ℕ) → StandInFront input (files_of packed) rest → rest ≢ [] → HasNoFile rest → n ≡ length packed → n ≢ 64 → IsBundleFault input (n + 1)
+breaks_off input packed rest n s some none is other =
+    let fewer : length (files_of packed) < 64 = omega (arith, s.few, length-files packed, is, other) in
+    elim none [
+      | inl lacking ↦ breaks input packed rest n s (no_header fewer some lacking) is
+      | inr few ↦ breaks input packed rest n s (too_few fewer few) is
+    ]
+
+pub some_packed : (packed : List Packed) (n : ℕ) → n ≡ length packed → false ≡ (n == 0) → packed ≢ []
+some_packed packed n is e none = let yes : (n == 0) ≡ true = eq-eqb n 0 (is ∙ ap (length {A = Packed}) none) in cc
+
+pub spelled : (input : List ℕ) (packed : List Packed) (rest : List ℕ) → StandInFront input (files_of packed) rest → rest ≡ [] → packed ≢ [] → Spells input (files_of packed)
+spelled input [] rest s nothing some = absurd (some refl)
+spelled input (p ∷ ps) rest s nothing some = record {
+  text = s.text ∙ ap (λ (r : List ℕ). bundle_text (files_of (p ∷ ps)) ++ r) nothing ∙ append-nil (bundle_text (files_of (p ∷ ps)));
+  words = all_words (files_of (p ∷ ps)) s.words;
+  some = omega arith;
+  few = s.few;
+}

@@ -1,0 +1,11 @@
+-- The files so far stand in front of the rest.
+use Rattle.std.proofs.Common.{length}
+use Rattle.file_bundle.specs.Packed.{files_of}
+use Rattle.file_bundle.proofs.Reading.{StandInFront}
+use Rattle.file_bundle.proofs.read.read_files.Given as goal
+
+abbrev pub invariant-loop-rest : goal.invariant-loop-rest
+invariant-loop-rest l = StandInFront l.fn.input (files_of l.files.items) l.rest
+
+abbrev pub decreases-loop-rest : goal.decreases-loop-rest
+decreases-loop-rest l = length l.rest

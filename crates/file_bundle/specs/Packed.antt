@@ -1,0 +1,10 @@
+-- What a list of borrowed files says.
+use Rattle.std.specs.Prelude.{List, map}
+use Rattle.file_bundle.specs.Bundle.{File}
+use Rattle.file_bundle.specs.declared.packed.Packed.{Packed}
+
+abbrev pub file_of : Packed → File
+file_of p = (p.path.now, p.text.now)
+
+abbrev pub files_of : List Packed → List File
+files_of packed = map file_of packed

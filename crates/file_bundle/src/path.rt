@@ -1,0 +1,49 @@
+//! Which paths files have.
+
+ghost use Rattle.std.specs.Prelude.{◌≡◌, ◌≤◌, ◌↔◌, length, IsTrue, IfSome, IfNone};
+ghost use Rattle.std.specs.List.{list_all, list_any};
+ghost use Rattle.std.specs.Str.{bytes_eq};
+ghost use Rattle.file_bundle.specs.Packed.{files_of};
+ghost use Rattle.file_bundle.specs.Paths.{IsPath, HaveRightPaths, IsFirstRefused, is_path_byte};
+
+use crate::limits::{MAX_FILES, MAX_PATH};
+use crate::packed::Packed;
+
+/// Whether a path may be that of a file: 1 to 255 bytes of letters, digits, `_`, `-`, `.` and `/`.
+pub fn is_path(path: &[u8]) -> bool
+    ensures { IsTrue result ↔ IsPath path.now }
+{
+    !path.is_empty() && path.len() <= MAX_PATH && are_path_bytes(path)
+}
+
+fn are_path_bytes(bytes: &[u8]) -> bool
+    ensures { result ≡ list_all is_path_byte bytes.now }
+{
+    bytes.iter().all(|byte| is_path_byte(*byte))
+}
+
+fn is_path_byte(byte: u8) -> bool
+    ensures { result ≡ is_path_byte byte }
+{
+    matches!(byte, b'A'..=b'Z' | b'a'..=b'z' | b'0'..=b'9' | b'_' | b'-' | b'.' | b'/')
+}
+
+/// The number, from 1, of the first file whose path is refused.
+pub(crate) fn first_refused(files: &[Packed]) -> Option<u32>
+    requires { length files.now ≤ MAX_FILES }
+    ensures first { IfSome result (IsFirstRefused (files_of files.now)) }
+    ensures none { IfNone result (HaveRightPaths (files_of files.now)) }
+{
+    for (i, file) in files.iter().enumerate() {
+        if !is_path(file.path) || has_path(&files[..i], file.path) {
+            return Some(i as u32 + 1);
+        }
+    }
+    None
+}
+
+fn has_path(files: &[Packed], path: &[u8]) -> bool
+    ensures { result ≡ list_any (λ f. bytes_eq f.path.now path.now) files.now }
+{
+    files.iter().any(|file| file.path == path)
+}

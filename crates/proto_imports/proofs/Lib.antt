@@ -1,0 +1,11 @@
+mod Joining
+mod Judging
+mod Linked
+mod Placing
+mod Reached
+mod Remaining
+mod Rows
+mod Seeing
+mod Sorting
+mod Visited
+mod Walked

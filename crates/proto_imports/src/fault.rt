@@ -1,0 +1,77 @@
+//! What can be at fault with the imports of a set.
+
+ghost use Rattle.proto_imports.specs.Reason.{import_word};
+ghost use Rattle.std.specs.Prelude.{◌≡◌};
+ghost use Rattle.proto_imports.specs.declared.fault.ImportFault.TheVariants.{Memory as NoMemory};
+
+use mrpc_table::Memory;
+use proto_file::Span;
+use std::alloc::{AllocError, AllocFailed};
+use thiserror::Error;
+
+/// What can be at fault with an import. All imports that are missing come before all that stand twice, and a cycle
+/// counts only where there is neither.
+#[derive(Clone, Copy, Debug, PartialEq, Eq, Error)]
+pub enum ImportReason {
+    /// No file of the set has its path.
+    #[error("Missing")]
+    Missing,
+    /// An earlier import of the same file has its path.
+    #[error("Twice")]
+    Twice,
+    /// It leads back to a file from which it is reached.
+    #[error("Cycle")]
+    Cycle,
+}
+
+impl ImportReason {
+    /// The word of a printed fault.
+    pub fn word(self) -> &'static str
+        ensures { result.now ≡ import_word self }
+    {
+        match self {
+            ImportReason::Missing => "Missing",
+            ImportReason::Twice => "Twice",
+            ImportReason::Cycle => "Cycle",
+        }
+    }
+}
+
+/// Which import of which file is at fault.
+#[derive(Clone, Copy, Debug, PartialEq, Eq, Error)]
+pub enum ImportFault {
+    /// The first fault: its reason, the file's place in the set, from 0, and where the import's path stands in it.
+    #[error("file {file}, line {}: {reason}", span.line)]
+    At {
+        reason: ImportReason,
+        file: usize,
+        span: Span,
+    },
+    /// No memory was found.
+    #[error("out of memory")]
+    Memory,
+}
+
+impl From<Memory> for ImportFault {
+    ghost from_gives = { λ _ e. e ≡ NoMemory };
+
+    fn from(_: Memory) -> ImportFault {
+        ImportFault::Memory
+    }
+}
+
+impl From<AllocError> for ImportFault {
+    ghost from_gives = { λ _ e. e ≡ NoMemory };
+
+    fn from(_: AllocError) -> ImportFault {
+        ImportFault::Memory
+    }
+}
+
+impl<T: Drop> From<AllocFailed<T>> for ImportFault {
+    ghost from_gives = { λ _ e. e ≡ NoMemory };
+
+    fn from(_: AllocFailed<T>) -> ImportFault {
+        ImportFault::Memory
+    }
+}

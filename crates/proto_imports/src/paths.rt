@@ -1,0 +1,35 @@
+//! The files of a set by their paths.
+
+ghost use Rattle.std.specs.Prelude.{◌≡◌, IfOk};
+ghost use Rattle.proto_imports.specs.Linking.{place_in, KnowsPaths};
+
+use crate::set::Member;
+use mrpc_table::Memory;
+use std::alloc::Global;
+use std::collections::BTreeMap;
+
+/// The places of a set's files, by their paths.
+#[derive(Drop)]
+pub struct Paths<'a> {
+    by: BTreeMap<&'a [u8], usize>,
+}
+
+impl<'a> Paths<'a> {
+    /// The paths of a set.
+    pub fn new(alloc: Global, members: &'a [Member]) -> Result<Paths<'a>, Memory>
+        ensures { IfOk result (KnowsPaths members.now) }
+    {
+        let mut by = BTreeMap::new(alloc);
+        for i in 0..members.len() {
+            by.insert(members[i].path.as_slice(), i)?;
+        }
+        Ok(Paths { by })
+    }
+
+    /// The place of the file that has a path.
+    pub fn place(&self, path: &'a [u8]) -> Option<usize>
+        ensures { result ≡ place_in self.now path.now }
+    {
+        self.by.get(&path).copied()
+    }
+}

@@ -1,0 +1,41 @@
+//! What the root of a set reaches.
+
+ghost use Rattle.std.specs.Prelude.{◌<◌, ◌≤◌, length, IfOk, IfErr, OnOk};
+ghost use Rattle.proto_imports.specs.Faults.{IsSound, IsFaultOf};
+ghost use Rattle.proto_imports.specs.Reaching.{HaveOwnPaths, IsReach};
+
+use crate::fault::{ImportFault, ImportReason};
+use crate::joined::joined;
+use crate::links::{Graph, fault_at, judge_all};
+use crate::paths::Paths;
+use crate::seen::all_seen;
+use crate::set::{MAX_FILES, Member, Reach};
+use crate::walk::{Walked, visit_root};
+use std::alloc::Global;
+
+/// The files that the first one of a set reaches, in the order in which they are resolved, and what each of them sees;
+/// or the first fault of the set's imports. Without memory it answers `Memory`. It takes time by the number of imports,
+/// each with the length of its path.
+pub fn reach(alloc: Global, members: &[Member]) -> Result<Reach, ImportFault>
+    requires some { 0 < length members.now }
+    requires few { length members.now ≤ MAX_FILES }
+    requires distinct { HaveOwnPaths members.now }
+    // What is answered is what the first file reaches.
+    ensures reach { IfOk result (IsReach members.now) }
+    // No import of the set is at fault then.
+    ensures sound { OnOk result (IsSound members.now) }
+    // A fault is the set's first one.
+    ensures fault { IfErr result (IsFaultOf members.now) }
+{
+    let paths = Paths::new(alloc, members)?;
+    judge_all(members, &paths)?;
+    let graph = Graph::new(alloc, members, &paths)?;
+    match visit_root(alloc, &graph)? {
+        Walked::Ring(frame) => Err(fault_at(members, ImportReason::Cycle, frame.file, frame.next)),
+        Walked::Left(marks) => {
+            let order = joined(alloc, members, &marks)?;
+            let sees = all_seen(alloc, &graph, order.as_slice())?;
+            Ok(Reach { order, sees })
+        }
+    }
+}

@@ -1,0 +1,117 @@
+//! Going through the files of a set depth first.
+
+ghost use Rattle.std.specs.Prelude.{◌≡◌, ◌<◌, ◌+◌, ◌^◌, ◌++◌, ◌∷◌, [], length, replicate, slice_set, IfOk, OnOk};
+ghost use Rattle.proto_imports.specs.Walking.{first_frame, Follows, CameOf};
+
+use crate::links::{Graph, Link};
+use mrpc_table::Memory;
+use std::alloc::Global;
+
+/// Whether a file is being visited.
+#[derive(Clone, Copy)]
+pub enum Mark {
+    New,
+    Visiting,
+    Left,
+}
+
+/// A file that is being visited, and the place of its import that comes next.
+#[derive(Clone, Copy)]
+pub struct Frame {
+    pub file: usize,
+    pub next: usize,
+}
+
+/// A walk through the files.
+#[derive(Drop)]
+pub struct Walk {
+    /// The files that are being visited, the innermost last.
+    pub frames: Vec<Frame>,
+    /// For each file of the set.
+    pub marks: Vec<Mark>,
+}
+
+// As many new files.
+fn all_new(alloc: Global, count: usize) -> Result<Vec<Mark>, Memory>
+    ensures { IfOk result (λ v. v.items ≡ replicate count Mark.New) }
+{
+    let mut marks = Vec::with_capacity(alloc, count)?;
+    for _ in 0..count {
+        marks.push(Mark::New)?;
+    }
+    Ok(marks)
+}
+
+impl Walk {
+    // Begins to visit a file.
+    fn enter(&mut self, file: usize) -> Result<(), Memory>
+        requires { file < length self.old.marks.items }
+        ensures frames { OnOk result (self.new.frames.items ≡ self.old.frames.items ++ first_frame file ∷ []) }
+        ensures marks { OnOk result (self.new.marks.items ≡ slice_set self.old.marks.items file Mark.Visiting) }
+    {
+        self.frames.push(Frame { file, next: 0 })?;
+        self.marks[file] = Mark::Visiting;
+        Ok(())
+    }
+
+    // At the root, which is the first of these files.
+    fn new(alloc: Global, count: usize) -> Result<Walk, Memory>
+        requires { 0 < count }
+        ensures frames { IfOk result (λ w. w.frames.items ≡ first_frame 0 ∷ []) }
+        ensures marks { IfOk result (λ w. w.marks.items ≡ slice_set (replicate count Mark.New) 0 Mark.Visiting) }
+    {
+        let marks = all_new(alloc, count)?;
+        let frames = Vec::new(alloc);
+        let mut walk = Walk { frames, marks };
+        walk.enter(0)?;
+        Ok(walk)
+    }
+
+    // Follows an import of the innermost file, which was taken off. Whether it closes a ring.
+    fn follow(&mut self, frame: Frame, link: Link) -> Result<bool, Memory>
+        requires here { link.file < length self.old.marks.items }
+        requires more { frame.next + 1 < 2 ^ 64 }
+        ensures { IfOk result (λ r. Follows self.old frame link r self.new) }
+    {
+        self.frames.push(Frame {
+            file: frame.file,
+            next: frame.next + 1,
+        })?;
+        match self.marks[link.file] {
+            Mark::New => {
+                self.enter(link.file)?;
+                Ok(false)
+            }
+            Mark::Visiting => Ok(true),
+            Mark::Left => Ok(false),
+        }
+    }
+}
+
+/// What comes of a walk.
+#[derive(Drop)]
+pub enum Walked {
+    /// The files with this mark `Left` were left.
+    Left(Vec<Mark>),
+    /// The next import of a file closes a ring.
+    Ring(Frame),
+}
+
+/// Visits the root.
+pub fn visit_root(alloc: Global, graph: &Graph) -> Result<Walked, Memory>
+    requires { 0 < length graph.now }
+    ensures { IfOk result (CameOf graph.now) }
+{
+    let mut walk = Walk::new(alloc, graph.len())?;
+    while let Some(frame) = walk.frames.pop() {
+        match graph.links(frame.file).get(frame.next) {
+            None => walk.marks[frame.file] = Mark::Left,
+            Some(link) => {
+                if walk.follow(frame, *link)? {
+                    return Ok(Walked::Ring(frame));
+                }
+            }
+        }
+    }
+    Ok(Walked::Left(walk.marks))
+}

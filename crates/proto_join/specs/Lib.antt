@@ -1,0 +1,6 @@
+pub mod Joining
+pub mod Placing
+pub mod Shifted
+pub mod Sound
+pub mod Texts
+pub mod Within
