@@ -24,7 +24,7 @@ mod types;
 
 pub use first::Offence;
 pub use judge::{first_offence, with_import};
-pub use laws::one_offence;
+pub use laws::{offences_stand, one_offence};
 pub use numbers::{enum_number, field_number};
 pub use reason::ResolveReason;
 pub use services::message_of;
