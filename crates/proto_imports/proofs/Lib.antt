@@ -1,6 +1,7 @@
 mod Joining
 mod Judging
 mod Linked
+mod Neither
 mod Placing
 mod Reached
 mod Remaining

@@ -15,12 +15,15 @@ use Rattle.proto_imports.specs.Linking.{place_in, KnowsPaths}
 use Rattle.proto_imports.specs.declared.set.Member.{Member}
 use Rattle.proto_imports.specs.declared.paths.Paths.{Paths}
 
-same_bytes : (x q : List ℕ) → is_eq (slice_cmp nat_cmp x q) ≡ true → x ≡ q
+pub same_bytes : (x q : List ℕ) → is_eq (slice_cmp nat_cmp x q) ≡ true → x ≡ q
 same_bytes x q e = exact_bytes x q ((Equal-is (slice_cmp nat_cmp x q)).0 e)
 
 bytes_same : (x q : List ℕ) → x ≡ q → is_eq (slice_cmp nat_cmp x q) ≡ true
 bytes_same x q e =
     subst (λ (y : List ℕ). is_eq (slice_cmp nat_cmp x y) ≡ true) e (ap is_eq (tied_itself nat_list_cmp_total x))
+
+pub other_bytes : (x q : List ℕ) → is_eq (slice_cmp nat_cmp x q) ≡ false → x ≡ q → ⊥
+other_bytes x q e same = let t : is_eq (slice_cmp nat_cmp x q) ≡ true = bytes_same x q same in let bad : true ≡ false = sym t ∙ e in cc
 
 -- where the first files stand
 abbrev Places : List Member → ℕ → List ℕ → Option ℕ → Type 0

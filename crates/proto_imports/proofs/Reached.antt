@@ -33,7 +33,7 @@ left_are_reached set marks own h = record {
   );
 }
 
-reached_within : {set : List Member} {j : ℕ} → 0 < length set → Reaches set 0 j → j < length set
+pub reached_within : {set : List Member} {j : ℕ} → 0 < length set → Reaches set 0 j → j < length set
 reached_within some here = some
 reached_within some (onward r l) = link_file l
 
@@ -111,7 +111,7 @@ reach_or_fault {set} h (cycle {i = i} {n = n} v) =
 
 -- ---- one reach
 
-path_trans : (set : List Member) (i j k : ℕ) → IsPathBelow set i j → IsPathBelow set j k → IsPathBelow set i k
+pub path_trans : (set : List Member) (i j k : ℕ) → IsPathBelow set i j → IsPathBelow set j k → IsPathBelow set i k
 path_trans set i j k a b =
     let same : a.upper ≡ b.lower = path_same a.upper_at b.lower_at in
     record {
@@ -122,7 +122,7 @@ path_trans set i j k a b =
       below = below_trans a.lower a.upper b.upper a.below (subst (λ (p : List ℕ). IsBelow p b.upper) (sym same) b.below);
     }
 
-path_strict : (set : List Member) (i : ℕ) → IsPathBelow set i i → ⊥
+pub path_strict : (set : List Member) (i : ℕ) → IsPathBelow set i i → ⊥
 path_strict set i a =
     let same : a.upper ≡ a.lower = path_same a.upper_at a.lower_at in
     below_strict a.lower (subst (λ (p : List ℕ). IsBelow a.lower p) same a.below)

@@ -148,7 +148,7 @@ once_apart xs once i j d a b e =
 -- ---- lists of the same elements
 
 -- nothing stands before the first one
-first_is_least : {X : Type 0} (R : X → X → Type 0) → ((x y z : X) → R x y → R y z → R x z) → (x : X) (xs : List X) → Ascends R (x ∷ xs) → (y : X) → Contains xs y → R x y
+pub first_is_least : {X : Type 0} (R : X → X → Type 0) → ((x y z : X) → R x y → R y z → R x z) → (x : X) (xs : List X) → Ascends R (x ∷ xs) → (y : X) → Contains xs y → R x y
 first_is_least {X} R trans x xs h y c = subst (R x) c.2 (ascends_past R trans x xs h c.0 y c.1)
 
 same_first : {X : Type 0} (R : X → X → Type 0) → ((x y z : X) → R x y → R y z → R x z) → ((x : X) → R x x → ⊥) → (x y : X) (xs ys : List X) → Ascends R (x ∷ xs) → Ascends R (y ∷ ys) → Contains (y ∷ ys) x → Contains (x ∷ xs) y → x ≡ y

@@ -1,6 +1,6 @@
 //! Laws of the imports of a set. These functions do nothing; their clauses hold.
 
-ghost use Rattle.std.specs.Prelude.{◌≡◌, ℕ, List};
+ghost use Rattle.std.specs.Prelude.{◌≡◌, ℕ, ◌<◌, List, length};
 ghost use Rattle.proto_file.specs.declared.file.Span.{Span};
 ghost use Rattle.proto_imports.specs.Leading.{Leads, Reaches, IsInRing};
 ghost use Rattle.proto_imports.specs.Visiting.{Outcome, leaves, ring, VisitsRoot};
@@ -36,8 +36,11 @@ pub fn one_reach()
     ensures { (set : List Member) (a b : Reach) → IsReach set a → IsReach set b → a ≡ b }
 {}
 
-/// No set has both a reach and a first fault.
+/// Each set has a reach or a first fault, and never both.
 pub fn reach_or_fault()
     ensures not_both { (set : List Member) (reach : Reach) (q : ImportReason) (i : ℕ) (s : Span) → IsReach set reach
         → HasFault set q i s → ⊥ }
+    ensures not_neither { (set : List Member) → 0 < length set → HaveOwnPaths set
+        → ((reach : Reach) → IsReach set reach → ⊥)
+        → ((q : ImportReason) (i : ℕ) (s : Span) → HasFault set q i s → ⊥) → ⊥ }
 {}

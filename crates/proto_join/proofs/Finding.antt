@@ -6,8 +6,8 @@ use Rattle.std.proofs.lemmas.List.{length-map}
 use Rattle.std.proofs.lemmas.List.Sums.{sum_by-cons}
 use Rattle.proto_join.specs.declared.part.Part.{Part}
 use Rattle.proto_join.specs.declared.part.Before.{Before}
-use Rattle.proto_join.specs.Joining.{nothing, behind, gathered}
-use Rattle.proto_join.specs.Texts.{sizes_of, base_at}
+use Rattle.proto_join.specs.Joining.{nothing, behind, gathered, sizes_of}
+use Rattle.proto_join.specs.Texts.{base_at}
 
 -- ---- where the items of a file start, among those of all files
 

@@ -19,12 +19,11 @@ use Rattle.proto_file.specs.declared.file.ServiceDecl.{ServiceDecl}
 use Rattle.proto_file.specs.Order.{IsPlaceBelow}
 use Rattle.proto_join.specs.declared.part.Part.{Part}
 use Rattle.proto_join.specs.declared.part.Before.{Before}
-use Rattle.proto_join.specs.Joining.{nothing, behind, gathered, heads_of, joined}
+use Rattle.proto_join.specs.Joining.{nothing, behind, gathered, heads_of, joined, sizes_of}
 use Rattle.proto_join.specs.Placing.{room_behind, CanPlace, with_file}
 use Rattle.proto_join.specs.Shifted.{shift_message, shift_enum, shift_service, shift_head}
 use Rattle.proto_join.specs.Sound.{IsSound}
-use Rattle.proto_join.specs.Texts.{sizes_of}
-use Rattle.proto_join.specs.Within.{IsSpanWithin, IsWordWithin, IsNumberWithin, IsRangeWithin, IsTypeWithin, IsFieldWithin, IsMessageWithin, IsValueWithin, IsEnumWithin, IsRpcWithin, IsServiceWithin}
+use Rattle.proto_file.specs.Within.{IsSpanWithin, IsWordWithin, IsNumberWithin, IsRangeWithin, IsTypeWithin, IsFieldWithin, IsMessageWithin, IsValueWithin, IsEnumWithin, IsRpcWithin, IsServiceWithin}
 
 -- ---- a list whose first items are moved
 

@@ -12,10 +12,10 @@ use Rattle.proto_file.specs.Order.{Part as Piece, rank_of, IsPlaceBelow, Declara
 use Rattle.proto_file.specs.Together.{Declaration, StandsAt, Precedes, IsInFile, its_package, in_message_of, in_field_of, in_oneof_of, in_enum_of, in_value_of, in_service_of, in_rpc_of, IsOrdered}
 use Rattle.proto_join.specs.declared.part.Part.{Part}
 use Rattle.proto_join.specs.declared.part.Before.{Before}
-use Rattle.proto_join.specs.Joining.{nothing, joined}
+use Rattle.proto_join.specs.Joining.{nothing, joined, IsInText}
 use Rattle.proto_join.specs.Shifted.{shift_span, shift_parent, shift_message, shift_enum, shift_service}
 use Rattle.proto_join.specs.Sound.{AreSound}
-use Rattle.proto_join.specs.Texts.{base_at, IsInText, sizes_of}
+use Rattle.proto_join.specs.Texts.{base_at, IsInTextOf}
 use Rattle.proto_join.proofs.Finding.{start, start-suc, start-apart, one_start, before_at, size_of, messages_of, before-files, before-messages, bytes_here, base_at-sizes, got_of_all, found, one_part}
 use Rattle.proto_join.proofs.Standing.{Moved, of_package, of_message, of_field, of_oneof, of_enum, of_value, of_service, of_rpc, enums_of, services_of, Located, located, stands_within, same_own, same_moved, own_precedes}
 
@@ -194,7 +194,7 @@ joined-ordered ps sound = record {
 next_base : (sizes : List ℕ) (i j : ℕ) → i ≤ j → base_at sizes i ≤ base_at sizes j
 next_base sizes i j h = omega (arith, sum_by-take-le (λ n. n) (take j sizes) i, ap sum (take-take i j sizes h))
 
-pub one_text : (sizes : List ℕ) (j k place : ℕ) → IsInText sizes j place → IsInText sizes k place → j ≡ k
+pub one_text : (sizes : List ℕ) (j k place : ℕ) → IsInTextOf sizes j place → IsInTextOf sizes k place → j ≡ k
 one_text sizes j k place at_j at_k = elim (cases_order j k) [
   | inl e ↦ e
   | inr o ↦ elim o [
@@ -204,7 +204,7 @@ one_text sizes j k place at_j at_k = elim (cases_order j k) [
 ]
 
 pub own_text : (ps : List Part) → AreSound ps → (k : ℕ) (x : Declaration) (piece : Piece) (s : Span) → IsInFile (joined ps) k x
-    → StandsAt (joined ps) s x piece → IsInText (sizes_of ps) k s.start
+    → StandsAt (joined ps) s x piece → IsInText ps k s.start
 own_text ps sound k x piece s in_k at_s =
     let l = located ps s x piece at_s in
     let same = in_file ps l.file k l.part l.own x l.there l.moved in_k in

@@ -13,7 +13,7 @@ use Rattle.proto_file.specs.declared.file.FieldLabel.TheVariants.{Plain, Repeate
 use Rattle.mrpc_table.specs.declared.words.Decimal.TheVariants.{Small}
 use Rattle.proto_join.specs.declared.part.Part.{Part}
 use Rattle.proto_join.specs.Joining.{joined}
-use Rattle.proto_join.specs.Texts.{IsInText}
+use Rattle.proto_join.specs.Texts.{IsInTextOf}
 
 abbrev span : ℕ → ℕ → ℕ → Span
 span start end line = record { start = start; end = end; line = line }
@@ -197,24 +197,24 @@ none_together = refl
 abbrev sizes : List ℕ
 sizes = 3 ∷ 0 ∷ 4 ∷ []
 
-last_of_first : IsInText sizes 0 2
+last_of_first : IsInTextOf sizes 0 2
 last_of_first = record { from = omega arith; below = omega arith }
 
 -- the place behind it is in the third text, since the second has none
-first_of_third : IsInText sizes 2 3
+first_of_third : IsInTextOf sizes 2 3
 first_of_third = record { from = omega arith; below = omega arith }
 
-none_of_second : (place : ℕ) → IsInText sizes 1 place → ⊥
+none_of_second : (place : ℕ) → IsInTextOf sizes 1 place → ⊥
 none_of_second place h = absurd (omega (arith, h.from, h.below))
 
-last_of_third : IsInText sizes 2 6
+last_of_third : IsInTextOf sizes 2 6
 last_of_third = record { from = omega arith; below = omega arith }
 
-not_behind : IsInText sizes 2 7 → ⊥
+not_behind : IsInTextOf sizes 2 7 → ⊥
 not_behind h = absurd (omega (arith, h.below))
 
 -- behind all of them there is none
-none_behind : (k : ℕ) → IsInText sizes k 7 → ⊥
+none_behind : (k : ℕ) → IsInTextOf sizes k 7 → ⊥
 none_behind zero h = absurd (omega (arith, h.below))
 none_behind (suc zero) h = absurd (omega (arith, h.below))
 none_behind (suc (suc zero)) h = absurd (omega (arith, h.below))

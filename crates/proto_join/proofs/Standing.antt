@@ -18,7 +18,7 @@ use Rattle.proto_file.specs.Together.{Declaration, package_decl, message_decl, f
 use Rattle.proto_join.specs.declared.part.Part.{Part}
 use Rattle.proto_join.specs.Joining.{nothing, heads_of, joined}
 use Rattle.proto_join.specs.Shifted.{shift_span, shift_word, shift_type, shift_field, shift_value, shift_rpc, shift_message, shift_enum, shift_service, shift_head}
-use Rattle.proto_join.specs.Within.{IsSpanWithin, IsWordWithin, IsTypeWithin, IsFieldWithin, IsMessageWithin, IsValueWithin, IsEnumWithin, IsRpcWithin, IsServiceWithin, IsWithin}
+use Rattle.proto_file.specs.Within.{IsSpanWithin, IsWordWithin, IsTypeWithin, IsFieldWithin, IsMessageWithin, IsValueWithin, IsEnumWithin, IsRpcWithin, IsServiceWithin, IsWithin}
 use Rattle.proto_join.proofs.Finding.{start, one_start, start_order, start-one, before_at, size_of, messages_of, bytes_here, got_of_all, got_of_map, found}
 
 abbrev pub enums_of : Part → ℕ

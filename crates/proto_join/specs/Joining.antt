@@ -1,9 +1,10 @@
 -- Several files joined to one, as if their texts stood one behind another.
-use Rattle.std.specs.Prelude.{◌+◌, List, [], ◌∷◌, ◌++◌, length, map}
+use Rattle.std.specs.Prelude.{ℕ, ◌+◌, List, [], ◌∷◌, ◌++◌, length, map}
 use Rattle.proto_file.specs.Joined.{Joined}
 use Rattle.proto_file.specs.declared.joined.Head.{Head}
 use Rattle.proto_join.specs.declared.part.Part.{Part}
 use Rattle.proto_join.specs.declared.part.Before.{Before}
+use Rattle.proto_join.specs.Texts.{IsInTextOf}
 use Rattle.proto_join.specs.Shifted.{shift_message, shift_enum, shift_service, shift_head}
 
 -- what stands before the first file, and behind a file what stood before it and the file
@@ -33,3 +34,12 @@ joined ps = record {
   enums = gathered shift_enum (λ p. p.file.enums) nothing ps;
   services = gathered shift_service (λ p. p.file.services) nothing ps;
 }
+
+-- ---- places of the joined texts
+
+abbrev pub sizes_of : List Part → List ℕ
+sizes_of ps = map (λ p. p.size) ps
+
+-- a place is in the text of the file at the place k
+abbrev pub IsInText : List Part → ℕ → ℕ → Type 0
+IsInText ps k place = IsInTextOf (sizes_of ps) k place

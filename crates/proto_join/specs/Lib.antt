@@ -3,4 +3,3 @@ pub mod Placing
 pub mod Shifted
 pub mod Sound
 pub mod Texts
-pub mod Within

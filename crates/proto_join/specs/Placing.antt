@@ -8,7 +8,7 @@ use Rattle.proto_join.specs.declared.part.Part.{Part}
 use Rattle.proto_join.specs.declared.part.Before.{Before}
 use Rattle.proto_join.specs.Joining.{heads_of}
 use Rattle.proto_join.specs.Shifted.{shift_message, shift_enum, shift_service, shift_head}
-use Rattle.proto_join.specs.Within.{IsWordWithin, IsMessageWithin, IsEnumWithin, IsServiceWithin}
+use Rattle.proto_file.specs.Within.{IsWordWithin, IsMessageWithin, IsEnumWithin, IsServiceWithin}
 
 -- the bytes that a text may have behind so many
 abbrev pub room_behind : ℕ → ℕ

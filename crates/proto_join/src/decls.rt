@@ -3,7 +3,7 @@
 ghost use Rattle.std.specs.Prelude.{◌≡◌, ℕ, ◌+◌, ◌<◌, ◌^◌, ◌++◌, All, map, IfSome, OnOk};
 ghost use Rattle.proto_join.specs.declared.part.Before.{Before};
 ghost use Rattle.proto_join.specs.Shifted.{shift_parent, shift_message, shift_enum, shift_service, shift_head};
-ghost use Rattle.proto_join.specs.Within.{IsWordWithin};
+ghost use Rattle.proto_file.specs.Within.{IsWordWithin};
 ghost use Rattle.proto_join.specs.Placing.{room_behind, CanPlaceMessage, CanPlaceEnum, CanPlaceService};
 
 use crate::part::Before;

@@ -6,9 +6,9 @@ ghost use Rattle.proto_file.specs.Order.{Part as Piece};
 ghost use Rattle.proto_file.specs.Together.{Declaration, StandsAt, IsInFile, IsFormed, IsOrdered};
 ghost use Rattle.proto_file.specs.declared.file.Span.{Span};
 ghost use Rattle.proto_join.specs.declared.part.Part.{Part};
-ghost use Rattle.proto_join.specs.Joining.{joined};
+ghost use Rattle.proto_join.specs.Joining.{joined, IsInText};
 ghost use Rattle.proto_join.specs.Sound.{AreSound};
-ghost use Rattle.proto_join.specs.Texts.{IsInText, sizes_of};
+ghost use Rattle.proto_join.specs.Texts.{IsInTextOf};
 
 /// Files that were read and are joined are well formed together, and in order.
 pub fn joined_is_ordered()
@@ -24,7 +24,7 @@ pub fn joined_alone()
 
 /// A place is in the text of one file at most, and what stands in a file starts in the text of that file.
 pub fn places_apart()
-    ensures one { (sizes : List ℕ) (j k place : ℕ) → IsInText sizes j place → IsInText sizes k place → j ≡ k }
+    ensures one { (sizes : List ℕ) (j k place : ℕ) → IsInTextOf sizes j place → IsInTextOf sizes k place → j ≡ k }
     ensures own { (ps : List Part) (k : ℕ) (x : Declaration) (piece : Piece) (s : Span) → AreSound ps
-        → IsInFile (joined ps) k x → StandsAt (joined ps) s x piece → IsInText (sizes_of ps) k s.start }
+        → IsInFile (joined ps) k x → StandsAt (joined ps) s x piece → IsInText ps k s.start }
 {}

@@ -2,7 +2,7 @@
 
 ghost use Rattle.std.specs.Prelude.{◌≡◌, ℕ, ◌+◌, ◌-◌, ◌<◌, ◌^◌, All, map};
 ghost use Rattle.proto_join.specs.Shifted.{shift_span, shift_word, shift_number, shift_range, shift_type, shift_field, shift_value, shift_rpc};
-ghost use Rattle.proto_join.specs.Within.{IsSpanWithin, IsWordWithin, IsNumberWithin, IsRangeWithin, IsTypeWithin, IsFieldWithin, IsValueWithin, IsRpcWithin};
+ghost use Rattle.proto_file.specs.Within.{IsSpanWithin, IsWordWithin, IsNumberWithin, IsRangeWithin, IsTypeWithin, IsFieldWithin, IsValueWithin, IsRpcWithin};
 
 use mrpc_table::Sequence;
 use proto_file::{FieldDecl, FieldType, Number, Range, RpcDecl, Span, ValueDecl, Word};

@@ -1,10 +1,9 @@
 //! Several files joined to one.
 
 ghost use Rattle.std.specs.Prelude.{◌≡◌, ◌+◌, ◌<◌, ◌^◌, length, sum, [], IfOk, OnOk};
-ghost use Rattle.proto_join.specs.Joining.{joined};
+ghost use Rattle.proto_join.specs.Joining.{joined, sizes_of};
 ghost use Rattle.proto_join.specs.Placing.{CanPlace, with_file};
 ghost use Rattle.proto_join.specs.Sound.{AreSound};
-ghost use Rattle.proto_join.specs.Texts.{sizes_of};
 
 use crate::decls::{append_all, placed_head};
 use crate::part::{Before, Part};

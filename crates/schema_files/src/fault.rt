@@ -2,11 +2,13 @@
 
 ghost use Rattle.std.specs.Prelude.{◌≡◌};
 ghost use Rattle.schema_files.specs.Reason.{files_word};
+ghost use Rattle.schema_files.specs.declared.fault.FilesFault.TheVariants.{Memory as NoMemory};
 
 use mrpc_table::Memory;
 use proto_imports::ImportReason;
 use proto_schema::ProtoReason;
 use schema_offences::ResolveReason;
+use std::alloc::{AllocError, AllocFailed};
 use thiserror::Error;
 
 /// Why a set of files has no table. What stands against a text counts before all that stands against an import, and that
@@ -53,12 +55,25 @@ pub enum FilesFault {
 }
 
 impl From<Memory> for FilesFault {
-    ghost use Rattle.std.specs.Prelude.{◌≡◌};
-    ghost use Rattle.schema_files.specs.declared.fault.FilesFault.TheVariants.{Memory as NoMemory};
-
     ghost from_gives = { λ _ e. e ≡ NoMemory };
 
     fn from(_: Memory) -> FilesFault {
+        FilesFault::Memory
+    }
+}
+
+impl From<AllocError> for FilesFault {
+    ghost from_gives = { λ _ e. e ≡ NoMemory };
+
+    fn from(_: AllocError) -> FilesFault {
+        FilesFault::Memory
+    }
+}
+
+impl<T: Drop> From<AllocFailed<T>> for FilesFault {
+    ghost from_gives = { λ _ e. e ≡ NoMemory };
+
+    fn from(_: AllocFailed<T>) -> FilesFault {
         FilesFault::Memory
     }
 }

@@ -1,9 +1,5 @@
 //! The table of a set of proto files: imports are followed, and the files that the first one reaches are resolved together
 //! (Protocol Buffers, proto3 language guide, "Importing Definitions").
-//!
-//! [`resolve_files`] reads each file by `proto_schema`, follows the imports by `proto_imports`, joins what is reached by
-//! `proto_join`, and has it resolved by `schema_resolve`. `specs/Resolving.antt` says what a set resolves to, and its
-//! first fault. The layer above uses the contract of [`resolve_files`].
 #![tactic(auto)]
 
 mod fault;

@@ -13,11 +13,17 @@ use proto_imports::Member;
 use proto_schema::{ProtoFault, read_proto};
 use std::alloc::Global;
 
+// How many bytes a text has at least, of which no memory holds the tokens.
+const MAX_READ: usize = 0x4000_0000_0000_0000;
+
 // What the file at a place says.
 fn member(alloc: Global, place: usize, packed: &Packed<'_>) -> Result<Member, FilesFault>
     ensures read { IfOk result (ReadsAs (file_of packed.now)) }
     ensures fault { IfErr result (IsUnread (file_of packed.now) place) }
 {
+    if packed.text.len() >= MAX_READ {
+        return Err(FilesFault::Memory);
+    }
     match read_proto(alloc, packed.text) {
         Ok(file) => {
             let path = Name::from_slice(alloc, packed.path)?;

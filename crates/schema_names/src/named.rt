@@ -8,3 +8,11 @@ pub enum Named {
     /// An enum.
     Enum(usize),
 }
+
+// A message or an enum, the place of its file, and where its name starts.
+#[derive(Clone, Copy)]
+pub(crate) struct Declared {
+    pub file: usize,
+    pub start: usize,
+    pub named: Named,
+}

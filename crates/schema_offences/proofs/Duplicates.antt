@@ -116,8 +116,8 @@ pub record Numbered (F : Joined) : Type 0 where
   pub of_enums : HaveNumbers F (length F.enums) F.enums enum_home_of
   pub of_services : HaveNumbers F (length F.services) F.services (λ s. home.File s.file)
 
-module _ (F : Joined) (es : List Entry) (laws : Laws F) (behind : StandBehind F) (order : IsOrdered F) (numbers : Numbered F)
-    (kept : Keeps F es) where
+module _ (F : Joined) (es : List Entry) (laws : Laws F) (behind : StandBehind F) (order : IsOrdered F)
+    (numbers : Numbered F) (kept : Keeps F es) where
   -- ---- what is gathered is declared
 
   data IsDeclared (e : Entry) : Type 0 where
@@ -133,7 +133,8 @@ module _ (F : Joined) (es : List Entry) (laws : Laws F) (behind : StandBehind F)
   declared_message i m e at (Entries.field k f h c) =
       let ms = message_scope h.is_scope in
       let same : ms.decl ≡ m = same_Some ms.decl m (sym ms.at ∙ at) in
-      let up : IsScope F (home_of m) ms.outer = subst (λ (d : MessageDecl). IsScope F (home_of d) ms.outer) same ms.up in
+      let up : IsScope F (home_of m) ms.outer =
+      subst (λ (d : MessageDecl). IsScope F (home_of d) ms.outer) same ms.up in
       let is : h.full ++ f.name.name ∷ [] ≡ ms.outer ++ m.name.name ∷ f.name.name ∷ [] =
       ap (λ (s : List (List ℕ)). s ++ f.name.name ∷ [])
       (ms.is ∙ ap (λ (d : MessageDecl). ms.outer ++ d.name.name ∷ []) same)
@@ -144,7 +145,8 @@ module _ (F : Joined) (es : List Entry) (laws : Laws F) (behind : StandBehind F)
   declared_message i m e at (Entries.oneof k o h c) =
       let ms = message_scope h.is_scope in
       let same : ms.decl ≡ m = same_Some ms.decl m (sym ms.at ∙ at) in
-      let up : IsScope F (home_of m) ms.outer = subst (λ (d : MessageDecl). IsScope F (home_of d) ms.outer) same ms.up in
+      let up : IsScope F (home_of m) ms.outer =
+      subst (λ (d : MessageDecl). IsScope F (home_of d) ms.outer) same ms.up in
       let is : h.full ++ o.name ∷ [] ≡ ms.outer ++ m.name.name ∷ o.name ∷ [] =
       ap (λ (s : List (List ℕ)). s ++ o.name ∷ [])
       (ms.is ∙ ap (λ (d : MessageDecl). ms.outer ++ d.name.name ∷ []) same)
@@ -435,7 +437,8 @@ module _ (F : Joined) (es : List Entry) (laws : Laws F) (behind : StandBehind F)
             let same : p.0 ≡ i = cc in
             let here : slice_get F.messages p.0 ≡ Some n = ap (λ (j : ℕ). slice_get F.messages j) same ∙ at in
             order.ascend (message_decl p.0) (oneof_decl p.0 o.0) its_name its_name n.name.span w.span
-            (Together.oneof_in_message p.0 o.0) (Together.message p.0 n here refl) (Together.oneof p.0 o.0 m w p.1 o.1 refl);
+            (Together.oneof_in_message p.0 o.0) (Together.message p.0 n here refl)
+            (Together.oneof p.0 o.0 m w p.1 o.1 refl);
       })
   where_of file sort full span (Scopes.rpc x r c d) =
       let p = contains_get F.services x c in

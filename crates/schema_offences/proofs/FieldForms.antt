@@ -93,7 +93,8 @@ has_word F file scope w (OfName (Enum i)) is = record {
   has = Types.enum is.1.0 is.0 is.1.1;
 }
 
-pub no_type : (F : Joined) (file : ℕ) (scope : List (List ℕ)) (w : Word) (word : List ℕ) (m p : Bool) → IsNoScalar w.name
+pub no_type : (F : Joined) (file : ℕ) (scope : List (List ℕ)) (w : Word) (word : List ℕ) (m p : Bool)
+    → IsNoScalar w.name
     → IsUnknown F file scope w.name → HasType F file scope w word m p → ⊥
 no_type F file scope w word m p none unknown (Types.scalar k is) = none k is
 no_type F file scope w word m p none unknown (Types.message full s names) = unknown _ full names

@@ -207,7 +207,8 @@ module _ (F : Joined) (old new : Lengths) where
       record {
         fronts = fronts ∙ k.fronts;
         all_messages = ap length ms ∙ k.all_messages;
-        all_enums = omega (arith, ap length es, length-append old.enums.items (full_length old (enum_home_of x) x.name ∷ []));
+        all_enums =
+            omega (arith, ap length es, length-append old.enums.items (full_length old (enum_home_of x) x.name ∷ []));
         of_message = λ j full s l st. ap (λ (xs : List ℕ). get_or xs j 0) ms ∙ k.of_message j full s l st;
         of_enum = λ j full s l st. elim (cases_lt j i) [
           | inl h ↦ ap (λ (xs : List ℕ). get_or xs j 0) es

@@ -68,7 +68,8 @@ MessageParts F file scope n m q s =
     ⊎ AtSome (OfElement m.fields (λ i f. NameOffends m.names MAX_FIELDS i f.name)) q s)
     ⊎ AtSome (OfElement m.oneofs (λ i. IsLong)) q s
 
-pub message_to : (F : Joined) (file : ℕ) (scope : List (List ℕ)) (n : ℕ) (m : MessageDecl) (q : ResolveReason) (s : Span)
+pub message_to : (F : Joined) (file : ℕ) (scope : List (List ℕ)) (n : ℕ) (m : MessageDecl) (q : ResolveReason)
+    (s : Span)
     → MessageParts F file scope n m q s → MessageOffends F file scope n m q s
 message_to F file scope n m q s (inl (inl (inl (inl (inl p))))) = Members.too_many_messages p.0 p.1
 message_to F file scope n m q s (inl (inl (inl (inl (inr p))))) = Members.long_message p
@@ -77,7 +78,8 @@ message_to F file scope n m q s (inl (inl (inr p))) = Members.of_number p.place 
 message_to F file scope n m q s (inl (inr p)) = Members.of_name p.place p.is.element p.is.at p.is.is
 message_to F file scope n m q s (inr p) = Members.of_oneof p.place p.is.element p.is.at p.is.is
 
-pub message_from : (F : Joined) (file : ℕ) (scope : List (List ℕ)) (n : ℕ) (m : MessageDecl) (q : ResolveReason) (s : Span)
+pub message_from : (F : Joined) (file : ℕ) (scope : List (List ℕ)) (n : ℕ) (m : MessageDecl) (q : ResolveReason)
+    (s : Span)
     → MessageOffends F file scope n m q s → MessageParts F file scope n m q s
 message_from F file scope n m q s (Members.too_many_messages p is) = inl (inl (inl (inl (inl (p, is)))))
 message_from F file scope n m q s (Members.long_message p) = inl (inl (inl (inl (inr p))))

@@ -192,7 +192,8 @@ module _ (F : Joined) (kept : Lengths) (k : AreLengths F kept) where
       → Names F x.file (package_at F x.file) r.output.name a_message output
       → IsFirstAt F x.file (Message a) input → IsFirstAt F x.file (Message b) output
       → v ≡ at_most_64_bits (at_most_64_bits
-      (at_most_64_bits (at_most_64_bits ((12 + length (decimal n)) + full_length kept (home.File x.file) x.name) + length r.name.name)
+      (at_most_64_bits (at_most_64_bits ((12 + length (decimal n)) + full_length kept (home.File x.file) x.name)
+      + length r.name.name)
       + get_or kept.messages.items a 0) + get_or kept.messages.items b 0)
       → IsLineOf F (rpc_decl i j) (r.name.span, v)
   method_line i j n x r a b input output v at rat count there names_in names_out first_in first_out e =

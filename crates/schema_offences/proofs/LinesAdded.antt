@@ -62,7 +62,8 @@ same_decl F d e s text own at c p q =
     ∙ own_back d own
 
 -- the name of a line stands in the text
-pub line_stands : (F : Joined) (d : Declaration) (s : Span) (text : List ℕ) → LineAt F d s text → StandsAt F s d its_name
+pub line_stands : (F : Joined) (d : Declaration) (s : Span) (text : List ℕ) → LineAt F d s text
+    → StandsAt F s d its_name
 line_stands F d s text (Lengths.of_message i m at is) = Together.message i m at refl
 line_stands F d s text (Lengths.of_field i j m f n at fat is e k form) =
     Together.field i j m f at fat (Order.field_name refl)

@@ -161,10 +161,12 @@ module _ (F : Joined) (apart : StartApart F)
       let rpc : q ≡ r =
       same_Some q r (sym (subst (λ (z : ServiceDecl). slice_get z.rpcs j ≡ Some q) same qat) ∙ rat) in
       let number : m ≡ n = g ∙ sym e in
-      let inputs : input ≡ first = (names F x.file (package_at F x.file) r.input.name a_message a_message input first apart a
+      let inputs : input ≡ first =
+      (names F x.file (package_at F x.file) r.input.name a_message a_message input first apart a
       (subst (λ (z : ServiceDecl). Names F z.file (package_at F z.file) r.input.name a_message first) same
       (subst (λ (z : RpcDecl). Names F y.file (package_at F y.file) z.input.name a_message first) rpc a2))).1 in
-      let outputs : output ≡ last = (names F x.file (package_at F x.file) r.output.name a_message a_message output last apart b
+      let outputs : output ≡ last =
+      (names F x.file (package_at F x.file) r.output.name a_message a_message output last apart b
       (subst (λ (z : ServiceDecl). Names F z.file (package_at F z.file) r.output.name a_message last) same
       (subst (λ (z : RpcDecl). Names F y.file (package_at F y.file) z.output.name a_message last) rpc b2))).1 in (
         ap (λ (z : RpcDecl). z.name.span) (sym rpc),

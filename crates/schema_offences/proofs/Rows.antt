@@ -120,7 +120,8 @@ abbrev first_a : MessageDecl
 first_a = message_with (codes "A") [] []
 
 abbrev second_a : MessageDecl
-second_a = record { name = word (codes "A") 2; file = 0; parent = None; fields = []; oneofs = []; ranges = []; names = [] }
+second_a =
+    record { name = word (codes "A") 2; file = 0; parent = None; fields = []; oneofs = []; ranges = []; names = [] }
 
 name_row : IsOffence (file_of (first_a ∷ second_a ∷ []) [] [] []) DuplicateName (at 2)
 name_row =

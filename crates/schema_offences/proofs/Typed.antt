@@ -29,11 +29,13 @@ use Rattle.schema_offences.proofs.Unless.{meets_unless}
 abbrev IsNone : Joined → ℕ → List (List ℕ) → Word → Type 0
 IsNone F file scope w = IsNoScalar w.name × IsUnknown F file scope w.name
 
-known_type : (F : Joined) (file : ℕ) (scope : List (List ℕ)) (w : Word) (t : TypeOf) → IsType F file scope w.name t → IsNone F file scope w → ⊥
+known_type : (F : Joined) (file : ℕ) (scope : List (List ℕ)) (w : Word) (t : TypeOf) → IsType F file scope w.name t
+    → IsNone F file scope w → ⊥
 known_type F file scope w (Scalar k) is none = none.0 k is
 known_type F file scope w (OfName n) is none = none.1 (sort_of n) is.1.0 is.1.1
 
-pub meets_no_type : (F : Joined) (file : ℕ) (scope : List (List ℕ)) (w : Word) (o : Option TypeOf) (missing : Bool) (a b : First)
+pub meets_no_type : (F : Joined) (file : ℕ) (scope : List (List ℕ)) (w : Word) (o : Option TypeOf) (missing : Bool)
+    (a b : First)
     → is_some o ≡ not missing
     → MatchOption o (IsNoScalar w.name × IsUnknown F file scope w.name) (IsType F file scope w.name)
     → b.found ≡ cond missing (Some (first_of a.found (record { reason = UnknownName; span = w.span }))) a.found
@@ -84,7 +86,8 @@ meets_key F file scope key t bad a b is e noted =
     e noted))
     (key_to F file scope key t is) (key_from F file scope key t is)
 
-no_key_from : (F : Joined) (file : ℕ) (scope : List (List ℕ)) (key : Word) → IsNoScalar key.name × IsUnknown F file scope key.name
+no_key_from : (F : Joined) (file : ℕ) (scope : List (List ℕ)) (key : Word)
+    → IsNoScalar key.name × IsUnknown F file scope key.name
     → (q : ResolveReason) (s : Span) → KeyOffends F file scope key q s → Is UnknownName key.span q s
 no_key_from F file scope key none q s (Members.unknown_key p) = p.is
 no_key_from F file scope key none q s (Members.scalar_key j named bad here) = absurd (none.0 j named)
@@ -120,7 +123,8 @@ type_to F file scope f q s (inl p) = kind_to F file scope f f.kind refl q s p
 type_to F file scope f q s (inr p) = Members.misplaced p.0 p.1
 
 pub type_from : (F : Joined) (file : ℕ) (scope : List (List ℕ)) (f : FieldDecl) (q : ResolveReason) (s : Span)
-    → TypeOffends F file scope f q s → KindOffends F file scope f.kind q s ⊎ (IsMisplaced f × Is MapPlace f.name.span q s)
+    → TypeOffends F file scope f q s → KindOffends F file scope f.kind q s
+    ⊎ (IsMisplaced f × Is MapPlace f.name.span q s)
 type_from F file scope f q s (Members.unknown_type w e p) =
     inl (subst (λ (k : FieldType). KindOffends F file scope k q s) (sym e) p)
 type_from F file scope f q s (Members.bad_key k v e p) =

@@ -41,8 +41,8 @@ pub fn first_offence<'a>(
     Ok(first.found)
 }
 
-/// The first offence of a file alone, whose first offence but for imports was found: where it has imports, the first one
-/// stands against it, too.
+/// The first offence of a file alone, whose first offence but for imports was found. Where it has imports, the first
+/// one stands against it, too.
 pub fn with_import(file: &File, found: Option<Offence>) -> Option<Offence>
     requires { FirstIs (alone file.now) found }
     ensures { FirstOfFileIs file.now result }

@@ -1,19 +1,15 @@
 -- What resolving answers.
-use Rattle.std.proofs.Common.{◌≡◌, length, refl}
-use Rattle.std.specs.Prelude.{Result, Ok, Err, IfOk, IfErr, MatchResult}
+use Rattle.std.proofs.Common.{◌≡◌, ◌∙◌, List, length, ap}
 use Rattle.std.proofs.lemmas.List.Elements.{All-contains}
-use Rattle.mrpc_table.specs.Valid.{IsValid}
-use Rattle.mrpc_table.specs.declared.table.Table.{Table}
 use Rattle.proto_file.specs.Order.{IsPlaceBelow}
 use Rattle.proto_file.specs.Together.{IsFormed}
+use Rattle.proto_file.specs.declared.file.MessageDecl.{MessageDecl}
 use Rattle.proto_file.specs.declared.file.EnumDecl.{EnumDecl}
+use Rattle.proto_file.specs.declared.file.ServiceDecl.{ServiceDecl}
+use Rattle.proto_file.specs.declared.joined.Head.{Head}
 use Rattle.proto_file.specs.declared.file.File.{File}
 use Rattle.proto_file.specs.Joined.{Joined, alone}
 use Rattle.schema_names.specs.Numbers.{StandBehind}
-use Rattle.schema_resolve.specs.Tables.{IsTableOf}
-use Rattle.schema_resolve.specs.Resolving.{ResolvesTogether, IsFaultOfAll, Resolves, IsFaultOf}
-use Rattle.schema_resolve.specs.declared.fault.ResolveFault.{ResolveFault}
-use Rattle.schema_resolve.specs.declared.fault.ResolveFault.TheVariants as faults
 use Rattle.schema_resolve.proofs.CleanFiles.{parent_below}
 
 pub stands_behind : (F : Joined) → IsFormed F → StandBehind F
@@ -25,36 +21,16 @@ stands_behind F formed = record {
   enum_files = formed.enum_files;
 }
 
-fault_is_memory : (F : Joined) (t : Table) (e : ResolveFault) → ResolvesTogether F t → IsFaultOfAll F e
-    → e ≡ faults.Memory
-fault_is_memory F t (faults.At q start end line) r h = absurd (r.clean q _ h.offence)
-fault_is_memory F t faults.Memory r h = refl
-
--- files that have a table give it, unless memory runs out
-pub only_this : (F : Joined) (result : Result Table ResolveFault) → ((t u : Table) → IsTableOf F t → IsTableOf F u → t ≡ u)
-    → IfOk result (ResolvesTogether F) → IfErr result (IsFaultOfAll F) → (t : Table) → ResolvesTogether F t
-    → MatchResult result (λ u. u ≡ t) (λ e. e ≡ faults.Memory)
-only_this F (Ok u) one resolves fault t r = one u t resolves.table r.table
-only_this F (Err e) one resolves fault t r = fault_is_memory F t e r fault
-
-pub valid_of : (F : Joined) (result : Result Table ResolveFault) → IfOk result (ResolvesTogether F) → IfOk result IsValid
-valid_of F (Ok t) resolves = resolves.table.valid
-valid_of F (Err e) resolves = tt
-
 -- ---- a file alone
 
-fault_is_memory_alone : (F : File) (t : Table) (e : ResolveFault) → Resolves F t → IsFaultOf F e → e ≡ faults.Memory
-fault_is_memory_alone F t (faults.At q start end line) r h = absurd (r.clean q _ h.offence)
-fault_is_memory_alone F t faults.Memory r h = refl
+abbrev joined : List Head → List MessageDecl → List EnumDecl → List ServiceDecl → Joined
+joined heads messages enums services =
+    record { heads = heads; messages = messages; enums = enums; services = services }
 
--- a file that has a table gives it, unless memory runs out
-pub only_this_alone : (F : File) (result : Result Table ResolveFault)
-    → ((t u : Table) → IsTableOf (alone F) t → IsTableOf (alone F) u → t ≡ u)
-    → IfOk result (Resolves F) → IfErr result (IsFaultOf F) → (t : Table) → Resolves F t
-    → MatchResult result (λ u. u ≡ t) (λ e. e ≡ faults.Memory)
-only_this_alone F (Ok u) one resolves fault t r = one u t resolves.table r.table
-only_this_alone F (Err e) one resolves fault t r = fault_is_memory_alone F t e r fault
-
-pub valid_of_alone : (F : File) (result : Result Table ResolveFault) → IfOk result (Resolves F) → IfOk result IsValid
-valid_of_alone F (Ok t) resolves = resolves.table.valid
-valid_of_alone F (Err e) resolves = tt
+pub is_alone : (F : File) (J : Joined) (hs : List Head) (ms : List MessageDecl) (es : List EnumDecl)
+    (ss : List ServiceDecl) → J ≡ record { heads = hs; messages = ms; enums = es; services = ss }
+    → hs ≡ (alone F).heads → ms ≡ F.messages → es ≡ F.enums → ss ≡ F.services → J ≡ alone F
+is_alone F J hs ms es ss is h m e s =
+    is ∙ ap (λ (x : List Head). joined x ms es ss) h ∙ ap (λ (x : List MessageDecl). joined (alone F).heads x es ss) m
+    ∙ ap (λ (x : List EnumDecl). joined (alone F).heads F.messages x ss) e
+    ∙ ap (λ (x : List ServiceDecl). joined (alone F).heads F.messages F.enums x) s

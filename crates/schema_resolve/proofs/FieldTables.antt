@@ -1,4 +1,4 @@
--- The fields of a clean file have forms, and numbers that differ.
+-- The fields of clean files have forms, and numbers that differ.
 use Rattle.std.proofs.Common.{◌≡◌, ◌≢◌, ℕ, suc, ◌+◌, ◌<◌, ◌≤◌, inl, inr, Bool, true, false, List, [], ◌∷◌, ◌++◌, length, get_or, map, take, Option, Some, None, refl, sym, ap, ◌∙◌, subst, arith}
 use Rattle.std.specs.Prelude.{Contains, slice_get, pos, IsTrue}
 use Rattle.mrpc_table.specs.Names.{is_name_form}

@@ -16,7 +16,7 @@ use Rattle.mrpc_table.specs.declared.table.Label.TheVariants.{Plain, Optional, R
 use Rattle.mrpc_table.specs.declared.table.Field.{Field}
 use Rattle.mrpc_table.specs.declared.table.Message.{Message}
 use Rattle.mrpc_table.specs.declared.table.Table.{Table}
-use Rattle.proto_file.specs.Order.{HasName, IsFormedField, IsFormedMessage, IsPlaceBelow}
+use Rattle.proto_file.specs.Order.{HasName, IsFormedField, IsPlaceBelow}
 use Rattle.proto_file.specs.Together.{IsFormed, IsOrdered, oneof_decl}
 use Rattle.proto_file.specs.declared.file.Word.{Word}
 use Rattle.proto_file.specs.declared.file.FieldDecl.{FieldDecl}

@@ -1,6 +1,5 @@
 -- A file alone has one first offence at most.
-use Rattle.std.proofs.Common.{◌≡◌, ℕ, ◌+◌, ◌<◌, ◌≤◌, inl, inr, List, Some, refl, sym, ap, ◌∙◌, subst, arith}
-use Rattle.std.specs.Prelude.{slice_get}
+use Rattle.std.proofs.Common.{◌≡◌, ℕ, ◌≤◌, inl, inr, List, sym, ap, ◌∙◌, subst, arith}
 use Rattle.std.proofs.lemmas.Option.{same_Some}
 use Rattle.proto_file.specs.Joined.{Joined, alone}
 use Rattle.proto_file.specs.declared.file.Span.{Span}
@@ -16,7 +15,7 @@ use Rattle.schema_offences.specs.Members.{Is, KeyOffends, TypeOffends, NumberOff
 use Rattle.schema_offences.specs.Offences
 use Rattle.schema_offences.specs.Offences.{Offends, IsOffence, offends, has_import, rank_of, ComesFirst, HasOffence, HasFirst}
 use Rattle.schema_offences.specs.declared.reason.ResolveReason.{ResolveReason}
-use Rattle.schema_offences.specs.declared.reason.ResolveReason.TheVariants.{UnknownName, NumberRange, DuplicateNumber, DuplicateName, Reserved, FirstEnum, MapKey, MapPlace, Limit, Import as HasImport}
+use Rattle.schema_offences.specs.declared.reason.ResolveReason.TheVariants.{UnknownName, NumberRange, DuplicateNumber, DuplicateName, Reserved, FirstEnum, MapKey, MapPlace, Limit}
 
 -- ---- what stands against files is no import
 

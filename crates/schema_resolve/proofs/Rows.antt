@@ -1,15 +1,14 @@
 -- Two small files that are resolved together, and their table.
-use Rattle.std.proofs.Common.{◌≡◌, ◌≢◌, ℕ, zero, suc, ◌+◌, ◌<◌, ◌≤◌, inl, false, true, List, [], ◌∷◌, ◌++◌, length, Option, Some, None, refl, sym, ap, ◌∙◌, subst, arith, length-append, lit≤, lit<}
+use Rattle.std.proofs.Common.{◌≡◌, ℕ, zero, suc, ◌+◌, ◌≤◌, inl, false, true, List, [], ◌∷◌, ◌++◌, length, Some, None, refl, sym, ap, subst, arith, length-append, lit≤, lit<}
 use Rattle.std.specs.Prelude.{codes, slice_get, Contains}
 use Rattle.std.specs.Fmt.{digits}
 use Rattle.std.proofs.lemmas.Option.{same_Some, none-some}
 use Rattle.std.proofs.lemmas.List.Elements.{All-from_recursion}
-use Rattle.mrpc_table.specs.Names.{IsName, IsFullName}
+use Rattle.mrpc_table.specs.Names.{IsName}
 use Rattle.mrpc_table.specs.Text.{table_text}
 use Rattle.mrpc_table.specs.declared.limits.TheConstants.{MAX_TEXT}
-use Rattle.mrpc_table.specs.Valid.{IsValid, IsMessage, IsMethod, IsField, IsFieldNumber, IsEnum}
+use Rattle.mrpc_table.specs.Valid.{IsValid, IsMessage, IsMethod, IsField, IsEnum}
 use Rattle.mrpc_table.specs.declared.words.Decimal.TheVariants.{Small}
-use Rattle.mrpc_table.specs.declared.table.Kind.{Kind}
 use Rattle.mrpc_table.specs.declared.table.Kind.TheVariants as kinds
 use Rattle.mrpc_table.specs.declared.table.Label.TheVariants as labels
 use Rattle.mrpc_table.specs.declared.table.Field.{Field}
@@ -23,15 +22,13 @@ use Rattle.proto_file.specs.declared.file.FieldLabel.TheVariants.{Plain}
 use Rattle.proto_file.specs.declared.file.FieldType.TheVariants.{Named}
 use Rattle.proto_file.specs.declared.file.FieldDecl.{FieldDecl}
 use Rattle.proto_file.specs.declared.file.MessageDecl.{MessageDecl}
-use Rattle.proto_file.specs.declared.file.EnumDecl.{EnumDecl}
 use Rattle.proto_file.specs.declared.file.RpcDecl.{RpcDecl}
 use Rattle.proto_file.specs.declared.file.ServiceDecl.{ServiceDecl}
 use Rattle.proto_file.specs.declared.joined.Head.{Head}
 use Rattle.proto_file.specs.declared.joined.Home.TheVariants as home
 use Rattle.schema_names.specs.Scopes
 use Rattle.schema_names.specs.Scopes.{IsScope, of_file, of_message, Sort, a_message, is_type, Declares, IsThere, a_type, a_package, Decides, here, outward, relative, Names}
-use Rattle.schema_offences.specs.Methods.{rpcs_of}
-use Rattle.schema_offences.specs.Types.{no_table, IsScalar, IsNoScalar, scalar_of, message, single}
+use Rattle.schema_offences.specs.Types.{IsNoScalar, scalar_of, message, single}
 use Rattle.schema_offences.specs.Those.{AreThose, AreThoseInOrder, none, next}
 use Rattle.schema_resolve.specs.Tables.{IsFieldOf, IsMessageOf, IsEnumOf, IsMethodOf, IsTableOf}
 use Rattle.schema_resolve.proofs.CleanFiles.{in_list, at_in, scope_of_file}
@@ -371,8 +368,10 @@ valid_row = record {
   enums_ascend = tt;
   messages = All-from_recursion (IsMessage table) (message_a ∷ message_b ∷ []) (valid_a, (valid_b, tt));
   messages_ascend = (refl, tt);
-  types = (λ c. not_in_one (codes "a.A") (codes "b.B") c.0 names_differ (at_in (codes "b.B" ∷ []) (codes "a.A") c),
-    (λ c. none_in (codes "b.B") c, tt));
+  types = (
+    λ c. not_in_one (codes "a.A") (codes "b.B") c.0 names_differ (at_in (codes "b.B" ∷ []) (codes "a.A") c),
+    (λ c. none_in (codes "b.B") c, tt),
+  );
   methods = All-from_recursion (IsMethod table) (method_r ∷ []) (valid_r, tt);
   method_names = (λ c. none_in (codes "b.S", codes "R") c, tt);
   short = short_row;

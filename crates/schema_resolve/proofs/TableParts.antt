@@ -16,8 +16,6 @@ use Rattle.mrpc_table.specs.declared.table.Table.{Table}
 use Rattle.proto_file.specs.Order
 use Rattle.proto_file.specs.Order.{IsFormedRpc, IsFormedService}
 use Rattle.proto_file.specs.Together.{IsFormed, IsOrdered, enum_decl, message_decl, rpc_decl}
-use Rattle.proto_file.specs.declared.file.MessageDecl.{MessageDecl}
-use Rattle.proto_file.specs.declared.file.EnumDecl.{EnumDecl}
 use Rattle.proto_file.specs.declared.file.RpcDecl.{RpcDecl}
 use Rattle.proto_file.specs.declared.file.ServiceDecl.{ServiceDecl}
 use Rattle.proto_file.specs.Joined.{Joined, package_at}
@@ -25,11 +23,11 @@ use Rattle.proto_file.specs.Together
 use Rattle.schema_names.specs.Scopes
 use Rattle.schema_names.specs.Scopes.{a_message, an_enum, no_type, text_of}
 use Rattle.schema_offences.specs.Methods.{rpcs_of, service_rpcs}
-use Rattle.schema_offences.specs.Those.{AreThose, AreThoseInOrder, none, next}
+use Rattle.schema_offences.specs.Those.{AreThoseInOrder, none, next}
 use Rattle.schema_offences.specs.Members.{too_many_methods}
 use Rattle.schema_offences.specs.Offences
 use Rattle.schema_offences.specs.declared.reason.ResolveReason.TheVariants.{Limit}
-use Rattle.schema_resolve.specs.Tables.{IsMessageOf, IsEnumOf, IsMethodOf, IsTableOf}
+use Rattle.schema_resolve.specs.Tables.{IsMethodOf, IsTableOf}
 use Rattle.schema_resolve.specs.Resolving.{IsClean}
 use Rattle.schema_resolve.specs.Placing.{name_at, IsPlan, HasNames}
 use Rattle.schema_resolve.specs.InOrder.{IsEnumAt, IsMethodIn}
@@ -39,7 +37,7 @@ use Rattle.schema_resolve.specs.declared.plan.Plan.{Plan}
 use Rattle.schema_resolve.proofs.FullNames.{AreNames, package_names, names_more, same_text}
 use Rattle.schema_resolve.proofs.Orders.{apart_distinct, ascends_apart, below_trans, below_strict}
 use Rattle.schema_resolve.proofs.CleanFiles.{in_list, at_in, some_at, one_declaration, here_message, here_enum, message_text, enum_text, few_messages, few_enums}
-use Rattle.schema_resolve.proofs.EnumTables.{contains_map, map_contains}
+use Rattle.schema_resolve.proofs.EnumTables.{map_contains}
 use Rattle.schema_resolve.proofs.FieldTables.{field_names}
 use Rattle.schema_resolve.proofs.MessageTables.{in_order_weaker, in_order_get, in_order_back, in_order_map}
 

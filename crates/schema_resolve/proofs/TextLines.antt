@@ -1,6 +1,6 @@
 -- The lines of a table's text by the places of their names: none passes the text's limit where nothing stands against the
 -- files.
-use Rattle.std.proofs.Common.{◌≡◌, ◌≢◌, ℕ, suc, ◌+◌, ◌<◌, ◌≤◌, inl, inr, Bool, true, false, cond, List, [], ◌∷◌, ◌++◌, length, map, ltb, refl, sym, ap, ◌∙◌, subst, arith, zero-add}
+use Rattle.std.proofs.Common.{◌≡◌, ◌≢◌, ℕ, suc, ◌+◌, ◌<◌, ◌≤◌, inl, inr, Bool, true, false, cond, List, [], ◌∷◌, ◌++◌, length, map, ltb, refl, sym, ap, ◌∙◌, subst, arith}
 use Rattle.std.specs.Prelude.{Contains}
 use Rattle.std.specs.List.{flat_map, AllByRecursion}
 use Rattle.std.proofs.lemmas.Bool.{cases_lt, ltb-true, ltb-false}
@@ -193,7 +193,7 @@ entries_total : (es : List Entry) → total (map line_in es) ≡ length (text_in
 entries_total [] = refl
 entries_total (e ∷ es) = ap (λ (n : ℕ). length e.line + n) (entries_total es) ∙ sym (length-append e.line (text_in es))
 
--- the text of different declarations of a clean file isn't too long
+-- the text of different declarations of clean files isn't too long
 pub entries_short : (F : Joined) (es : List Entry) → IsOrdered F → IsClean F → AllByRecursion (IsEntry F) es
     → AllDiffer es → length (text_in es) ≤ MAX_TEXT
 entries_short F es ordered clean h d = elim (cases_lt MAX_TEXT (length (text_in es))) [

@@ -1,5 +1,5 @@
 -- The values of enums and the methods of services, as a table has them.
-use Rattle.std.specs.Prelude.{◌≡◌, ℕ, ℤ, ◌<◌, List, [], ◌∷◌, length, map, slice_get, Some}
+use Rattle.std.specs.Prelude.{◌≡◌, ℕ, ℤ, ◌<◌, List, length, map, slice_get, Some}
 use Rattle.std.specs.Borrow.{Bor}
 use Rattle.mrpc_table.specs.Valid.{Ascends, AreDistinct, IsValueBelow, IsEnum, IsMethod}
 use Rattle.mrpc_table.specs.Text.{message_name}

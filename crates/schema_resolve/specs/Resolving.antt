@@ -1,5 +1,4 @@
 -- What files resolve to: their table where nothing stands against them, and else their first offence.
-use Rattle.std.specs.Prelude.{ℕ}
 use Rattle.mrpc_table.specs.declared.table.Table.{Table}
 use Rattle.proto_file.specs.Joined.{Joined, alone}
 use Rattle.proto_file.specs.declared.file.Span.{Span}

@@ -63,7 +63,12 @@ fn copied(alloc: Global, values: &[(i32, &[u8])]) -> Result<ChoiceValues, Memory
 }
 
 /// The enum at a place of files against which nothing stands.
-pub fn enum_in(alloc: Global, files: &Joined<'_>, plan: &Plan, place: usize) -> Result<Choices, Memory>
+pub fn enum_in(
+    alloc: Global,
+    files: &Joined<'_>,
+    plan: &Plan,
+    place: usize,
+) -> Result<Choices, Memory>
     requires formed { IsFormed files.now }
     requires ordered { IsOrdered files.now }
     requires clean { IsClean files.now }

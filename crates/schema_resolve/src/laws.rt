@@ -1,7 +1,8 @@
 //! Laws of tables and of first offences.
 
-ghost use Rattle.std.specs.Prelude.{◌≡◌};
+ghost use Rattle.std.specs.Prelude.{◌≡◌, ℕ, List};
 ghost use Rattle.mrpc_table.specs.declared.table.Table.{Table};
+ghost use Rattle.proto_schema.specs.Faults.{IsTextOf};
 ghost use Rattle.proto_file.specs.Joined.{Joined};
 ghost use Rattle.proto_file.specs.Together.{IsOrdered};
 ghost use Rattle.proto_file.specs.declared.file.Span.{Span};
@@ -12,6 +13,7 @@ ghost use Rattle.schema_resolve.specs.Resolving.{Resolves, ResolvesTogether};
 ghost use Rattle.schema_offences.specs.declared.reason.ResolveReason.{ResolveReason};
 
 use crate::same_text::one_table_text;
+use proto_schema::alone_is_ordered;
 use table_text::one_text;
 
 /// Files in order have one table at most: two tables that say what they say are equal.
@@ -20,6 +22,15 @@ pub fn one_table()
 {
     one_table_text();
     one_text();
+}
+
+/// A file that was read has one first offence at most: two of them have one reason and stand at one place.
+pub fn one_offence()
+    ensures { (text : List ℕ) (F : File) (q r : ResolveReason) (s t : Span) → IsTextOf text F → HasOffence F q s
+        → HasOffence F r t → (q ≡ r) × (s ≡ t) }
+{
+    alone_is_ordered();
+    schema_offences::one_offence();
 }
 
 /// No file has both a table and a first offence, nor have files that are resolved together.

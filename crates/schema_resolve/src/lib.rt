@@ -17,9 +17,11 @@ mod oneof_table;
 mod placed;
 mod plan;
 mod resolved;
+mod resolver;
 mod same_text;
 mod table;
 
 pub use fault::ResolveFault;
-pub use laws::{one_table, table_or_offence};
+pub use laws::{one_offence, one_table, table_or_offence};
 pub use resolved::resolve_together;
+pub use resolver::resolve;

@@ -1,6 +1,6 @@
 //! The methods of a table.
 
-ghost use Rattle.std.specs.Prelude.{◌≡◌, ◌<◌, List, [], ◌∷◌, ◌++◌, length, IfOk, OnOk, Contains};
+ghost use Rattle.std.specs.Prelude.{◌≡◌, ◌<◌, List, ◌++◌, length, IfOk, OnOk, Contains};
 ghost use Rattle.mrpc_table.specs.declared.table.Table.{Table};
 ghost use Rattle.proto_file.specs.declared.file.ServiceDecl.{ServiceDecl};
 ghost use Rattle.proto_file.specs.declared.file.RpcDecl.{RpcDecl};

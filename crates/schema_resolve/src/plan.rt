@@ -71,11 +71,7 @@ fn front_names(alloc: Global, files: &Joined<'_>) -> Result<Vec<Name>, Memory>
     Ok(fronts)
 }
 
-fn message_names(
-    alloc: Global,
-    files: &Joined<'_>,
-    fronts: &[Name],
-) -> Result<Vec<Name>, Memory>
+fn message_names(alloc: Global, files: &Joined<'_>, fronts: &[Name]) -> Result<Vec<Name>, Memory>
     requires formed { IsFormed files.now }
     requires fronts { AreFronts files.now fronts.now }
     ensures count { IfOk result (λ v. length v.items ≡ length files.now.messages) }

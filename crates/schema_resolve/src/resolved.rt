@@ -1,10 +1,10 @@
 //! The table of files that are resolved together, or their first offence.
 
-ghost use Rattle.std.specs.Prelude.{◌≡◌, List, ℕ, IfOk, IfErr, MatchResult};
+ghost use Rattle.std.specs.Prelude.{◌≡◌, IfOk, IfErr, MatchResult};
 ghost use Rattle.mrpc_table.specs.declared.table.Table.{Table};
 ghost use Rattle.mrpc_table.specs.Valid.{IsValid};
 ghost use Rattle.proto_file.specs.Together.{IsFormed, IsOrdered};
-ghost use Rattle.schema_resolve.specs.Resolving.{IsClean, ResolvesTogether, IsFaultOfAll};
+ghost use Rattle.schema_resolve.specs.Resolving.{ResolvesTogether, IsFaultOfAll};
 ghost use Rattle.schema_resolve.specs.declared.fault.ResolveFault.TheVariants as faults;
 
 use crate::fault::{ResolveFault, fault_of};

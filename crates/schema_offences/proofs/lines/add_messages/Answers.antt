@@ -13,7 +13,8 @@ use Rattle.schema_offences.proofs.lines.add_messages.Goals as goal
 
 pub add_fields-requires-clause-scope : goal.add_fields-requires-clause-scope
 add_fields-requires-clause-scope c =
-    c.one_scope.ensures.exists c.args.files.now (home.Message c.loop-i.i) (stand_behind c.args.files.now c.requires.formed)
+    c.one_scope.ensures.exists c.args.files.now (home.Message c.loop-i.i) (stand_behind c.args.files.now
+    c.requires.formed)
     (omega (arith, ap length c.messages-all.ensures, c.loop-i-test.true))
 
 pub add_fields-requires-clause-message : goal.add_fields-requires-clause-message

@@ -20,10 +20,12 @@ loop-j-preserved c =
     let rat : slice_get x.rpcs j ≡ Some r =
     item_at c.as_slice-rpcs.result.now x.rpcs j r c.as_slice-rpcs.ensures l c.index-rpcs-j.is in
     let is : IsLengthAt F (rpc_decl c.args.i j) r.name.span c.method_length-length.result =
-    subst (λ (G : Joined). IsLengthAt G (rpc_decl c.args.i j) r.name.span c.method_length-length.result) c.requires.scopes
+    subst (λ (G : Joined). IsLengthAt G (rpc_decl c.args.i j) r.name.span c.method_length-length.result)
+    c.requires.scopes
     (c.method_length-length.ensures c.args.i j
     (ap (λ (G : Joined). slice_get G.services c.args.i) c.requires.scopes ∙ at) rat
-    (ap (λ (n : ℕ). n + j) (c.requires.before ∙ ap (λ (G : Joined). rpcs_before G c.args.i) (sym c.requires.scopes)))) in
+    (ap (λ (n : ℕ). n + j)
+    (c.requires.before ∙ ap (λ (G : Joined). rpcs_before G c.args.i) (sym c.requires.scopes)))) in
     let more = covers_add F 2 c.args.i j c.loop-j.lines.items c.requires.ordered (rpc_decl c.args.i j) r.name.span
     c.method_length-length.result (own_rpc c.args.i j) refl refl refl is c.loop-j.invariant in
     subst (Covers F 2 c.args.i (j + 1)) (sym c.in_ok-add.ensures) more

@@ -20,4 +20,5 @@ pub returns : goal.returns
 returns c scope h =
     let xs = c.args.fields.now in
     let e : c.loop-i.i ≡ length xs = omega (arith, c.loop-i-test.false, c.loop-i.auto.i-end) in
-    meets_elements xs (λ i. TypeOffends c.args.scopes.now c.args.file scope) c.loop-i.i _ _ e (c.loop-i.invariant scope h)
+    meets_elements xs (λ i. TypeOffends c.args.scopes.now c.args.file scope) c.loop-i.i _ _ e (c.loop-i.invariant
+    scope h)

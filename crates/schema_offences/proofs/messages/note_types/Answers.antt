@@ -15,7 +15,8 @@ returns c scope h =
     let f = c.args.field.now in
     let F = c.args.scopes.now in
     let file = c.args.file in
-    let kind : Meets (KindOffends F file scope f.kind) c.args.first.now c.match-field.first = elim c.match-field.branch [
+    let kind : Meets (KindOffends F file scope f.kind) c.args.first.now c.match-field.first =
+    elim c.match-field.branch [
       | in-Named w ↦
           subst (λ (b : First). Meets (KindOffends F file scope f.kind) c.args.first.now b) (sym w.first-is)
           (subst (λ (k : FieldType). Meets (KindOffends F file scope k) c.args.first.now w.note_type.new.first)

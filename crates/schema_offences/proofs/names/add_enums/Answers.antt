@@ -16,7 +16,8 @@ add_enum-requires-clause-home c =
     let at : slice_get F.enums c.loop-i.i ≡ Some x =
     item_at c.enums-enums.result.now F.enums c.loop-i.i x
     c.enums-enums.ensures l c.index-enums-i.is in
-    subst (λ (G : Joined). IsPlace G (enum_home_of x)) (sym c.requires.scopes) (enum_place F c.requires.behind c.loop-i.i x at)
+    subst (λ (G : Joined). IsPlace G (enum_home_of x)) (sym c.requires.scopes) (enum_place F c.requires.behind
+    c.loop-i.i x at)
 
 pub loop-i-preserved : goal.loop-i-preserved
 loop-i-preserved c =

@@ -22,7 +22,8 @@ add_service-requires-clause-home c =
     let at : slice_get F.services c.loop-i.i ≡ Some x =
     item_at c.services-services.result.now F.services c.loop-i.i x
     c.services-services.ensures l c.index-services-i.is in
-    subst (λ (G : Joined). IsPlace G (home.File x.file)) (sym c.requires.scopes) (service_file F c.requires.formed c.loop-i.i x at)
+    subst (λ (G : Joined). IsPlace G (home.File x.file)) (sym c.requires.scopes) (service_file F c.requires.formed
+    c.loop-i.i x at)
 
 pub loop-i-preserved : goal.loop-i-preserved
 loop-i-preserved c =
@@ -33,13 +34,15 @@ loop-i-preserved c =
     item_at c.services-services.result.now F.services c.loop-i.i x
     c.services-services.ensures l c.index-services-i.is in
     record {
-      numbers = numbers_next F F.services (λ (s : ServiceDecl). home.File s.file) c.loop-i.i x at c.loop-i.invariant.numbers
+      numbers =
+          numbers_next F F.services (λ (s : ServiceDecl). home.File s.file) c.loop-i.i x at c.loop-i.invariant.numbers
           (subst (λ (G : Joined). (k : ℕ) × HasNumber G (home.File x.file) k) c.requires.scopes
           c.in_ok-add_service.ensures.number);
       names = adds_next F.services (OfService F) c.loop-i.i x _ _ _ at c.loop-i.invariant.names
           (subst (λ (G : Joined). Adds (OfService G c.loop-i.i x)
           (entries_of c.loop-i.names.items) (entries_of c.add_service.new.names.items))
-          c.requires.scopes (c.in_ok-add_service.ensures.names c.loop-i.i (ap (λ (n : ℕ). n + c.loop-i.i) c.count.ensures.is)));
+          c.requires.scopes (c.in_ok-add_service.ensures.names c.loop-i.i (ap (λ (n : ℕ). n + c.loop-i.i)
+          c.count.ensures.is)));
     }
 
 pub returns-clause-numbers : goal.returns-clause-numbers

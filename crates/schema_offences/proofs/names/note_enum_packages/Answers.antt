@@ -39,7 +39,8 @@ loop-i-preserved c =
     item_at c.enums-enums.result.now F.enums i x c.enums-enums.ensures l c.index-enums-i.is in
     meets_next F.enums (λ (j : ℕ) (x : EnumDecl). IsPackageNamed F (enum_home_of x) x.name) i x c.args.first.now
     c.loop-i.first c.note_package_name.new.first at c.loop-i.invariant
-    (subst (λ (G : Joined). Meets (IsPackageNamed G (enum_home_of x) x.name) c.loop-i.first c.note_package_name.new.first)
+    (subst (λ (G : Joined). Meets (IsPackageNamed G (enum_home_of x) x.name) c.loop-i.first
+    c.note_package_name.new.first)
     c.requires.scopes
     (subst (λ (h : Home). Meets (IsPackageNamed c.args.scopes.now h x.name) c.loop-i.first
     c.note_package_name.new.first) c.home.ensures c.note_package_name.ensures))

@@ -25,7 +25,8 @@ note_package_name-requires-clause-place c =
     let l : i < length F.services = omega (arith, ap length c.services-services.ensures, c.loop-i-test.true) in
     let at : slice_get F.services i ≡ Some x =
     item_at c.services-services.result.now F.services i x c.services-services.ensures l c.index-services-i.is in
-    subst (λ (G : Joined). IsPlace G (home.File x.file)) (sym c.requires.scopes) (service_file F c.requires.formed i x at)
+    subst (λ (G : Joined). IsPlace G (home.File x.file)) (sym c.requires.scopes) (service_file F c.requires.formed i x
+    at)
 
 pub loop-i-preserved : goal.loop-i-preserved
 loop-i-preserved c =
@@ -37,7 +38,8 @@ loop-i-preserved c =
     item_at c.services-services.result.now F.services i x c.services-services.ensures l c.index-services-i.is in
     meets_next F.services (λ (j : ℕ) (x : ServiceDecl). IsPackageNamed F (home.File x.file) x.name) i x c.args.first.now
     c.loop-i.first c.note_package_name.new.first at c.loop-i.invariant
-    (subst (λ (G : Joined). Meets (IsPackageNamed G (home.File x.file) x.name) c.loop-i.first c.note_package_name.new.first)
+    (subst (λ (G : Joined). Meets (IsPackageNamed G (home.File x.file) x.name) c.loop-i.first
+    c.note_package_name.new.first)
     c.requires.scopes c.note_package_name.ensures)
 
 pub returns : goal.returns

@@ -25,7 +25,8 @@ returns-in_err-type_of-in-Map c = λ scope is.
     (λ (r : Option Form). MatchOption r
     ((label : Label) (word : List ℕ) → HasForm c.args.scopes.now c.args.file scope c.args.field.now label word → ⊥)
     (IsForm c.args.scopes.now c.args.file scope c.args.field.now)) (sym c.from_residual-in_err-type_of-in-Map.ensures)
-    (no_value c.args.scopes.now c.args.file scope c.args.field.now c.in-Map.key c.in-Map.value c.in-Map.is none.0 none.1)
+    (no_value c.args.scopes.now c.args.file scope c.args.field.now c.in-Map.key c.in-Map.value c.in-Map.is none.0
+    none.1)
 
 pub returns-in_ok-type_of-in-Named : goal.returns-in_ok-type_of-in-Named
 returns-in_ok-type_of-in-Named c = λ scope is.

@@ -1,6 +1,5 @@
-use Rattle.std.proofs.Common.{◌≡◌, ◌∙◌, ◌<◌, [], sym, ap, arith, vec_len, length, rules}
+use Rattle.std.proofs.Common.{◌≡◌, ◌∙◌, ◌<◌, [], arith, vec_len, length, rules}
 use Rattle.std.proofs.lemmas.List.{get_or_default}
-use Rattle.schema_resolve.specs.Placing.{behind}
 use Rattle.schema_resolve.proofs.MethodTables.{has_input, has_output, service_file, service_text, method_of}
 use Rattle.schema_resolve.proofs.method_table.method_in.Goals as goal
 

@@ -16,7 +16,8 @@ loop-i-preserved c =
     (record { fronts = c.loop-i.self.fronts; messages = c.push.new.self; enums = c.loop-i.self.enums })
     c.loop-i.i c.index-all-i.result c.requires.formed c.loop-i.invariant at refl
     (c.in_ok-push.ensures.items ∙ ap (λ (n : ℕ). c.loop-i.self.messages.items ++ n ∷ [])
-    (c.full-length.ensures ∙ ap (λ (h : Home). full_length c.loop-i.self h c.index-all-i.result.name) c.home.ensures)) refl
+    (c.full-length.ensures ∙ ap (λ (h : Home). full_length c.loop-i.self h c.index-all-i.result.name) c.home.ensures))
+    refl
 
 pub full-length-requires : goal.full-length-requires
 full-length-requires c =
