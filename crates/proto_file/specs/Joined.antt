@@ -23,7 +23,8 @@ alone F = record {
   heads = (record { «package» = F.package; sees = 0 ∷ [] }) ∷ [];
   messages = F.messages;
   enums = F.enums;
-  services = F.services }
+  services = F.services;
+}
 
 -- ---- where declarations stand
 

@@ -70,7 +70,11 @@ impl<'a> Model for Joined<'a> {
     ghost Value = { Joined };
 
     ghost view = { λ j. record {
-        heads = j.heads.now; messages = j.messages.now; enums = j.enums.now; services = j.services.now } };
+      heads = j.heads.now;
+      messages = j.messages.now;
+      enums = j.enums.now;
+      services = j.services.now;
+    } };
 }
 
 impl<'a> Joined<'a> {
@@ -82,7 +86,11 @@ impl<'a> Joined<'a> {
         services: &'a [ServiceDecl],
     ) -> Joined<'a>
         ensures { result ≡ record {
-            heads = heads.now; messages = messages.now; enums = enums.now; services = services.now } }
+          heads = heads.now;
+          messages = messages.now;
+          enums = enums.now;
+          services = services.now;
+        } }
     {
         Joined {
             heads,

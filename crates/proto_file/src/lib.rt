@@ -13,4 +13,4 @@ pub use file::{
     MessageDecl, MessageDecls, Number, Range, Ranges, RpcDecl, RpcDecls, ServiceDecl, ServiceDecls,
     Span, ValueDecl, ValueDecls, Word, Words,
 };
-pub use joined::{Home, Joined, Head, Heads, Places};
+pub use joined::{Head, Heads, Home, Joined, Places};
