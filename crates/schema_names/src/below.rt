@@ -3,7 +3,7 @@
 //! A package may have very many parts, and at most of its fronts nothing begins but its next part. The other fronts are
 //! few, and found once.
 
-ghost use Rattle.std.specs.Prelude.{◌≡◌, ◌+◌, ◌<◌, ℕ, List, IfOk, OnOk, length};
+ghost use Rattle.std.specs.Prelude.{◌≡◌, ◌<◌, IfOk, length};
 ghost use Rattle.schema_names.specs.Numbers.{StandBehind, scope_count};
 ghost use Rattle.schema_names.specs.Below.{with_front, is_one, Grows, Notes, Tells, IsBusy, AreBusy};
 

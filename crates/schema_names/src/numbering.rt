@@ -1,8 +1,7 @@
 //! The numbers of scopes.
 
-ghost use Rattle.std.specs.Prelude.{◌≡◌, ◌+◌, ◌<◌, ◌++◌, ◌∷◌, [], ℕ, List, Some, None, IfOk, OnOk, length, cond, slice_index_or};
+ghost use Rattle.std.specs.Prelude.{◌≡◌, ◌+◌, ◌<◌, ◌++◌, ◌∷◌, [], ℕ, List, Some, None, IfOk, OnOk, length, cond};
 ghost use Rattle.std.specs.Option.{unwrap_or};
-ghost use Rattle.proto_file.specs.Joined.{package_at};
 ghost use Rattle.schema_names.specs.Numbers.{StandBehind, fronts_before, fronts, scope_count};
 ghost use Rattle.schema_names.specs.Children.{child, same_child};
 ghost use Rattle.schema_names.specs.Numbered.{IsNumbered, AreDepths, IsPackage, ArePackages, number_at, IsWithin};

@@ -1,6 +1,6 @@
 //! The parts of names.
 
-ghost use Rattle.std.specs.Prelude.{◌≡◌, ◌≢◌, ◌++◌, ◌∷◌, [], ℕ, List, Some, IfOk, OnOk, MatchOption, cond};
+ghost use Rattle.std.specs.Prelude.{◌≡◌, ◌≢◌, ◌∷◌, ℕ, List, Some, IfOk, OnOk, MatchOption, cond};
 ghost use Rattle.mrpc_table.specs.Names.{parts_of};
 ghost use Rattle.proto_file.specs.Joined.{package_parts};
 ghost use Rattle.schema_names.specs.Parts.{KnowsLast, last_in, is_same, values_of};

@@ -1,6 +1,6 @@
 //! Scopes by their places and numbers.
 
-ghost use Rattle.std.specs.Prelude.{◌≡◌, ◌≢◌, ◌+◌, ◌<◌, ◌≤◌, ◌^◌, ◌↔◌, ◌++◌, ◌∷◌, [], ℕ, List, Some, IfOk, IfSome, IsTrue, MatchOption, length, take, slice_get};
+ghost use Rattle.std.specs.Prelude.{◌≡◌, ◌≢◌, ◌<◌, ◌≤◌, ◌^◌, ◌↔◌, ◌++◌, ◌∷◌, [], ℕ, List, Some, IfOk, IfSome, IsTrue, MatchOption, length, take, slice_get};
 ghost use Rattle.proto_file.specs.Joined.{Sees, package_at};
 ghost use Rattle.proto_file.specs.declared.joined.Home.{Home};
 ghost use Rattle.schema_names.specs.Scopes.{IsScope, IsFront};

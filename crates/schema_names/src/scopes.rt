@@ -1,6 +1,6 @@
 //! Which message or enum a reference names.
 
-ghost use Rattle.std.specs.Prelude.{◌≡◌, ◌≢◌, ◌<◌, ◌≤◌, ◌^◌, ◌↔◌, ◌++◌, ◌∷◌, [], ℕ, List, IfOk, IsTrue, MatchOption, length, take};
+ghost use Rattle.std.specs.Prelude.{◌≡◌, ◌≢◌, ◌<◌, ◌^◌, ◌↔◌, ◌++◌, ◌∷◌, [], ℕ, List, IfOk, IsTrue, MatchOption, length};
 ghost use Rattle.mrpc_table.specs.Names.{parts_of};
 ghost use Rattle.proto_file.specs.Joined.{package_at};
 ghost use Rattle.proto_file.specs.declared.joined.Home.{Home};

@@ -1,6 +1,6 @@
 //! The types that stand in scopes.
 
-ghost use Rattle.std.specs.Prelude.{◌≡◌, ◌∷◌, [], ℕ, List, OnOk, length};
+ghost use Rattle.std.specs.Prelude.{◌≡◌, [], ℕ, List, OnOk, length};
 ghost use Rattle.schema_names.specs.Numbers.{StandBehind};
 ghost use Rattle.schema_names.specs.Types.{declared_in, KeepsFirst, Adds, KnowsTypes};
 
