@@ -5,4 +5,5 @@ mod Placed
 mod Reads
 mod Sizes
 mod Sounds
+mod Standing
 mod Taken

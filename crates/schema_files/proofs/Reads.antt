@@ -2,7 +2,12 @@
 use Rattle.std.proofs.Common.{◌≡◌, ℕ, ◌+◌, ◌<◌, ◌≤◌, List, [], ◌∷◌, ◌++◌, inl, inr, length, refl, sym, ap, ◌∙◌, subst, arith}
 use Rattle.std.specs.Prelude.{slice_get, Some}
 use Rattle.std.proofs.lemmas.List.{length_push}
-use Rattle.std.proofs.lemmas.Option.{slice_get_within, same_Some}
+use Rattle.std.proofs.Common.{get_or}
+use Rattle.std.specs.Option.{option_map}
+use Rattle.std.proofs.lemmas.List.{length-map}
+use Rattle.std.proofs.lemmas.Option.{slice_get_within, same_Some, slice_get-map, slice_get_read}
+use Rattle.file_bundle.specs.Packed.{file_of, files_of}
+use Rattle.file_bundle.specs.declared.packed.Packed.{Packed}
 use Rattle.file_bundle.specs.Bundle.{File as PackedFile}
 use Rattle.proto_imports.specs.declared.set.Member.{Member}
 use Rattle.schema_files.specs.Joined.{ReadsAs, ReadAs}
@@ -12,6 +17,11 @@ use Rattle.schema_files.specs.declared.fault.FilesReason.{FilesReason}
 use Rattle.schema_files.specs.declared.fault.FilesFault.{FilesFault}
 use Rattle.schema_files.specs.declared.fault.FilesFault.TheVariants as fault
 use Rattle.schema_files.proofs.Lists.{get_push, some_at, zip_all}
+
+pub packed_at : (packed : List Packed) (i : ℕ) (x : Packed) → i < length packed → x ≡ get_or packed i x
+    → slice_get (files_of packed) i ≡ Some (file_of x)
+packed_at packed i x l is =
+    slice_get-map file_of packed i ∙ ap (option_map file_of) (slice_get_read packed (length packed) i x refl l is)
 
 pub record ReadBefore (files : List PackedFile) (n : ℕ) (members : List Member) : Type 0 where
   pub count : length members ≡ n
@@ -38,10 +48,10 @@ read_more files n f m old new at reads e h = subst (ReadBefore files (n + 1)) (s
   ];
 })
 
-pub read_all : (files : List PackedFile) (n : ℕ) (members : List Member) → n ≡ length files
-    → ReadBefore files n members → ReadAs files members
-read_all files n members e h =
-    zip_all ReadsAs files members (sym e ∙ sym h.count) h.each
+pub read_all : (packed : List Packed) (n : ℕ) (members : List Member) → n ≡ length packed
+    → ReadBefore (files_of packed) n members → ReadAs (files_of packed) members
+read_all packed n members e h =
+    zip_all ReadsAs (files_of packed) members (length-map packed file_of ∙ sym e ∙ sym h.count) h.each
 
 -- ---- the first text that can't be read
 

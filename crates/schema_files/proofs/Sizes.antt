@@ -1,5 +1,7 @@
 -- How long texts are together.
-use Rattle.std.proofs.Common.{◌≡◌, ℕ, ◌+◌, ◌<◌, ◌≤◌, List, [], ◌∷◌, ◌++◌, length, set, get_or, map, sum, sum_by, refl, sym, ap, ◌∙◌, subst, arith, length-map}
+use Rattle.std.proofs.Common.{◌≡◌, ℕ, ◌+◌, ◌<◌, ◌≤◌, List, [], ◌∷◌, ◌++◌, length, set, get_or, map, sum, sum_by, refl, sym, ap, ◌∙◌, subst, arith, suc}
+use Rattle.std.proofs.Common.{take}
+use Rattle.std.proofs.lemmas.List.{length-map, take_more, get_or-map, take_all}
 use Rattle.std.specs.Prelude.{slice_get, Some}
 use Rattle.std.specs.Option.{option_map}
 use Rattle.std.proofs.lemmas.List.Sums.{sum_by-cons, sum_by-set, sum-map, sum_by-take-le}
@@ -35,6 +37,16 @@ picked_most xs (i ∷ is) (s ∷ ss) d e h =
       get_or_from_slice_get xs i s 0 at,
     )
 
+texts_sum : (packed : List Packed)
+    → sum (map (λ (f : PackedFile). length f.1) (files_of packed)) ≡ sum_by (λ (f : Packed). length f.text.now) packed
+texts_sum [] = refl
+texts_sum (p ∷ ps) = omega (
+  arith,
+  sum_by-cons (λ x. x) (length p.text.now) (map (λ (f : PackedFile). length f.1) (files_of ps)),
+  sum_by-cons (λ (f : Packed). length f.text.now) p ps,
+  texts_sum ps,
+)
+
 -- the parts of a set are together at most as long as all its texts
 pub parts_most : (packed : List Packed) (members : List Member) (reach : Reach) (ps : List Part)
     → AreDistinct reach.order → AreParts (files_of packed) members reach ps
@@ -51,8 +63,20 @@ parts_most packed members reach ps d h =
         slice_get-map (λ (f : PackedFile). length f.1) (files_of packed) i
         ∙ ap (option_map (λ (f : PackedFile). length f.1)) (ap (slice_get (files_of packed)) (sym same) ∙ P.packed_at)
         ∙ ap Some (sym P.size ∙ size)) in
-    let all : sum sizes ≡ sum_by (λ f. length f.text.now) packed = ? in
-    omega (arith, most, all)
+    omega (arith, most, texts_sum packed)
 
 pub in_all : (sizes : List ℕ) (k place : ℕ) → IsInText sizes k place → place < sum sizes
 in_all sizes k place h = omega (arith, h.below, sum_by-take-le (λ x. x) sizes (k + 1))
+
+-- the sizes of the first parts
+pub sizes_more : (ps : List Part) (k : ℕ) (p : Part) (old new : List ℕ) → k < length ps → p ≡ get_or ps k p
+    → old ≡ take k (sizes_of ps) → new ≡ old ++ p.size ∷ [] → new ≡ take (k + 1) (sizes_of ps)
+sizes_more ps k p old new l is h e =
+    let at : p.size ≡ get_or (sizes_of ps) k p.size =
+        ap (λ (x : Part). x.size) is ∙ sym (get_or-map (λ (x : Part). x.size) ps k p p.size l) in
+    e ∙ ap (λ (xs : List ℕ). xs ++ p.size ∷ []) h ∙ ap (λ (n : ℕ). take k (sizes_of ps) ++ n ∷ []) at
+    ∙ sym (take_more (sizes_of ps) k p.size (omega (arith, length-map ps (λ (x : Part). x.size))))
+
+pub sizes_all : (ps : List Part) (k : ℕ) (all : List ℕ) → length ps ≤ k → all ≡ take k (sizes_of ps) → all ≡ sizes_of ps
+sizes_all ps k all l h =
+    h ∙ take_all k (sizes_of ps) (omega (arith, length-map ps (λ (x : Part). x.size)))

@@ -21,9 +21,9 @@ use Rattle.schema_files.proofs.Taken.{seen_at}
 
 -- what holds of every file that was read
 pub record AreTexts : Type 0 where
-  pub formed : (text : List ℕ) (F : File) → IsTextOf text F → IsFormed F
-  pub ordered : (text : List ℕ) (F : File) → IsTextOf text F → IsOrdered F
-  pub within : (text : List ℕ) (F : File) → IsTextOf text F → text.IsWithin (length text) F
+  pub formed : (t : List ℕ) (F : File) → IsTextOf t F → IsFormed F
+  pub ordered : (t : List ℕ) (F : File) → IsTextOf t F → IsOrdered F
+  pub within : (t : List ℕ) (F : File) → IsTextOf t F → text.IsWithin (length t) F
 
 pub part_sound : AreTexts → (files : List PackedFile) (members : List Member) (reach : Reach) (ps : List Part)
     → ReadAs files members → IsReach members reach → AreParts files members reach ps → (k : ℕ) (p : Part)

@@ -79,6 +79,7 @@ pub fn parts_of(
     members: Vec<Member>,
     reach: &Reach,
 ) -> Result<Vec<Part>, Memory>
+    requires some { 0 < length files.now }
     requires read { ReadAs (files_of files.now) members.items }
     requires reached { IsReach members.items reach.now }
     ensures { IfOk result (λ v. AreParts (files_of files.now) members.items reach.now v.items) }

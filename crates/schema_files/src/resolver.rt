@@ -49,7 +49,11 @@ fn reached(alloc: Global, members: &[Member]) -> Result<Reach, FilesFault>
 fn sizes(alloc: Global, parts: &[Part]) -> Result<Vec<usize>, Memory>
     ensures { IfOk result (λ v. v.items ≡ sizes_of parts.now) }
 {
-    Ok(parts.iter().map(|part| part.size).collect(alloc)?)
+    let mut sizes = Vec::with_capacity(alloc, parts.len())?;
+    for k in 0..parts.len() {
+        sizes.push(parts[k].size)?;
+    }
+    Ok(sizes)
 }
 
 // The table of files that are joined, or their first offence, where this is the order in which they are joined.
