@@ -1,9 +1,9 @@
-mod Inside
 mod Lists
 mod Ones
 mod Placed
-mod Reads
 mod Sizes
 mod Sounds
 mod Standing
 mod Taken
+mod TextsRead
+mod Whole

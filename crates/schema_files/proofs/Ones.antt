@@ -1,5 +1,5 @@
 -- A set of files is joined to one list of parts, and has one table or one first fault.
-use Rattle.std.proofs.Common.{◌≡◌, ℕ, zero, suc, ◌+◌, ◌<◌, ◌≤◌, ◌⊎◌, inl, inr, List, [], ◌∷◌, length, refl, sym, ap, ◌∙◌, subst, arith}
+use Rattle.std.proofs.Common.{◌≡◌, ℕ, suc, ◌<◌, inl, inr, List, [], ◌∷◌, length, refl, sym, ap, ◌∙◌, subst, arith}
 use Rattle.std.specs.Prelude.{slice_get, Some}
 use Rattle.std.proofs.lemmas.Bool.{cases_lt}
 use Rattle.std.proofs.lemmas.Option.{slice_get_within, same_Some}
@@ -16,13 +16,13 @@ use Rattle.proto_imports.specs.Reaching.{IsReach}
 use Rattle.proto_imports.specs.declared.fault.ImportReason.{ImportReason}
 use Rattle.proto_imports.specs.declared.set.Member.{Member}
 use Rattle.proto_imports.specs.declared.set.Reach.{Reach}
-use Rattle.proto_join.specs.Joining.{joined}
-use Rattle.proto_join.specs.Texts.{sizes_of, IsInText}
+use Rattle.proto_join.specs.Joining.{joined, sizes_of, IsInText}
+use Rattle.proto_join.specs.Texts.{IsInTextOf}
 use Rattle.proto_join.specs.declared.part.Part.{Part}
 use Rattle.schema_offences.specs.Offences.{HasFirst}
 use Rattle.schema_offences.specs.declared.reason.ResolveReason.{ResolveReason}
 use Rattle.schema_files.specs.Joined.{ReadsAs, ReadAs, StandsAt, IsPart, AreParts}
-use Rattle.schema_files.specs.Resolving.{AreJoined, FilesResolve, HasFilesFault, IsFaultOf, IsRead, unread, import_at_fault, unresolved}
+use Rattle.schema_files.specs.Resolving.{AreJoined, FilesResolve, HasFilesFault, IsRead, unread, import_at_fault, unresolved}
 use Rattle.schema_files.specs.declared.fault.FilesReason.{FilesReason}
 use Rattle.schema_files.specs.declared.fault.FilesReason.TheVariants.{Proto, Import, Resolve}
 use Rattle.schema_files.proofs.Lists.{some_at, once, zip_at, zip_length}
@@ -91,19 +91,19 @@ unfolding make_part
 part_one files members reach reached k p q P Q =
     let i : P.i ≡ Q.i = same_Some P.i Q.i (sym P.at ∙ Q.at) in
     let packed : P.packed ≡ Q.packed =
-        same_Some P.packed Q.packed (sym P.packed_at ∙ ap (slice_get files) i ∙ Q.packed_at) in
+    same_Some P.packed Q.packed (sym P.packed_at ∙ ap (slice_get files) i ∙ Q.packed_at) in
     let member : P.member ≡ Q.member =
-        same_Some P.member Q.member (sym P.member_at ∙ ap (slice_get members) i ∙ Q.member_at) in
+    same_Some P.member Q.member (sym P.member_at ∙ ap (slice_get members) i ∙ Q.member_at) in
     let seen : P.seen ≡ Q.seen = same_Some P.seen Q.seen (sym P.seen_at ∙ Q.seen_at) in
     let says : p.file ≡ q.file = P.says ∙ ap (λ (m : Member). m.file) member ∙ sym Q.says in
     let size : p.size ≡ q.size = P.size ∙ ap (λ (f : PackedFile). length f.1) packed ∙ sym Q.size in
     let sees : p.sees ≡ q.sees = sees_one reach Q.seen p.sees q.sees
-        (λ j l x a b. once reach.order j l x reached.order.once a b)
-        (sym (ap length seen) ∙ zip_length (StandsAt reach.order) P.seen p.sees P.sees)
-        (zip_length (StandsAt reach.order) Q.seen q.sees Q.sees)
-        (λ n s x a b. zip_at (StandsAt reach.order) P.seen p.sees n s x P.sees
-        (ap (λ (xs : List ℕ). slice_get xs n) seen ∙ a) b)
-        (λ n s y a b. zip_at (StandsAt reach.order) Q.seen q.sees n s y Q.sees a b) in
+    (λ j l x a b. once reach.order j l x reached.order.once a b)
+    (sym (ap length seen) ∙ zip_length (StandsAt reach.order) P.seen p.sees P.sees)
+    (zip_length (StandsAt reach.order) Q.seen q.sees Q.sees)
+    (λ n s x a b. zip_at (StandsAt reach.order) P.seen p.sees n s x P.sees
+    (ap (λ (xs : List ℕ). slice_get xs n) seen ∙ a) b)
+    (λ n s y a b. zip_at (StandsAt reach.order) Q.seen q.sees n s y Q.sees a b) in
     ap (λ (F : File). make_part F p.sees p.size) says
     ∙ ap (λ (xs : List ℕ). make_part q.file xs p.size) sees
     ∙ ap (λ (n : ℕ). make_part q.file q.sees n) size
@@ -126,8 +126,8 @@ joined_one laws files ps qs A B =
     let reached : IsReach B.members A.reach = subst (λ (ms : List Member). IsReach ms A.reach) m A.reached in
     let r : A.reach ≡ B.reach = laws.one_reach B.members A.reach B.reach reached B.reached in
     let parts : AreParts files B.members B.reach ps =
-        subst (λ (x : Reach). AreParts files B.members x ps) r
-        (subst (λ (ms : List Member). AreParts files ms A.reach ps) m A.parts) in
+    subst (λ (x : Reach). AreParts files B.members x ps) r
+    (subst (λ (ms : List Member). AreParts files ms A.reach ps) m A.parts) in
     record {
       members = m;
       order = ap (λ (x : Reach). x.order) r;
@@ -171,7 +171,7 @@ pub record AreJoinedLaws (files : List PackedFile) : Type 0 where
   pub ordered : (ps : List Part) → AreJoined files ps → IsOrdered (joined ps)
   pub one_offence : (F : Joined) (q r : ResolveReason) (s t : Span) → IsOrdered F → HasFirst F q s → HasFirst F r t
       → (q ≡ r) × (s ≡ t)
-  pub one_text : (sizes : List ℕ) (j k place : ℕ) → IsInText sizes j place → IsInText sizes k place → j ≡ k
+  pub one_text : (sizes : List ℕ) (j k place : ℕ) → IsInTextOf sizes j place → IsInTextOf sizes k place → j ≡ k
 
 same_unread : AreOneFault → (files : List PackedFile) (i j : ℕ) (f g : PackedFile) (q r : ProtoReason) (s t : Span)
     → slice_get files i ≡ Some f → slice_get files j ≡ Some g → HasTextFault f.1 q s → HasTextFault g.1 r t
@@ -226,11 +226,11 @@ fault_one laws apart ones files more i l q j m r (unresolved ps x s n joins firs
     (unresolved qs y t o joints second in_other bt d) =
     let same = joined_one laws files ps qs joins joints in
     let one = more.one_offence (joined qs) x y s t (more.ordered qs joints)
-        (subst (λ (xs : List Part). HasFirst (joined xs) x s) same.parts first) second in
-    let inside : IsInText (sizes_of qs) n t.start =
-        subst (λ (z : Span). IsInText (sizes_of qs) n z.start) one.1
-        (subst (λ (xs : List Part). IsInText (sizes_of xs) n s.start) same.parts in_text) in
+    (subst (λ (xs : List Part). HasFirst (joined xs) x s) same.parts first) second in
+    let inside : IsInText qs n t.start =
+    subst (λ (z : Span). IsInText qs n z.start) one.1
+    (subst (λ (xs : List Part). IsInText xs n s.start) same.parts in_text) in
     let place : n ≡ o = more.one_text (sizes_of qs) n o t.start inside in_other in
     let file : i ≡ j = same_Some i j
-        (sym at ∙ ap (λ (xs : List ℕ). slice_get xs n) same.order ∙ ap (slice_get joints.reach.order) place ∙ bt) in
+    (sym at ∙ ap (λ (xs : List ℕ). slice_get xs n) same.order ∙ ap (slice_get joints.reach.order) place ∙ bt) in
     record { file = file; line = e ∙ ap (λ (z : Span). z.line) one.1 ∙ sym d; reason = ap Resolve one.0 }

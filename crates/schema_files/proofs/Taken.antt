@@ -1,10 +1,12 @@
 -- The parts that are joined, as far as they were made.
-use Rattle.std.proofs.Common.{◌≡◌, ℕ, ◌+◌, ◌<◌, ◌≤◌, List, [], ◌∷◌, ◌++◌, inl, inr, length, set, refl, sym, ap, ◌∙◌, subst, arith, length-set, map}
-use Rattle.std.specs.Prelude.{slice_get, Option, Some, None, Contains, All}
+use Rattle.std.proofs.Common.{◌≡◌, ℕ, ◌+◌, ◌<◌, ◌≤◌, List, [], ◌∷◌, ◌++◌, inl, inr, length, set, refl, sym, ap, ◌∙◌, subst, arith, length-set, map, get_or}
+use Rattle.std.specs.Prelude.{slice_get, Option, Some, None, Contains, All, IsSome}
 use Rattle.std.proofs.lemmas.List.{length_push, length-map}
-use Rattle.std.proofs.lemmas.Option.{slice_get_within, same_Some, slice_get-map}
+use Rattle.std.proofs.lemmas.Option.{slice_get_within, same_Some, slice_get-map, slice_get-get_or, slice_get_read}
 use Rattle.std.specs.Option.{option_map}
 use Rattle.file_bundle.specs.Bundle.{File as PackedFile}
+use Rattle.file_bundle.specs.Packed.{file_of, files_of}
+use Rattle.file_bundle.specs.declared.packed.Packed.{Packed}
 use Rattle.proto_file.specs.declared.file.File.{File}
 use Rattle.proto_imports.specs.Leading.{Reaches, here, onward, Sees, itself, imported, publicly}
 use Rattle.proto_imports.specs.Reaching.{IsReach, AreSeen}
@@ -13,7 +15,7 @@ use Rattle.proto_imports.specs.declared.set.Reach.{Reach}
 use Rattle.proto_join.specs.declared.part.Part.{Part}
 use Rattle.schema_files.specs.Joined.{ReadsAs, ReadAs, StandsAt, IsPart, AreParts}
 use Rattle.schema_files.specs.Placing.{ArePlaces, ArePlaced}
-use Rattle.schema_files.proofs.Lists.{get_push, get_set_other, some_at, held, place_of, all_held, once, zip_all, zip_at, zip_length}
+use Rattle.schema_files.proofs.Lists.{get_push, get_set_other, held, place_of, all_held, once, zip_all, zip_at, zip_length}
 
 -- ---- what is reached
 
@@ -45,6 +47,48 @@ pub seen_within : (set : List Member) (reach : Reach) (k i : ℕ) (seen : List �
 seen_within set reach k i seen l h at it =
     all_held (λ j. j < length set) seen (λ x c. reached_within l (seen_in_order set reach k i x seen h at it c))
 
+-- ---- what the code reads
+
+pub as_many : (packed : List Packed) (set : List Member) → ReadAs (files_of packed) set → length set ≡ length packed
+as_many packed set h = sym (zip_length ReadsAs (files_of packed) set h) ∙ length-map packed file_of
+
+pub some_members : (packed : List Packed) (set : List Member) → 0 < length packed → ReadAs (files_of packed) set
+    → 0 < length set
+some_members packed set l h = omega (arith, as_many packed set h, l)
+
+pub order_at : (reach : Reach) (order : List ℕ) (k : ℕ) → order ≡ reach.order → k < length order
+    → slice_get reach.order k ≡ Some (get_or order k 0)
+order_at reach order k e l = ap (λ (xs : List ℕ). slice_get xs k) (sym e) ∙ slice_get-get_or order k 0 l
+
+pub sees_at : (reach : Reach) (sees : List (List ℕ)) (k : ℕ) (seen : List ℕ) → sees ≡ reach.sees → k < length sees
+    → seen ≡ get_or sees k seen → slice_get reach.sees k ≡ Some seen
+sees_at reach sees k seen e l is =
+    ap (λ (xs : List (List ℕ)). slice_get xs k) (sym e) ∙ slice_get_read sees (length sees) k seen refl l is
+
+pub below_at : (set : List Member) (reach : Reach) (k i : ℕ) → 0 < length set → IsReach set reach
+    → slice_get reach.order k ≡ Some i → i < length set
+below_at set reach k i l h at = reached_within l ((h.order.reached i).0 (held reach.order k i at))
+
+pub sees_below : (set : List Member) (reach : Reach) (order : List ℕ) (sees : List (List ℕ)) (k : ℕ) → IsReach set reach
+    → order ≡ reach.order → sees ≡ reach.sees → k < length order → k < length sees
+sees_below set reach order sees k h e f l =
+    omega (
+      arith,
+      l,
+      zip_length (AreSeen set) reach.order reach.sees h.sees,
+      ap (λ (xs : List ℕ). length xs) e,
+      ap (λ (xs : List (List ℕ)). length xs) f,
+    )
+
+pub packed_below : (packed : List Packed) (set : List Member) (i : ℕ) → ReadAs (files_of packed) set → i < length set
+    → i < length packed
+packed_below packed set i h l = omega (arith, as_many packed set h, l)
+
+pub packed_here : (packed : List Packed) (i : ℕ) (d : Packed) → i < length packed
+    → slice_get (files_of packed) i ≡ Some (file_of (get_or packed i d))
+packed_here packed i d l =
+    slice_get-map file_of packed i ∙ ap (option_map file_of) (slice_get-get_or packed i d l)
+
 -- ---- the parts so far
 
 pub record TakenSo (files : List PackedFile) (members : List Member) (reach : Reach) (k : ℕ)
@@ -75,7 +119,7 @@ pub placed_stands : (members : List Member) (reach : Reach) (k i count : ℕ) (p
     → (n x y : ℕ) → slice_get seen n ≡ Some x → slice_get sees n ≡ Some y → StandsAt reach.order x y
 placed_stands members reach k i count places seen sees h at it known placed n x y a b =
     let there = place_of reach.order x ((h.order.reached x).1
-        (seen_in_order members reach k i x seen h at it (held seen n x a))) in
+    (seen_in_order members reach k i x seen h at it (held seen n x a))) in
     let same : there.0 ≡ y = same_Some there.0 y (sym (known.back there.0 x there.1) ∙ placed.each n x y a b) in
     subst (λ (q : ℕ). slice_get reach.order q ≡ Some x) same there.1
 
@@ -125,3 +169,13 @@ pub taken_all : (files : List PackedFile) (members : List Member) (reach : Reach
     (left : List (Option File)) (parts : List Part) → k ≡ length reach.order
     → TakenSo files members reach k left parts → AreParts files members reach parts
 taken_all files members reach k left parts e h = record { count = h.count ∙ e; each = h.each }
+
+pub file_there : (files : List PackedFile) (members : List Member) (reach : Reach) (k i : ℕ)
+    (left : List (Option File)) (parts : List Part) (m : Member) (r : Option File) → slice_get reach.order k ≡ Some i
+    → slice_get members i ≡ Some m → slice_get left i ≡ Some r → TakenSo files members reach k left parts
+    → r ≡ Some m.file
+file_there files members reach k i left parts m r at it had h =
+    same_Some r (Some m.file) (sym had ∙ h.there k i m (omega arith) at it)
+
+pub some_there : (m : Member) (r : Option File) → r ≡ Some m.file → IsSome r
+some_there m r e = subst (λ (x : Option File). IsSome x) (sym e) refl

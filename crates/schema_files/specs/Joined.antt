@@ -1,7 +1,6 @@
 -- What the files of a set say, and the files that its first one reaches, as they are joined.
 use Rattle.std.specs.Prelude.{◌≡◌, ℕ, List, length, Some, slice_get}
 use Rattle.std.specs.List.{AllZip}
-use Rattle.mrpc_table.specs.declared.sequence.Sequence.{Sequence}
 use Rattle.file_bundle.specs.Bundle.{File as PackedFile}
 use Rattle.proto_schema.specs.Faults.{IsTextOf}
 use Rattle.proto_imports.specs.declared.set.Member.{Member}

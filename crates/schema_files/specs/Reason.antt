@@ -1,5 +1,5 @@
 -- The words of printed faults.
-use Rattle.std.specs.Prelude.{ℕ, List, codes}
+use Rattle.std.specs.Prelude.{ℕ, List}
 use Rattle.proto_imports.specs.Reason.{import_word}
 use Rattle.proto_schema.specs.Reason.{proto_word}
 use Rattle.schema_offences.specs.Reason.{resolve_word}

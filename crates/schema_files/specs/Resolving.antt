@@ -12,8 +12,7 @@ use Rattle.proto_imports.specs.Reaching.{IsReach}
 use Rattle.proto_imports.specs.declared.fault.ImportReason.{ImportReason}
 use Rattle.proto_imports.specs.declared.set.Member.{Member}
 use Rattle.proto_imports.specs.declared.set.Reach.{Reach}
-use Rattle.proto_join.specs.Joining.{joined}
-use Rattle.proto_join.specs.Texts.{sizes_of, IsInText}
+use Rattle.proto_join.specs.Joining.{joined, IsInText}
 use Rattle.proto_join.specs.declared.part.Part.{Part}
 use Rattle.schema_offences.specs.Offences.{HasFirst}
 use Rattle.schema_offences.specs.declared.reason.ResolveReason.{ResolveReason}
@@ -51,7 +50,7 @@ pub data HasFilesFault (files : List PackedFile) (file line : ℕ) : FilesReason
   import_at_fault : (members : List Member) (q : ImportReason) (s : Span) → ReadAs files members
       → HasImportFault members q file s → line ≡ s.line → HasFilesFault files file line (Import q)
   unresolved : (ps : List Part) (q : ResolveReason) (s : Span) (k : ℕ) (joins : AreJoined files ps)
-      → HasFirst (joined ps) q s → IsInText (sizes_of ps) k s.start → slice_get joins.reach.order k ≡ Some file → line ≡ s.line
+      → HasFirst (joined ps) q s → IsInText ps k s.start → slice_get joins.reach.order k ≡ Some file → line ≡ s.line
       → HasFilesFault files file line (Resolve q)
 
 -- what a fault says of a set; want of memory says nothing

@@ -11,8 +11,11 @@ ghost use Rattle.schema_files.specs.declared.fault.FilesReason.{FilesReason};
 
 use proto_imports::{one_fault as one_import_fault, one_reach, reach_or_fault};
 use proto_join::{joined_is_ordered, places_apart};
-use proto_schema::{file_is_ordered, file_or_fault, one_fault as one_text_fault, one_file};
+use proto_schema::{
+    file_is_ordered, file_is_within, file_or_fault, one_fault as one_text_fault, one_file,
+};
 use schema_offences::one_offence;
+use schema_resolve::one_table;
 
 /// The files of a set are joined to one list of parts at most.
 pub fn one_join()
@@ -27,6 +30,7 @@ pub fn joined_is_sound()
     ensures { (files : List PackedFile) (ps : List Part) → AreJoined files ps → AreSound ps }
 {
     file_is_ordered();
+    file_is_within();
 }
 
 /// A set of files has one table at most.
@@ -37,6 +41,7 @@ pub fn one_files_table()
     one_join();
     joined_is_sound();
     joined_is_ordered();
+    one_table();
 }
 
 /// A set of files has one first fault at most: two of them are of one file, in one line, and have one reason.

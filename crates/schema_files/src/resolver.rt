@@ -7,9 +7,8 @@ ghost use Rattle.file_bundle.specs.Bundle.{paths_of};
 ghost use Rattle.file_bundle.specs.Packed.{files_of};
 ghost use Rattle.file_bundle.specs.Bundle.{File as PackedFile};
 ghost use Rattle.proto_imports.specs.Reaching.{HaveOwnPaths, IsReach};
-ghost use Rattle.proto_join.specs.Joining.{joined};
+ghost use Rattle.proto_join.specs.Joining.{joined, sizes_of};
 ghost use Rattle.proto_join.specs.Sound.{AreSound};
-ghost use Rattle.proto_join.specs.Texts.{sizes_of};
 ghost use Rattle.schema_resolve.specs.Resolving.{ResolvesTogether};
 ghost use Rattle.schema_files.specs.Joined.{ReadAs};
 ghost use Rattle.schema_files.specs.Resolving.{AreJoined, FilesResolve, IsFaultOf};
@@ -23,6 +22,7 @@ use file_bundle::{MAX_FILES, Packed};
 use mrpc_table::{Memory, Table};
 use proto_imports::{ImportFault, Member, Reach, reach};
 use proto_join::{Part, file_at, join, joined_is_ordered, places_apart};
+use schema_offences::offences_stand;
 use schema_resolve::{ResolveFault, resolve_together};
 use std::alloc::Global;
 
@@ -70,16 +70,19 @@ fn resolve_parts(alloc: Global, order: &[usize], parts: Vec<Part>) -> Result<Tab
 {
     joined_is_ordered();
     places_apart();
+    offences_stand();
     let sizes = sizes(alloc, parts.as_slice())?;
     let union = join(alloc, parts)?;
     match resolve_together(alloc, &union.files()) {
         Ok(table) => Ok(table),
-        Err(ResolveFault::At {
-            reason,
-            start,
-            line,
-            ..
-        }) => {
+        Err(
+            ResolveFault::At {
+                reason,
+                start,
+                line,
+                ..
+            },
+        ) => {
             let place = file_at(sizes.as_slice(), start).unwrap();
             Err(FilesFault::At {
                 file: order[place],

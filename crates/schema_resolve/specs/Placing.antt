@@ -67,7 +67,6 @@ pub record AreEnumNames (F : Joined) (names : List (List ℕ)) : Type 0 where
       → IsScope F (enum_home_of e) outer → slice_get names i ≡ Some (text_of (outer ++ e.name.name ∷ []))
 
 pub record IsPlan (F : Joined) (p : Plan) : Type 0 where
-  pub fronts : AreFronts F p.fronts.items
   pub all_messages : length p.messages.names.items ≡ length F.messages
   pub all_enums : length p.enums.names.items ≡ length F.enums
   pub messages : AreMessageNames F p.messages.names.items

@@ -4,7 +4,7 @@ ghost use Rattle.std.specs.Prelude.{◌≡◌, ℕ, List};
 ghost use Rattle.mrpc_table.specs.declared.table.Table.{Table};
 ghost use Rattle.proto_schema.specs.Faults.{IsTextOf};
 ghost use Rattle.proto_file.specs.Joined.{Joined};
-ghost use Rattle.proto_file.specs.Together.{IsOrdered};
+ghost use Rattle.proto_file.specs.Together.{IsFormed, IsOrdered};
 ghost use Rattle.proto_file.specs.declared.file.Span.{Span};
 ghost use Rattle.proto_file.specs.declared.file.File.{File};
 ghost use Rattle.schema_offences.specs.Offences.{HasOffence, HasFirst};
@@ -33,9 +33,16 @@ pub fn one_offence()
     schema_offences::one_offence();
 }
 
-/// No file has both a table and a first offence, nor have files that are resolved together.
+/// A file that was read has a table or a first offence, and so have files in order that are resolved together; none
+/// have both.
 pub fn table_or_offence()
+    ensures not_neither { (text : List ℕ) (F : File) → IsTextOf text F → ((T : Table) → Resolves F T → ⊥)
+        → ((q : ResolveReason) (s : Span) → HasOffence F q s → ⊥) → ⊥ }
+    ensures not_neither_of_all { (F : Joined) → IsFormed F → IsOrdered F → ((T : Table) → ResolvesTogether F T → ⊥)
+        → ((q : ResolveReason) (s : Span) → HasFirst F q s → ⊥) → ⊥ }
     ensures not_both { (F : File) (T : Table) (q : ResolveReason) (s : Span) → Resolves F T → HasOffence F q s → ⊥ }
     ensures not_both_of_all { (F : Joined) (T : Table) (q : ResolveReason) (s : Span) → ResolvesTogether F T
         → HasFirst F q s → ⊥ }
-{}
+{
+    alone_is_ordered();
+}

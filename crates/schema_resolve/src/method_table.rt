@@ -9,7 +9,7 @@ ghost use Rattle.proto_file.specs.Joined.{package_at};
 ghost use Rattle.schema_offences.specs.Methods.{rpcs_of, service_rpcs};
 ghost use Rattle.schema_offences.specs.Members.{IsNoMessage};
 ghost use Rattle.schema_resolve.specs.Resolving.{IsClean};
-ghost use Rattle.schema_resolve.specs.Placing.{IsPlan, HasNames};
+ghost use Rattle.schema_resolve.specs.Placing.{AreFronts, IsPlan, HasNames};
 ghost use Rattle.schema_resolve.specs.InOrder.{IsPlaceNamed, IsMethodIn, AreMethods};
 
 use crate::plan::{Plan, behind};
@@ -43,6 +43,7 @@ fn method_in<'a>(
     requires formed { IsFormed scopes.now }
     requires ordered { IsOrdered scopes.now }
     requires clean { IsClean scopes.now }
+    requires fronts { AreFronts scopes.now plan.now.fronts.items }
     requires plan { IsPlan scopes.now plan.now }
     requires service { Contains scopes.now.services service.now }
     requires rpc { Contains service.now.rpcs rpc.now }
@@ -71,6 +72,7 @@ fn add_methods<'a>(
     requires formed { IsFormed scopes.now }
     requires ordered { IsOrdered scopes.now }
     requires clean { IsClean scopes.now }
+    requires fronts { AreFronts scopes.now plan.now.fronts.items }
     requires plan { IsPlan scopes.now plan.now }
     requires service { Contains scopes.now.services service.now }
     ensures { OnOk result ((done : List (ServiceDecl × RpcDecl)) → AreMethods scopes.now plan.now done methods.old
@@ -95,6 +97,7 @@ pub fn methods_in<'a>(
     requires ordered { IsOrdered files.now }
     requires scopes { scopes.now ≡ files.now }
     requires clean { IsClean files.now }
+    requires fronts { AreFronts files.now plan.now.fronts.items }
     requires plan { IsPlan files.now plan.now }
     ensures { IfOk result (AreMethods files.now plan.now (rpcs_of files.now)) }
 {

@@ -115,7 +115,8 @@ pub fn plan_of(alloc: Global, files: &Joined<'_>) -> Result<Plan, Memory>
     requires formed { IsFormed files.now }
     requires ordered { IsOrdered files.now }
     requires clean { IsClean files.now }
-    ensures { IfOk result (IsPlan files.now) }
+    ensures fronts { IfOk result (λ p. AreFronts files.now p.fronts.items) }
+    ensures plan { IfOk result (IsPlan files.now) }
 {
     let fronts = front_names(alloc, files)?;
     let messages = message_names(alloc, files, fronts.as_slice())?;

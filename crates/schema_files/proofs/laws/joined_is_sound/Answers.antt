@@ -6,5 +6,5 @@ returns c files ps A =
     parts_sound (record {
       formed = c.file_is_ordered.ensures.formed;
       ordered = c.file_is_ordered.ensures.ordered;
-      within = ?;
+      within = c.file_is_within.ensures;
     }) files A.members A.reach ps A.read A.reached A.parts

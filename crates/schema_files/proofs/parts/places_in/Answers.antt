@@ -1,4 +1,4 @@
-use Rattle.std.proofs.Common.{◌≡◌, ◌≤◌, ℕ, ◌<◌, length, get_or, arith, refl}
+use Rattle.std.proofs.Common.{◌≤◌, ◌<◌, length, get_or, arith, refl}
 use Rattle.std.proofs.lemmas.Option.{slice_get-get_or}
 use Rattle.schema_files.proofs.Placed.{put_none, put_more, put_all}
 use Rattle.schema_files.proofs.parts.places_in.Goals as goal

@@ -1,5 +1,5 @@
 use Rattle.file_bundle.specs.Packed.{files_of}
-use Rattle.schema_files.proofs.Reads.{ReadBefore}
+use Rattle.schema_files.proofs.TextsRead.{ReadBefore}
 use Rattle.schema_files.proofs.reading.members.Given as goal
 
 -- the texts so far were read

@@ -24,7 +24,7 @@ index-requires c =
     let fronts = c.args.plan.now.fronts in
     let same : vec_len fronts ≡ length fronts.items = search rules in
     let l = service_file c.args.scopes.now c.args.service.now c.requires.formed c.requires.service in
-    omega (arith, l, c.requires.plan.fronts.count)
+    omega (arith, l, c.requires.fronts.count)
 
 pub returns : goal.returns
 returns c = λ T has.
@@ -32,8 +32,8 @@ returns c = λ T has.
     let s = c.args.service.now in
     let fronts = c.args.plan.now.fronts.items in
     let l = service_file F s c.requires.formed c.requires.service in
-    let within : s.file < length fronts = omega (arith, l, c.requires.plan.fronts.count) in
+    let within : s.file < length fronts = omega (arith, l, c.requires.fronts.count) in
     method_of F c.args.plan.now T s c.args.rpc.now _ c.requires.formed c.requires.clean c.requires.service c.requires.rpc
     (c.in_ok-behind.ensures ∙ service_text F s c.index.result.now c.requires.formed
-    (c.index.ensures ∙ get_or_default fronts s.file c.index.result.now [] within ∙ c.requires.plan.fronts.each s.file l))
+    (c.index.ensures ∙ get_or_default fronts s.file c.index.result.now [] within ∙ c.requires.fronts.each s.file l))
     c.in_ok-name.ensures (c.message_place-input.ensures T has) (c.message_place-output.ensures T has)

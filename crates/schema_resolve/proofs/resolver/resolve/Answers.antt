@@ -1,9 +1,9 @@
 use Rattle.std.proofs.Common.{◌≡◌, ◌∙◌, sym, subst}
-use Rattle.mrpc_table.specs.declared.table.Table.{Table}
 use Rattle.proto_file.specs.Joined.{Joined, alone}
 use Rattle.proto_file.specs.Together.{IsFormed, IsOrdered}
-use Rattle.schema_offences.specs.Offences.{Offends, offends}
+use Rattle.schema_offences.specs.Offences.{offends}
 use Rattle.schema_resolve.specs.Tables.{IsTableOf}
+use Rattle.schema_resolve.specs.Resolving.{IsClean}
 use Rattle.schema_resolve.proofs.Answering.{stands_behind, is_alone}
 use Rattle.schema_resolve.proofs.resolver.resolve.Goals as goal
 
@@ -13,7 +13,8 @@ new-requires c =
     let same : c.new-files.result ≡ alone F =
     is_alone F c.new-files.result _ _ _ _ c.new-files.ensures (c.as_slice.ensures ∙ c.in_ok-heads.ensures)
     c.as_slice-2.ensures c.as_slice-3.ensures c.as_slice-4.ensures in
-    stands_behind c.new-files.result (subst IsFormed (sym same) (c.alone_is_ordered.ensures.formed c.requires.read.0 F c.requires.read.1))
+    stands_behind c.new-files.result
+    (subst IsFormed (sym same) (c.alone_is_ordered.ensures.formed c.requires.read.0 F c.requires.read.1))
 
 pub first_offence-requires-clause-formed : goal.first_offence-requires-clause-formed
 first_offence-requires-clause-formed c =
@@ -30,10 +31,6 @@ first_offence-requires-clause-ordered c =
     is_alone F c.new-files.result _ _ _ _ c.new-files.ensures (c.as_slice.ensures ∙ c.in_ok-heads.ensures)
     c.as_slice-2.ensures c.as_slice-3.ensures c.as_slice-4.ensures in
     subst IsOrdered (sym same) (c.alone_is_ordered.ensures.ordered c.requires.read.0 F c.requires.read.1)
-
-pub returns-in-Some-clause-only : goal.returns-in-Some-clause-only
-returns-in-Some-clause-only c = λ t resolves.
-    absurd (resolves.clean c.in-Some.offence.reason c.in-Some.offence.span c.in-Some.ensures.offence)
 
 pub table_of-requires-clause-formed : goal.table_of-requires-clause-formed
 table_of-requires-clause-formed c =
@@ -57,13 +54,19 @@ table_of-requires-clause-clean c =
     let same : c.new-files.result ≡ alone F =
     is_alone F c.new-files.result _ _ _ _ c.new-files.ensures (c.as_slice.ensures ∙ c.in_ok-heads.ensures)
     c.as_slice-2.ensures c.as_slice-3.ensures c.as_slice-4.ensures in
-    λ q span offence. c.in-None.ensures q span (offends (subst (λ (J : Joined). Offends J q span) same offence))
+    subst IsClean (sym same) (λ q s o. c.in-None.ensures q s (offends o))
+
+pub returns-in-Some-clause-only : goal.returns-in-Some-clause-only
+returns-in-Some-clause-only c = λ t r.
+    absurd (r.clean c.in-Some.offence.reason c.in-Some.offence.span c.in-Some.ensures.offence)
 
 pub returns-clause-only : goal.returns-clause-only
-returns-clause-only c =
+returns-clause-only c = λ t r.
     let F = c.args.file.now in
     let same : c.new-files.result ≡ alone F =
     is_alone F c.new-files.result _ _ _ _ c.new-files.ensures (c.as_slice.ensures ∙ c.in_ok-heads.ensures)
     c.as_slice-2.ensures c.as_slice-3.ensures c.as_slice-4.ensures in
-    λ t resolves. c.one_table.ensures (alone F) _ t (c.alone_is_ordered.ensures.ordered c.requires.read.0 F c.requires.read.1)
-    (subst (λ (J : Joined). IsTableOf J c.in_ok-table_of-in-None.field-0) same c.in_ok-table_of-in-None.ensures) resolves.table
+    let u = c.in_ok-table_of-in-None.field-0 in
+    let P : Joined → Type 0 = λ J. IsTableOf J u in
+    c.one_table.ensures (alone F) u t (c.alone_is_ordered.ensures.ordered c.requires.read.0 F c.requires.read.1)
+    (subst P same c.in_ok-table_of-in-None.ensures) r.table

@@ -1,14 +1,16 @@
 -- What the texts of a set say, as far as they were read.
-use Rattle.std.proofs.Common.{◌≡◌, ℕ, ◌+◌, ◌<◌, ◌≤◌, List, [], ◌∷◌, ◌++◌, inl, inr, length, refl, sym, ap, ◌∙◌, subst, arith}
+use Rattle.std.proofs.Common.{◌≡◌, ℕ, ◌+◌, ◌<◌, List, [], ◌∷◌, ◌++◌, inl, inr, length, refl, sym, ap, ◌∙◌, subst, arith}
 use Rattle.std.specs.Prelude.{slice_get, Some}
 use Rattle.std.proofs.lemmas.List.{length_push}
-use Rattle.std.proofs.Common.{get_or}
-use Rattle.std.specs.Option.{option_map}
 use Rattle.std.proofs.lemmas.List.{length-map}
-use Rattle.std.proofs.lemmas.Option.{slice_get_within, same_Some, slice_get-map, slice_get_read}
+use Rattle.std.proofs.lemmas.Option.{same_Some}
 use Rattle.file_bundle.specs.Packed.{file_of, files_of}
 use Rattle.file_bundle.specs.declared.packed.Packed.{Packed}
 use Rattle.file_bundle.specs.Bundle.{File as PackedFile}
+use Rattle.proto_file.specs.declared.file.Span.{Span}
+use Rattle.proto_schema.specs.Faults.{HasFault as HasTextFault}
+use Rattle.proto_schema.specs.declared.fault.ProtoReason.{ProtoReason}
+use Rattle.schema_files.specs.declared.fault.FilesReason.TheVariants.{Proto}
 use Rattle.proto_imports.specs.declared.set.Member.{Member}
 use Rattle.schema_files.specs.Joined.{ReadsAs, ReadAs}
 use Rattle.schema_files.specs.Resolving.{IsRead, HasFilesFault, IsFaultOf, unread}
@@ -17,11 +19,6 @@ use Rattle.schema_files.specs.declared.fault.FilesReason.{FilesReason}
 use Rattle.schema_files.specs.declared.fault.FilesFault.{FilesFault}
 use Rattle.schema_files.specs.declared.fault.FilesFault.TheVariants as fault
 use Rattle.schema_files.proofs.Lists.{get_push, some_at, zip_all}
-
-pub packed_at : (packed : List Packed) (i : ℕ) (x : Packed) → i < length packed → x ≡ get_or packed i x
-    → slice_get (files_of packed) i ≡ Some (file_of x)
-packed_at packed i x l is =
-    slice_get-map file_of packed i ∙ ap (option_map file_of) (slice_get_read packed (length packed) i x refl l is)
 
 pub record ReadBefore (files : List PackedFile) (n : ℕ) (members : List Member) : Type 0 where
   pub count : length members ≡ n
@@ -72,3 +69,10 @@ pub unread_fault : (files : List PackedFile) (place : ℕ) (f : PackedFile) (e :
 unread_fault files place f (fault.At file line q) at before h =
     subst (λ (k : ℕ). HasFilesFault files k line q) (sym h.0) (first_unread files place line f q at before h.1)
 unread_fault files place f fault.Memory at before h = tt
+
+-- ---- one text
+
+pub text_unread : (f : PackedFile) (q r : ProtoReason) (s : Span) (line : ℕ) → HasTextFault f.1 q s → r ≡ q → line ≡ s.line
+    → HasUnread f line (Proto r)
+text_unread f q r s line h e l =
+    subst (λ (x : ProtoReason). HasUnread f line (Proto x)) (sym e) (unread_text q s h l)

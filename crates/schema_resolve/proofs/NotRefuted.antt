@@ -1,0 +1,16 @@
+-- What is not refuted, and choices along a list.
+use Rattle.std.proofs.Common.{suc, List, [], ◌∷◌, refl, arith}
+use Rattle.std.specs.Prelude.{Contains}
+use Rattle.schema_offences.specs.Those.{AreThoseInOrder, none, next}
+
+abbrev pub IsNotRefuted : Type 0 → Type 0
+IsNotRefuted A = (A → ⊥) → ⊥
+
+-- where none of a list lacks its own, there are all of them
+pub all_chosen : {X Y : Type 0} (R : X → Y → Type 0) (xs : List X)
+    → ((x : X) → Contains xs x → IsNotRefuted ((y : Y) × R x y))
+    → IsNotRefuted ((ys : List Y) × AreThoseInOrder R xs ys)
+all_chosen R [] h never = never ([], none)
+all_chosen R (x ∷ xs) h never =
+    h x (0, omega arith, refl)
+    (λ a. all_chosen R xs (λ z c. h z (suc c.0, omega (arith, c.1), c.2)) (λ r. never (a.0 ∷ r.0, next a.1 r.1)))
