@@ -1,5 +1,5 @@
--- What a set of proto files resolves to, and its first fault. The files that the first one reaches are resolved together,
--- as if their texts stood one behind another.
+-- What a set of proto files resolves to, and its first fault. The files that the first one reaches are resolved
+-- together, as if their texts stood one behind another.
 use Rattle.std.specs.Prelude.{◌≡◌, ℕ, ◌<◌, List, Some, slice_get}
 use Rattle.mrpc_table.specs.declared.table.Table.{Table}
 use Rattle.file_bundle.specs.Bundle.{File as PackedFile}
@@ -41,8 +41,8 @@ pub record FilesResolve (files : List PackedFile) (T : Table) : Type 0 where
 abbrev pub IsRead : PackedFile → Type 0
 IsRead f = (F : File) × IsTextOf f.1 F
 
--- The first fault of a set: its file, its line there and its reason. A text that is no proto file counts before imports at
--- fault, and these before all that stands against the joined files.
+-- The first fault of a set: its file, its line there and its reason. A text that is no proto file counts before imports
+-- at fault, and these before all that stands against the joined files.
 pub data HasFilesFault (files : List PackedFile) (file line : ℕ) : FilesReason → Type 0 where
   unread : (f : PackedFile) (q : ProtoReason) (s : Span) → slice_get files file ≡ Some f → HasTextFault f.1 q s
       → ((j : ℕ) (g : PackedFile) → j < file → slice_get files j ≡ Some g → IsRead g)

@@ -11,8 +11,8 @@ use schema_offences::ResolveReason;
 use std::alloc::{AllocError, AllocFailed};
 use thiserror::Error;
 
-/// Why a set of files has no table. What stands against a text counts before all that stands against an import, and that
-/// before all that stands against a name or a number.
+/// Why a set of files has no table. What stands against a text counts before all that stands against an import,
+/// and that before all that stands against a name or a number.
 #[derive(Clone, Copy, Debug, PartialEq, Eq, Error)]
 pub enum FilesReason {
     /// A text is no proto file.

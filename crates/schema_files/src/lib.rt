@@ -1,5 +1,5 @@
-//! The table of a set of proto files: imports are followed, and the files that the first one reaches are resolved together
-//! (Protocol Buffers, proto3 language guide, "Importing Definitions").
+//! The table of a set of proto files: imports are followed, and the files that the first one reaches are resolved
+//! together (Protocol Buffers, proto3 language guide, "Importing Definitions").
 #![tactic(auto)]
 
 mod fault;

@@ -94,9 +94,10 @@ fn resolve_parts(alloc: Global, order: &[usize], parts: Vec<Part>) -> Result<Tab
     }
 }
 
-/// The table of the files that the first one reaches by imports, or the first fault of the set: the first text that is no
-/// proto file; else the first import that is missing, stands twice or closes a ring; else the offence that starts first in
-/// the first of the joined files that has one. Without memory it answers `Memory`.
+/// The table of the files that the first one reaches by imports, or the first fault of the set: the first text that is
+/// no proto file; else the first import that is missing, else the first that stands twice, else the first that closes a
+/// ring; else the offence that starts first in the first of the joined files that has one. Without memory it answers
+/// `Memory`.
 ///
 /// The joined files are the first one and then the others that it reaches, by ascending path. The methods have indices
 /// from 0, along them.
