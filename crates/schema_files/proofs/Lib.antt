@@ -1,6 +1,7 @@
 mod Lists
 mod Ones
 mod Placed
+mod Rows
 mod Sizes
 mod Sounds
 mod Standing
