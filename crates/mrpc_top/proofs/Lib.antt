@@ -5,4 +5,5 @@ mod Faults
 mod KnownBytes
 mod OneCheck
 mod OneDecoding
+mod SetPaths
 mod TextAnswers

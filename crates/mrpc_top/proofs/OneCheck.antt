@@ -1,45 +1,139 @@
 -- A text has one table or one fault.
-use Rattle.std.proofs.Common.{◌≡◌, ℕ, ◌≤◌, ◌<◌, List, length, Option, Some, ⊎_elim, sym, ap, subst, ◌∙◌, arith}
+use Rattle.std.proofs.Common.{◌≡◌, ℕ, ◌+◌, ◌≤◌, ◌<◌, List, length, Option, Some, ⊎_elim, sym, ap, subst, ◌∙◌, refl, arith}
 use Rattle.mrpc_table.specs.declared.table.Table.{Table}
+use Rattle.mrpc_table.specs.Valid.{AreDistinct}
+use Rattle.file_bundle.specs.Bundle.{File as PackedFile, IsBundle, paths_of}
+use Rattle.file_bundle.specs.Faults.{IsSet, IsFirstFault as IsBundleFault}
+use Rattle.file_bundle.specs.declared.fault.BundleFault.{BundleFault}
+use Rattle.file_bundle.specs.declared.fault.BundleFault.TheVariants.{Bundle, Path}
 use Rattle.proto_file.specs.declared.file.File.{File}
 use Rattle.proto_file.specs.declared.file.Span.{Span}
 use Rattle.proto_schema.specs.Reason.{proto_word}
 use Rattle.schema_offences.specs.Offences.{HasOffence}
 use Rattle.schema_offences.specs.Reason.{resolve_word}
 use Rattle.schema_resolve.specs.Resolving.{Resolves}
+use Rattle.schema_files.specs.Reason.{files_word}
+use Rattle.schema_files.specs.Resolving.{FilesResolve, HasFilesFault}
+use Rattle.schema_files.specs.declared.fault.FilesReason.{FilesReason}
 use Rattle.mrpc_top.specs.Reading.{IsAllOf}
-use Rattle.mrpc_top.specs.Checking.{ChecksAs, IsProtoFault}
-use Rattle.mrpc_top.specs.Checking.IsProtoFault.{unread, unresolved}
+use Rattle.mrpc_top.specs.Checking.{ChecksAs, IsCheckFault}
+use Rattle.mrpc_top.specs.Checking.ChecksAs.{a_file, a_set}
+use Rattle.mrpc_top.specs.Checking.IsCheckFault.{unread, unresolved, no_such_file, wrong_path, in_set}
 use Rattle.mrpc_top.specs.Command.{IsInput, ChecksText, HasCheckFault}
-use Rattle.mrpc_top.specs.Laws.{FileLaw}
+use Rattle.mrpc_top.specs.Laws.{FileLaw, SetLaw}
+use Rattle.mrpc_top.specs.declared.check.Spot.{Spot}
+use Rattle.mrpc_top.specs.declared.check.Spot.TheVariants.{Line, InFile, OfFile}
+use Rattle.mrpc_top.proofs.SetPaths.{set_paths}
 
-pub one_of_each : FileLaw → (text : List ℕ) (F G : File) (T U : Table) → ChecksAs text F T → ChecksAs text G U → (F ≡ G) × (T ≡ U)
-one_of_each law text F G T U c d =
-    let same = law.one_file text G F d.reads c.reads in
-    let other : Resolves F U = subst (λ (f : File). Resolves f U) same d.resolves in
-    (sym same, law.one_table text F T U c.reads c.resolves.table other.table)
+-- ---- sets of files
 
-pub one_proto_fault : FileLaw → (text : List ℕ) (m n : ℕ) (w v : List ℕ) → IsProtoFault text m w → IsProtoFault text n v → (m ≡ n) × (w ≡ v)
-one_proto_fault law text m n w v (unread q s fault line word) (unread r t fault' line' word') =
+same_set : SetLaw → {text : List ℕ} {files others : List PackedFile} → IsSet text files → IsSet text others → others ≡ files
+same_set law {text} {files} {others} a b = law.one_set text others files b.spelled a.spelled
+
+set_fault : SetLaw → {text : List ℕ} {files others : List PackedFile} {i l : ℕ} {q : FilesReason} → IsSet text files → IsSet text others
+    → HasFilesFault others i l q → HasFilesFault files i l q
+set_fault law {text} {files} {others} {i} {l} {q} a b fault =
+    subst (λ (fs : List PackedFile). HasFilesFault fs i l q) (same_set law a b) fault
+
+bundle_number : BundleFault → ℕ
+bundle_number (Bundle k) = k
+bundle_number (Path k) = k
+bundle_number _ = 0
+
+same_bundle : SetLaw → (text : List ℕ) (k l : ℕ) → IsBundleFault text (Bundle k) → IsBundleFault text (Bundle l) → k ≡ l
+same_bundle law text k l a b = let e : Bundle k ≡ Bundle l = law.one_fault text (Bundle k) (Bundle l) a b in cc
+
+same_path : SetLaw → (text : List ℕ) (k l : ℕ) → IsBundleFault text (Path k) → IsBundleFault text (Path l) → k ≡ l
+same_path law text k l a b = let e : Path k ≡ Path l = law.one_fault text (Path k) (Path l) a b in cc
+
+not_both_bundle : SetLaw → (text : List ℕ) (k l : ℕ) → IsBundleFault text (Bundle k) → IsBundleFault text (Path l) → ⊥
+not_both_bundle law text k l a b = let e : Bundle k ≡ Path l = law.one_fault text (Bundle k) (Path l) a b in cc
+
+-- ---- one table
+
+pub one_of_each : FileLaw → SetLaw → (text : List ℕ) (T U : Table) → ChecksAs text T → ChecksAs text U → T ≡ U
+one_of_each law sets text T U (a_file F alone reads resolves) (a_file G alone' reads' resolves') =
+    let same = law.one_file text G F reads' reads in
+    let other : Resolves F U = subst (λ (f : File). Resolves f U) same resolves' in
+    law.one_table text F T U reads resolves.table other.table
+one_of_each law sets text T U (a_file F alone reads resolves) (a_set files set are resolves') = absurd (alone set)
+one_of_each law sets text T U (a_set files set are resolves) (a_file G alone reads resolves') = absurd (alone set)
+one_of_each law sets text T U (a_set files set are resolves) (a_set others set' are' resolves') =
+    sets.one_table files T U (set_paths are) resolves (subst (λ (fs : List PackedFile). FilesResolve fs U) (same_set sets are are') resolves')
+
+-- ---- one fault
+
+pub one_check_fault : FileLaw → SetLaw → (text : List ℕ) (m n : Spot) (w v : List ℕ) → IsCheckFault text m w → IsCheckFault text n v
+    → (m ≡ n) × (w ≡ v)
+one_check_fault law sets text m n w v (unread q s alone fault) (unread r t alone' fault') =
     let same = law.one_fault text q r s t fault fault' in
-    (line ∙ ap (λ (x : Span). x.line) same.1 ∙ sym line', word ∙ ap proto_word same.0 ∙ sym word')
-one_proto_fault law text m n w v (unread q s fault line word) (unresolved G r t reads offence line' word') = absurd (law.file_or_fault text G q s reads fault)
-one_proto_fault law text m n w v (unresolved F q s reads offence line word) (unread r t fault line' word') = absurd (law.file_or_fault text F r t reads fault)
-one_proto_fault law text m n w v (unresolved F q s reads offence line word) (unresolved G r t reads' offence' line' word') =
+    (ap (λ (x : Span). Line x.line) same.1, ap proto_word same.0)
+one_check_fault law sets text m n w v (unread q s alone fault) (unresolved G r t alone' reads offence) =
+    absurd (law.file_or_fault text G q s reads fault)
+one_check_fault law sets text m n w v (unread q s alone fault) (no_such_file k set broken) = absurd (alone set)
+one_check_fault law sets text m n w v (unread q s alone fault) (wrong_path k set refused) = absurd (alone set)
+one_check_fault law sets text m n w v (unread q s alone fault) (in_set files i l r set are stands) = absurd (alone set)
+one_check_fault law sets text m n w v (unresolved F q s alone reads offence) (unread r t alone' fault) =
+    absurd (law.file_or_fault text F r t reads fault)
+one_check_fault law sets text m n w v (unresolved F q s alone reads offence) (unresolved G r t alone' reads' offence') =
     let here : HasOffence F r t = subst (λ (f : File). HasOffence f r t) (law.one_file text G F reads' reads) offence' in
     let same = law.one_offence text F q r s t reads offence here in
-    (line ∙ ap (λ (x : Span). x.line) same.1 ∙ sym line', word ∙ ap resolve_word same.0 ∙ sym word')
+    (ap (λ (x : Span). Line x.line) same.1, ap resolve_word same.0)
+one_check_fault law sets text m n w v (unresolved F q s alone reads offence) (no_such_file k set broken) = absurd (alone set)
+one_check_fault law sets text m n w v (unresolved F q s alone reads offence) (wrong_path k set refused) = absurd (alone set)
+one_check_fault law sets text m n w v (unresolved F q s alone reads offence) (in_set files i l r set are stands) = absurd (alone set)
+one_check_fault law sets text m n w v (no_such_file k set broken) (unread r t alone fault) = absurd (alone set)
+one_check_fault law sets text m n w v (no_such_file k set broken) (unresolved G r t alone reads offence) = absurd (alone set)
+one_check_fault law sets text m n w v (no_such_file k set broken) (no_such_file l set' broken') =
+    (ap OfFile (same_bundle sets text k l broken broken'), refl)
+one_check_fault law sets text m n w v (no_such_file k set broken) (wrong_path l set' refused) =
+    absurd (not_both_bundle sets text k l broken refused)
+one_check_fault law sets text m n w v (no_such_file k set broken) (in_set files i l r set' are stands) =
+    absurd (sets.set_or_fault text files (Bundle k) are broken)
+one_check_fault law sets text m n w v (wrong_path k set refused) (unread r t alone fault) = absurd (alone set)
+one_check_fault law sets text m n w v (wrong_path k set refused) (unresolved G r t alone reads offence) = absurd (alone set)
+one_check_fault law sets text m n w v (wrong_path k set refused) (no_such_file l set' broken) =
+    absurd (not_both_bundle sets text l k broken refused)
+one_check_fault law sets text m n w v (wrong_path k set refused) (wrong_path l set' refused') =
+    (ap OfFile (same_path sets text k l refused refused'), refl)
+one_check_fault law sets text m n w v (wrong_path k set refused) (in_set files i l r set' are stands) =
+    absurd (sets.set_or_fault text files (Path k) are refused)
+one_check_fault law sets text m n w v (in_set files i l q set are stands) (unread r t alone fault) = absurd (alone set)
+one_check_fault law sets text m n w v (in_set files i l q set are stands) (unresolved G r t alone reads offence) = absurd (alone set)
+one_check_fault law sets text m n w v (in_set files i l q set are stands) (no_such_file k set' broken) =
+    absurd (sets.set_or_fault text files (Bundle k) are broken)
+one_check_fault law sets text m n w v (in_set files i l q set are stands) (wrong_path k set' refused) =
+    absurd (sets.set_or_fault text files (Path k) are refused)
+one_check_fault law sets text m n w v (in_set files i l q set are stands) (in_set others j k r set' are' stands') =
+    let same = sets.one_files_fault files i j l k q r (set_paths are) stands (set_fault sets are are' stands') in
+    let place : i ≡ j = same.0 in
+    let line : l ≡ k = same.1 in
+    let spot : InFile (i + 1) l ≡ InFile (j + 1) k = cc in
+    (spot, ap files_word same.2)
 
-pub no_proto_fault : FileLaw → (text : List ℕ) (F : File) (T : Table) (line : ℕ) (word : List ℕ) → ChecksAs text F T → IsProtoFault text line word → ⊥
-no_proto_fault law text F T line word c (unread q s fault is spelled) = law.file_or_fault text F q s c.reads fault
-no_proto_fault law text F T line word c (unresolved G q s reads offence is spelled) =
-    law.table_or_offence F T q s c.resolves (subst (λ (f : File). HasOffence f q s) (law.one_file text G F reads c.reads) offence)
+-- ---- never both
+
+pub no_check_fault : FileLaw → SetLaw → (text word : List ℕ) (T : Table) (spot : Spot) → ChecksAs text T → IsCheckFault text spot word → ⊥
+no_check_fault law sets text word T spot (a_file F alone reads resolves) (unread q s alone' fault) = law.file_or_fault text F q s reads fault
+no_check_fault law sets text word T spot (a_file F alone reads resolves) (unresolved G q s alone' reads' offence) =
+    law.table_or_offence F T q s resolves (subst (λ (f : File). HasOffence f q s) (law.one_file text G F reads' reads) offence)
+no_check_fault law sets text word T spot (a_file F alone reads resolves) (no_such_file k set broken) = alone set
+no_check_fault law sets text word T spot (a_file F alone reads resolves) (wrong_path k set refused) = alone set
+no_check_fault law sets text word T spot (a_file F alone reads resolves) (in_set files i l q set are stands) = alone set
+no_check_fault law sets text word T spot (a_set files set are resolves) (unread q s alone fault) = alone set
+no_check_fault law sets text word T spot (a_set files set are resolves) (unresolved G q s alone reads offence) = alone set
+no_check_fault law sets text word T spot (a_set files set are resolves) (no_such_file k set' broken) =
+    sets.set_or_fault text files (Bundle k) are broken
+no_check_fault law sets text word T spot (a_set files set are resolves) (wrong_path k set' refused) =
+    sets.set_or_fault text files (Path k) are refused
+no_check_fault law sets text word T spot (a_set files set are resolves) (in_set others i l q set' are' stands) =
+    sets.table_or_files_fault files T i l q (set_paths are) resolves (set_fault sets are are' stands)
 
 -- ---- the whole
 
 -- no text has a table and a fault
 abbrev pub NotBoth : Type 0
-NotBoth = (text word : List ℕ) (F : File) (T : Table) (line : ℕ) → ChecksAs text F T → IsProtoFault text line word → ⊥
+NotBoth = (text word : List ℕ) (T : Table) (spot : Spot) → ChecksAs text T → IsCheckFault text spot word → ⊥
 
 -- an input that has a table has no fault
 pub no_check : NotBoth → (left : Option (List ℕ)) (text found : List ℕ) (out out' : Option (List ℕ)) → left ≡ Some text → HasCheckFault text → IsInput left found → ChecksText found out out' → ⊥
@@ -47,4 +141,4 @@ no_check law left text found out out' told fault input c =
     let all : text ≡ found = subst (λ l. IsAllOf l found) told input.all in
     let short : length text ≡ length found = ap length all in
     ⊎_elim (λ long. absurd (omega (arith, long, short, input.short)))
-    (λ f. law found f.1 c.file c.table f.0 c.checks (subst (λ t. IsProtoFault t f.0 f.1) all f.2)) fault
+    (λ f. law found f.1 c.table f.0 c.checks (subst (λ t. IsCheckFault t f.0 f.1) all f.2)) fault

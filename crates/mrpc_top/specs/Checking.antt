@@ -1,6 +1,10 @@
--- What `check` tells of a proto file: the table of what it says, or its first fault.
-use Rattle.std.specs.Prelude.{◌≡◌, ℕ, List}
+-- What `check` tells of a proto file or of a set of files: the table, or the first fault.
+use Rattle.std.specs.Prelude.{◌≡◌, ℕ, ◌+◌, List, ◌∷◌, ◌++◌, codes}
+use Rattle.std.specs.Fmt.{decimal}
 use Rattle.mrpc_table.specs.declared.table.Table.{Table}
+use Rattle.file_bundle.specs.Bundle.{File as PackedFile, IsBundle}
+use Rattle.file_bundle.specs.Faults.{IsSet, IsFirstFault as IsBundleFault}
+use Rattle.file_bundle.specs.declared.fault.BundleFault.TheVariants.{Bundle, Path}
 use Rattle.proto_file.specs.declared.file.File.{File}
 use Rattle.proto_file.specs.declared.file.Span.{Span}
 use Rattle.proto_schema.specs.Faults.{IsTextOf, HasFault}
@@ -10,23 +14,38 @@ use Rattle.schema_offences.specs.Offences.{HasOffence}
 use Rattle.schema_offences.specs.Reason.{resolve_word}
 use Rattle.schema_offences.specs.declared.reason.ResolveReason.{ResolveReason}
 use Rattle.schema_resolve.specs.Resolving.{Resolves}
+use Rattle.schema_files.specs.Reason.{files_word}
+use Rattle.schema_files.specs.Resolving.{FilesResolve, HasFilesFault}
+use Rattle.schema_files.specs.declared.fault.FilesReason.{FilesReason}
+use Rattle.mrpc_top.specs.declared.check.Spot.{Spot}
+use Rattle.mrpc_top.specs.declared.check.Spot.TheVariants.{Line, InFile, OfFile}
 use Rattle.mrpc_top.specs.declared.check.CheckFault.{CheckFault}
 use Rattle.mrpc_top.specs.declared.check.CheckFault.TheVariants.{At, Memory}
 
--- the text reads as a file, which resolves to a table
-pub record ChecksAs (text : List ℕ) (F : File) (T : Table) : Type 0 where
-  pub reads : IsTextOf text F
-  pub resolves : Resolves F T
+-- the text reads as a proto file, or is a set of files, and resolves to a table
+pub data ChecksAs (text : List ℕ) (T : Table) : Type 0 where
+  a_file : (F : File) → (IsBundle text → ⊥) → IsTextOf text F → Resolves F T → ChecksAs text T
+  a_set : (files : List PackedFile) → IsBundle text → IsSet text files → FilesResolve files T → ChecksAs text T
 
--- The first fault of a text, as it is printed: its line and a word. A token at fault counts before all that stands
--- against what the text says.
-pub data IsProtoFault (text : List ℕ) (line : ℕ) (word : List ℕ) : Type 0 where
-  unread : (q : ProtoReason) (s : Span) → HasFault text q s → line ≡ s.line → word ≡ proto_word q
-      → IsProtoFault text line word
-  unresolved : (F : File) (q : ResolveReason) (s : Span) → IsTextOf text F → HasOffence F q s → line ≡ s.line
-      → word ≡ resolve_word q → IsProtoFault text line word
+-- where a fault stands, as it is printed
+abbrev pub spot_text : Spot → List ℕ
+spot_text (Line n) = decimal n
+spot_text (InFile file line) = decimal file ++ 58 ∷ decimal line
+spot_text (OfFile file) = decimal file
+
+-- The first fault of a text, as it is printed: where it stands, and a word. In a proto file a token at fault counts before
+-- all that stands against what the text says. Files of a set are numbered from 1.
+pub data IsCheckFault (text : List ℕ) : Spot → List ℕ → Type 0 where
+  unread : (q : ProtoReason) (s : Span) → (IsBundle text → ⊥) → HasFault text q s
+      → IsCheckFault text (Line s.line) (proto_word q)
+  unresolved : (F : File) (q : ResolveReason) (s : Span) → (IsBundle text → ⊥) → IsTextOf text F → HasOffence F q s
+      → IsCheckFault text (Line s.line) (resolve_word q)
+  no_such_file : (k : ℕ) → IsBundle text → IsBundleFault text (Bundle k) → IsCheckFault text (OfFile k) (codes "Bundle")
+  wrong_path : (k : ℕ) → IsBundle text → IsBundleFault text (Path k) → IsCheckFault text (OfFile k) (codes "Path")
+  in_set : (files : List PackedFile) (file line : ℕ) (q : FilesReason) → IsBundle text → IsSet text files
+      → HasFilesFault files file line q → IsCheckFault text (InFile (file + 1) line) (files_word q)
 
 -- what a fault says of a text; want of memory says nothing
 abbrev pub IsFaultOf : List ℕ → CheckFault → Type 0
-IsFaultOf text (At line word) = IsProtoFault text line word.now
+IsFaultOf text (At spot word) = IsCheckFault text spot word.now
 IsFaultOf text Memory = Unit {0}

@@ -8,7 +8,8 @@ use Rattle.script_lang.specs.declared.script.Script.{Script}
 use Rattle.script_lang.specs.Texts.{Spells, IsFault}
 use Rattle.script_lang.specs.Reason.{reason_word}
 use Rattle.script_run.specs.Replays.{Replays}
-use Rattle.mrpc_top.specs.Checking.{ChecksAs, IsProtoFault}
+use Rattle.mrpc_top.specs.Checking.{ChecksAs, IsCheckFault, spot_text}
+use Rattle.mrpc_top.specs.declared.check.Spot.{Spot}
 use Rattle.mrpc_top.specs.Reading.{IsAllOf, ReadsPast}
 use Rattle.mrpc_top.specs.DecodeInput.{Holds, IsTextFault}
 use Rattle.mrpc_top.specs.Decoding.{IsDecoded, IsCutAt}
@@ -44,8 +45,14 @@ IsCommand words = (command : Command) × Names words command
 abbrev pub input_limit : ℕ
 input_limit = 16777216
 
+abbrev pub line_of_fault : List ℕ → List ℕ → List ℕ
+line_of_fault spot word = codes "fault " ++ (spot ++ (32 ∷ (word ++ 10 ∷ [])))
+
 abbrev pub fault_line : ℕ → List ℕ → List ℕ
-fault_line place word = codes "fault " ++ (decimal place ++ (32 ∷ (word ++ 10 ∷ [])))
+fault_line place word = line_of_fault (decimal place) word
+
+abbrev pub spot_line : Spot → List ℕ → List ℕ
+spot_line spot word = line_of_fault (spot_text spot) word
 
 -- the text is all that the input had left, and no longer than an input may be
 pub record IsInput (left : Option (List ℕ)) (text : List ℕ) : Type 0 where
@@ -119,23 +126,22 @@ pub data HasDecodeFault (text : List ℕ) : Type 0 where
   fault_in_stream : (table : Table) (stream lines : List ℕ) (place : ℕ) (word : List ℕ) → Holds text table stream
       → IsCutAt table 0 stream lines place word → HasDecodeFault text
 
--- a text is a proto file, and the text of its table was written
+-- a text is a proto file or a set of files, and the text of its table was written
 pub record ChecksText (text : List ℕ) (out out' : Option (List ℕ)) : Type 0 where
-  pub file : File
   pub table : Table
-  pub checks : ChecksAs text file table
+  pub checks : ChecksAs text table
   pub written : Appends out out' (table_text table)
 
 -- an input is such a text
 abbrev pub Checks : Option (List ℕ) → Option (List ℕ) → Option (List ℕ) → Type 0
 Checks left out out' = (text : List ℕ) × IsInput left text × ChecksText text out out'
 
--- a text was refused as a proto file: its first fault was written
+-- a text was refused as a proto file or a set of files: its first fault was written
 pub record RefusesProto (text : List ℕ) (out out' : Option (List ℕ)) : Type 0 where
-  pub line : ℕ
+  pub spot : Spot
   pub word : List ℕ
-  pub fault : IsProtoFault text line word
-  pub written : Appends out out' (fault_line line word)
+  pub fault : IsCheckFault text spot word
+  pub written : Appends out out' (spot_line spot word)
 
 -- an input has a fault: it is too long, or its text has a first fault; the fault's line was written
 abbrev pub IsUnchecked : Option (List ℕ) → Option (List ℕ) → Option (List ℕ) → Option (List ℕ) → Type 0
@@ -143,6 +149,6 @@ IsUnchecked left left' out out' =
     (ReadsPast input_limit left left' × Appends out out' (fault_line input_limit (codes "Input")))
     ⊎ ((text : List ℕ) × IsInput left text × RefusesProto text out out')
 
--- a text has a fault: it is too long for an input, or no proto file that has a table
+-- a text has a fault: it is too long for an input, or no proto file or set of files that has a table
 abbrev pub HasCheckFault : List ℕ → Type 0
-HasCheckFault text = (input_limit < length text) ⊎ ((line : ℕ) × (word : List ℕ) × IsProtoFault text line word)
+HasCheckFault text = (input_limit < length text) ⊎ ((spot : Spot) × (word : List ℕ) × IsCheckFault text spot word)

@@ -2,7 +2,7 @@
 use Rattle.std.specs.Prelude.{◌≡◌, ℕ, ◌+◌, ◌<◌, List, [], ◌∷◌, ◌++◌, length, All}
 use Rattle.mrpc_table.specs.Node.{Node}
 use Rattle.mrpc_table.specs.Text.{table_text}
-use Rattle.mrpc_table.specs.Valid.{IsValid, HaveOneTextEach}
+use Rattle.mrpc_table.specs.Valid.{IsValid, AreDistinct, HaveOneTextEach}
 use Rattle.mrpc_table.specs.declared.table.Table.{Table}
 use Rattle.table_text.specs.Faults.{IsFirstFault as IsTextFault}
 use Rattle.table_text.specs.TableText.{HasTableBehind}
@@ -10,6 +10,10 @@ use Rattle.table_text.specs.declared.fault.TableReason.{TableReason}
 use Rattle.wire_decode.specs.Means.{Means}
 use Rattle.wire_decode.specs.Faults.{IsFirstFault}
 use Rattle.wire_decode.specs.declared.fault.DecodeReason.{DecodeReason}
+use Rattle.file_bundle.specs.Bundle.{File as PackedFile, paths_of}
+use Rattle.file_bundle.specs.Laws.{SpellsOnce, NeverSetAndFault, OneFault}
+use Rattle.schema_files.specs.Resolving.{FilesResolve, HasFilesFault}
+use Rattle.schema_files.specs.declared.fault.FilesReason.{FilesReason}
 use Rattle.frame_transport.specs.Frames.{SplitsOnce, EndsOnce, IsFrame, bytes_of, joined, StandFrom, IsPartial, IsFaultAt, Splits}
 use Rattle.frame_transport.specs.declared.format.Frame.{Frame}
 use Rattle.frame_transport.specs.declared.fault.FeedFault.{FeedFault}
@@ -17,7 +21,7 @@ use Rattle.proto_file.specs.declared.file.File.{File}
 use Rattle.proto_file.specs.declared.file.Span.{Span}
 use Rattle.proto_schema.specs.Faults.{IsTextOf, HasFault}
 use Rattle.proto_schema.specs.declared.fault.ProtoReason.{ProtoReason}
-use Rattle.schema_offences.specs.Sources.{alone}
+use Rattle.proto_file.specs.Joined.{alone}
 use Rattle.schema_offences.specs.Offences.{HasOffence}
 use Rattle.schema_offences.specs.declared.reason.ResolveReason.{ResolveReason}
 use Rattle.schema_resolve.specs.Resolving.{Resolves}
@@ -69,8 +73,21 @@ pub record FileLaw : Type 0 where
       → (q ≡ r) × (s ≡ t)
   pub file_or_fault : (text : List ℕ) (f : File) (q : ProtoReason) (s : Span) → IsTextOf text f → HasFault text q s
       → ⊥
-  pub one_table : (text : List ℕ) (F : File) (T U : Table) → IsTextOf text F → IsTableOf (alone F ∷ []) T
-      → IsTableOf (alone F ∷ []) U → T ≡ U
+  pub one_table : (text : List ℕ) (F : File) (T U : Table) → IsTextOf text F → IsTableOf (alone F) T
+      → IsTableOf (alone F) U → T ≡ U
   pub one_offence : (text : List ℕ) (F : File) (q r : ResolveReason) (s t : Span) → IsTextOf text F
       → HasOffence F q s → HasOffence F r t → (q ≡ r) × (s ≡ t)
   pub table_or_offence : (F : File) (T : Table) (q : ResolveReason) (s : Span) → Resolves F T → HasOffence F q s → ⊥
+
+-- an input is one set of files at most, has one first fault at most, and never both; and files have one table at most, one
+-- first fault at most, and never both
+pub record SetLaw : Type 0 where
+  pub one_set : SpellsOnce
+  pub one_fault : OneFault
+  pub set_or_fault : NeverSetAndFault
+  pub one_table : (files : List PackedFile) (T U : Table) → AreDistinct (paths_of files) → FilesResolve files T
+      → FilesResolve files U → T ≡ U
+  pub one_files_fault : (files : List PackedFile) (i j l m : ℕ) (q r : FilesReason) → AreDistinct (paths_of files)
+      → HasFilesFault files i l q → HasFilesFault files j m r → (i ≡ j) × (l ≡ m) × (q ≡ r)
+  pub table_or_files_fault : (files : List PackedFile) (T : Table) (i l : ℕ) (q : FilesReason)
+      → AreDistinct (paths_of files) → FilesResolve files T → HasFilesFault files i l q → ⊥

@@ -1,25 +1,41 @@
-//! Checking a proto file: the table of what it says, or its first fault.
+//! Checking a proto file or a set of files: the table of what it says, or its first fault.
 
 ghost use Rattle.std.specs.Prelude.{◌≡◌, ◌≤◌, List, ℕ, length, IfOk, IfErr};
 ghost use Rattle.mrpc_table.specs.Text.{table_text};
 ghost use Rattle.mrpc_table.specs.Valid.{IsValid};
 ghost use Rattle.mrpc_table.specs.declared.table.Table.{Table};
-ghost use Rattle.proto_file.specs.declared.file.File.{File};
-ghost use Rattle.mrpc_top.specs.Checking.{ChecksAs, IsProtoFault, IsFaultOf};
+ghost use Rattle.file_bundle.specs.Bundle.{IsBundle};
+ghost use Rattle.mrpc_top.specs.Checking.{ChecksAs, IsCheckFault, IsFaultOf};
+ghost use Rattle.mrpc_top.specs.declared.check.Spot.{Spot};
+ghost use Rattle.mrpc_top.specs.declared.check.Spot.TheVariants as spots;
+ghost use Rattle.mrpc_top.specs.declared.check.CheckFault.TheVariants as faults;
 
-use crate::laws::file_law;
+use crate::laws::{file_law, set_law};
 use crate::reading::INPUT_LIMIT;
+use file_bundle::{BundleFault, is_bundle, read_bundle};
 use mrpc_table::{Bytes, Memory, Table};
 use proto_schema::{ProtoFault, read_proto};
+use schema_files::{FilesFault, resolve_files};
 use schema_resolve::{ResolveFault, resolve};
 use std::alloc::Global;
 use table_text::table_text;
 
+/// Where a fault stands, as it is printed.
+#[derive(Drop, Clone, Copy)]
+pub enum Spot {
+    /// On this line of a proto file.
+    Line(u64),
+    /// In this file of a set, counted from 1, on this line of it.
+    InFile { file: u64, line: u64 },
+    /// At this file of a set, counted from 1.
+    OfFile(u64),
+}
+
 /// Why a text has no table.
 #[derive(Drop, Clone, Copy)]
 pub(crate) enum CheckFault {
-    /// The text has its first fault on this line; this is the word of its reason.
-    At { line: u64, word: &'static str },
+    /// The text has its first fault here; this is the word of its reason.
+    At { spot: Spot, word: &'static str },
     /// No memory was found.
     Memory,
 }
@@ -35,27 +51,32 @@ impl From<Memory> for CheckFault {
     }
 }
 
-/// The canonical text of the table of a proto file.
+/// The canonical text of the table of a proto file or of a set of files.
 pub(crate) fn checked_text(alloc: Global, text: &[u8]) -> Result<Bytes, CheckFault>
     requires short { length text.now ≤ INPUT_LIMIT }
-    ensures checked { IfOk result (λ lines. (F : File) × (T : Table) × ChecksAs text.now F T × (lines ≡ table_text T)) }
+    ensures checked { IfOk result (λ lines. (T : Table) × ChecksAs text.now T × (lines ≡ table_text T)) }
     ensures fault { IfErr result (IsFaultOf text.now) }
 {
-    let table = table_of(alloc, text)?;
+    let table = if is_bundle(text) {
+        table_of_set(alloc, text)?
+    } else {
+        table_of_file(alloc, text)?
+    };
     Ok(table_text(alloc, &table)?)
 }
 
 // The table of a proto file. What the text says counts only where each token can stand.
-fn table_of(alloc: Global, text: &[u8]) -> Result<Table, CheckFault>
+fn table_of_file(alloc: Global, text: &[u8]) -> Result<Table, CheckFault>
     requires short { length text.now ≤ INPUT_LIMIT }
-    ensures checked { IfOk result (λ T. (F : File) × ChecksAs text.now F T × IsValid T) }
+    requires alone { IsBundle text.now → ⊥ }
+    ensures checked { IfOk result (λ T. ChecksAs text.now T × IsValid T) }
     ensures fault { IfErr result (IsFaultOf text.now) }
 {
     let file = match read_proto(alloc, text) {
         Ok(file) => file,
         Err(ProtoFault::At { reason, line, .. }) => {
             return Err(CheckFault::At {
-                line,
+                spot: Spot::Line(line),
                 word: reason.word(),
             });
         }
@@ -64,21 +85,56 @@ fn table_of(alloc: Global, text: &[u8]) -> Result<Table, CheckFault>
     match resolve(alloc, &file) {
         Ok(table) => Ok(table),
         Err(ResolveFault::At { reason, line, .. }) => Err(CheckFault::At {
-            line,
+            spot: Spot::Line(line),
             word: reason.word(),
         }),
         Err(ResolveFault::Memory) => Err(CheckFault::Memory),
     }
 }
 
+// The table of a set of files.
+fn table_of_set(alloc: Global, text: &[u8]) -> Result<Table, CheckFault>
+    requires short { length text.now ≤ INPUT_LIMIT }
+    requires set { IsBundle text.now }
+    ensures checked { IfOk result (λ T. ChecksAs text.now T × IsValid T) }
+    ensures fault { IfErr result (IsFaultOf text.now) }
+{
+    let files = match read_bundle(alloc, text) {
+        Ok(files) => files,
+        Err(BundleFault::Bundle { file }) => return Err(fault_of_file(file, "Bundle")),
+        Err(BundleFault::Path { file }) => return Err(fault_of_file(file, "Path")),
+        Err(BundleFault::Memory) => return Err(CheckFault::Memory),
+    };
+    match resolve_files(alloc, files.as_slice()) {
+        Ok(table) => Ok(table),
+        Err(FilesFault::At { file, line, reason }) => Err(CheckFault::At {
+            spot: Spot::InFile {
+                file: file as u64 + 1,
+                line,
+            },
+            word: reason.word(),
+        }),
+        Err(FilesFault::Memory) => Err(CheckFault::Memory),
+    }
+}
+
+fn fault_of_file(file: u32, word: &'static str) -> CheckFault
+    ensures { result ≡ faults.At (spots.OfFile file) word }
+{
+    CheckFault::At {
+        spot: Spot::OfFile(u64::from(file)),
+        word,
+    }
+}
+
 /// A text has one table at most, and one fault at most, and never both.
 pub fn one_check()
-    ensures tables { (text : List ℕ) (F G : File) (T U : Table) → ChecksAs text F T → ChecksAs text G U
-        → (F ≡ G) × (T ≡ U) }
-    ensures faults { (text word spelled : List ℕ) (line at : ℕ) → IsProtoFault text line word
-        → IsProtoFault text at spelled → (line ≡ at) × (word ≡ spelled) }
-    ensures not_both { (text word : List ℕ) (F : File) (T : Table) (line : ℕ) → ChecksAs text F T
-        → IsProtoFault text line word → ⊥ }
+    ensures tables { (text : List ℕ) (T U : Table) → ChecksAs text T → ChecksAs text U → T ≡ U }
+    ensures faults { (text word spelled : List ℕ) (spot at : Spot) → IsCheckFault text spot word
+        → IsCheckFault text at spelled → (spot ≡ at) × (word ≡ spelled) }
+    ensures not_both { (text word : List ℕ) (T : Table) (spot : Spot) → ChecksAs text T
+        → IsCheckFault text spot word → ⊥ }
 {
     file_law();
+    set_law();
 }

@@ -1,6 +1,6 @@
 //! The top call: the words of a command line, the whole input, and the answer.
 
-ghost use Rattle.std.specs.Prelude.{◌≡◌, ◌≢◌, ◌↔◌, ◌≤◌, ◌⊎◌, List, ℕ, length, IfOk, IfSome, IfNone, Some};
+ghost use Rattle.std.specs.Prelude.{◌≡◌, ◌≢◌, ◌↔◌, ◌≤◌, ◌⊎◌, List, ℕ, ◌++◌, length, IfOk, OnOk, IfSome, IfNone, Some};
 ghost use Rattle.std.specs.Io.KnownBytes.{Appends};
 ghost use Rattle.mrpc_base.specs.Faults.{HasCause};
 ghost use Rattle.mrpc_table.specs.declared.table.Table.{Table};
@@ -9,14 +9,14 @@ ghost use Rattle.script_lang.specs.Texts.{Spells};
 ghost use Rattle.script_run.specs.Replays.{Replays};
 ghost use Rattle.mrpc_top.specs.DecodeInput.{Holds, IsTextFault};
 ghost use Rattle.mrpc_top.specs.Decoding.{IsDecoded, IsCutAt};
-ghost use Rattle.mrpc_top.specs.Command.{command_word, IsReplay, IsDecode, IsCheck, IsCommand, Names, IsRefused, IsScript, Refuses, Runs, HasFault, Decodes, DecodesText, IsCutShort, CutsText, HasDecodeFault, Checks, ChecksText, IsUnchecked, RefusesProto, HasCheckFault, fault_line};
+ghost use Rattle.mrpc_top.specs.Command.{command_word, IsReplay, IsDecode, IsCheck, IsCommand, Names, IsRefused, IsScript, Refuses, Runs, HasFault, Decodes, DecodesText, IsCutShort, CutsText, HasDecodeFault, Checks, ChecksText, IsUnchecked, RefusesProto, HasCheckFault, fault_line, spot_line};
+ghost use Rattle.mrpc_top.specs.Checking.{spot_text};
 
-use crate::check::{CheckFault, checked_text, one_check};
+use crate::check::{CheckFault, Spot, checked_text, one_check};
 use crate::decode_input::read_head;
 use crate::decoding::{Cut, decode_stream};
 use crate::laws::{meaning_law, text_law};
 use crate::reading::{INPUT_LIMIT, Input, read_input};
-use itoa::Buffer;
 use mrpc_base::{Sink, Source, write_all};
 use mrpc_table::{Bytes, Memory};
 use script_lang::{ScriptFault, one_answer, read_script};
@@ -59,7 +59,9 @@ pub const WIRE_FAILED: u8 = 6;
 ///
 /// `check` reads a proto file, and writes the canonical text of its table to `out`. A text that is none, or whose names
 /// and numbers don't go together (`proto_schema` and `schema_offences` say which), is written as one line `fault LINE
-/// REASON`, its first fault; the reasons of the first kind count before those of the second.
+/// REASON`, its first fault; the reasons of the first kind count before those of the second. Of a set of files
+/// (`file_bundle` says what it looks like) it writes the table of the first file and of what its imports lead to
+/// (`schema_files`), or one line `fault FILE REASON` or `fault FILE:LINE REASON`.
 ///
 /// An input of more than 16777216 bytes is `fault 16777216 Input` in each command, and nothing else is
 /// written. Without memory a command ends with `NO_MEMORY`, and what it wrote by then stands.
@@ -85,7 +87,7 @@ pub fn run_command<S: Source, K: Sink, W: Sink>(
     // At the end of a decoding: the input is a table's text and whole frames; their lines were written.
     ensures decoded { result ≡ DONE → IsDecode words.now.items
         → Decodes (S.left input.old) (K.written out.old) (K.written out.new) }
-    // At the end of a check: the input is a proto file's text; the text of its table was written.
+    // At the end of a check: the input is a proto file or a set of files; the text of its table was written.
     ensures checked { result ≡ DONE → IsCheck words.now.items
         → Checks (S.left input.old) (K.written out.old) (K.written out.new) }
 
@@ -280,7 +282,7 @@ fn decode_text<K: Sink>(alloc: Global, text: &[u8], out: &mut K) -> u8
     }
 }
 
-// Reads a proto file, and writes the text of its table.
+// Reads a proto file or a set of files, and writes the text of its table.
 fn check_text<K: Sink>(alloc: Global, text: &[u8], out: &mut K) -> u8
     requires short { length text.now ≤ INPUT_LIMIT }
     ensures statuses { result ≤ OUTPUT_FAILED }
@@ -297,19 +299,29 @@ fn check_text<K: Sink>(alloc: Global, text: &[u8], out: &mut K) -> u8
                 OUTPUT_FAILED
             }
         }
-        Err(CheckFault::At { line, word }) => refuse(alloc, line, word.as_bytes(), out),
+        Err(CheckFault::At { spot, word }) => refuse_at(alloc, spot, word.as_bytes(), out),
         Err(CheckFault::Memory) => NO_MEMORY,
     }
 }
 
-// Writes the line of a fault.
+// Writes the line of a fault at a place or on a line.
 fn refuse<K: Sink>(alloc: Global, place: u64, word: &[u8], out: &mut K) -> u8
     ensures statuses { (result ≡ FAULTY_INPUT) ⊎ ((result ≡ NO_MEMORY) ⊎ (result ≡ OUTPUT_FAILED)) }
     ensures written { result ≡ FAULTY_INPUT
         → Appends (K.written out.old) (K.written out.new) (fault_line place word.now) }
     ensures cause { HasCause (result ≡ OUTPUT_FAILED) (K.faults out.old) (K.faults out.new) }
 {
-    match fault_text(alloc, place, word) {
+    refuse_at(alloc, Spot::Line(place), word, out)
+}
+
+// Writes the line of a fault.
+fn refuse_at<K: Sink>(alloc: Global, spot: Spot, word: &[u8], out: &mut K) -> u8
+    ensures statuses { (result ≡ FAULTY_INPUT) ⊎ ((result ≡ NO_MEMORY) ⊎ (result ≡ OUTPUT_FAILED)) }
+    ensures written { result ≡ FAULTY_INPUT
+        → Appends (K.written out.old) (K.written out.new) (spot_line spot word.now) }
+    ensures cause { HasCause (result ≡ OUTPUT_FAILED) (K.faults out.old) (K.faults out.new) }
+{
+    match fault_text(alloc, spot, word) {
         Err(Memory) => NO_MEMORY,
         Ok(line) => {
             if write_all(out, line.as_slice()) {
@@ -321,12 +333,25 @@ fn refuse<K: Sink>(alloc: Global, place: u64, word: &[u8], out: &mut K) -> u8
     }
 }
 
-fn fault_text(alloc: Global, place: u64, word: &[u8]) -> Result<Bytes, Memory>
-    ensures { IfOk result (λ line. line ≡ fault_line place word.now) }
+fn append_spot(text: &mut Bytes, spot: Spot) -> Result<(), Memory>
+    ensures { OnOk result (text.new ≡ text.old ++ spot_text spot) }
 {
-    let mut buffer = Buffer::new();
+    match spot {
+        Spot::Line(line) => text.append_decimal(line),
+        Spot::OfFile(file) => text.append_decimal(file),
+        Spot::InFile { file, line } => {
+            text.append_decimal(file)?;
+            text.append(b":")?;
+            text.append_decimal(line)
+        }
+    }
+}
+
+fn fault_text(alloc: Global, spot: Spot, word: &[u8]) -> Result<Bytes, Memory>
+    ensures { IfOk result (λ line. line ≡ spot_line spot word.now) }
+{
     let mut line = Bytes::from_slice(alloc, b"fault ")?;
-    line.append(buffer.format(place).as_bytes())?;
+    append_spot(&mut line, spot)?;
     line.append(b" ")?;
     line.append(word)?;
     line.append(b"\n")?;

@@ -1,9 +1,11 @@
 //! The laws of the crates below, as the proofs here use them together. These functions do nothing; their clauses hold.
 
-ghost use Rattle.mrpc_top.specs.Laws.{FileLaw, FrameLaw, MeaningLaw, TextLaw};
+ghost use Rattle.mrpc_top.specs.Laws.{FileLaw, FrameLaw, MeaningLaw, SetLaw, TextLaw};
 
+use file_bundle::one_bundle;
 use frame_transport::{frames_join, one_frame, one_split};
-use proto_schema::{file_or_fault, one_fault as one_proto_fault, one_file};
+use proto_schema::{alone_is_ordered, file_or_fault, one_fault as one_proto_fault, one_file};
+use schema_files::{one_files_fault, one_files_table, table_or_files_fault};
 use schema_resolve::{one_offence, one_table, table_or_offence};
 use table_text::{one_fault as one_table_fault, one_table_behind, one_text};
 use wire_decode::{meaning_or_fault, one_fault, one_meaning};
@@ -41,9 +43,20 @@ pub(crate) fn file_law()
     ensures { FileLaw }
 {
     one_file();
+    alone_is_ordered();
     one_proto_fault();
     file_or_fault();
     one_table();
     one_offence();
     table_or_offence();
+}
+
+/// What holds of sets of files and their tables.
+pub(crate) fn set_law()
+    ensures { SetLaw }
+{
+    one_bundle();
+    one_files_table();
+    one_files_fault();
+    table_or_files_fault();
 }

@@ -5,8 +5,8 @@
 //! that of [`run_command`]. For `replay`: at status 0 a history follows the script that was read, the
 //! history is legal and spelled by its loads, and its audit, the calls that stand and its frames were
 //! written. For `decode`: at status 0 a line was written for each frame, with the encoding of the
-//! message that its payload means. For `check`: at status 0 the text of the table of the proto file that was read was
-//! written. An input that has a fault is answered with its first one.
+//! message that its payload means. For `check`: at status 0 the text of the table of the proto file, or of the set of
+//! files, that was read was written. An input that has a fault is answered with its first one.
 #![tactic(auto)]
 
 mod check;
@@ -16,7 +16,7 @@ mod decoding;
 mod laws;
 mod reading;
 
-pub use check::one_check;
+pub use check::{Spot, one_check};
 pub use command::{
     DONE, FAULTY_INPUT, INPUT_FAILED, NO_COMMAND, NO_MEMORY, OUTPUT_FAILED, WIRE_FAILED,
     one_decoding, run_command,

@@ -1,2 +1,5 @@
 pub mod Dot
+pub mod Joined
 pub mod Order
+pub mod Together
+pub mod Within

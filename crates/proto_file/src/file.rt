@@ -99,7 +99,9 @@ pub type Ranges = Sequence<Range>;
 #[derive(Debug, Drop)]
 pub struct MessageDecl {
     pub name: Word,
-    /// The place of the message that it stands in, among those of the file.
+    /// The place of its file among those that are resolved together; 0 in a file by itself.
+    pub file: usize,
+    /// The place of the message that it stands in.
     pub parent: Option<usize>,
     pub fields: FieldDecls,
     pub oneofs: Words,
@@ -125,7 +127,9 @@ pub type ValueDecls = Sequence<ValueDecl>;
 #[derive(Debug, Drop)]
 pub struct EnumDecl {
     pub name: Word,
-    /// The place of the message that it stands in, among those of the file.
+    /// The place of its file among those that are resolved together; 0 in a file by itself.
+    pub file: usize,
+    /// The place of the message that it stands in.
     pub parent: Option<usize>,
     pub values: ValueDecls,
     pub ranges: Ranges,
@@ -151,6 +155,8 @@ pub type RpcDecls = Sequence<RpcDecl>;
 #[derive(Debug, Drop)]
 pub struct ServiceDecl {
     pub name: Word,
+    /// The place of its file among those that are resolved together; 0 in a file by itself.
+    pub file: usize,
     pub rpcs: RpcDecls,
 }
 

@@ -6,9 +6,11 @@
 #![tactic(auto)]
 
 mod file;
+mod joined;
 
 pub use file::{
     EnumDecl, EnumDecls, FieldDecl, FieldDecls, FieldLabel, FieldType, File, Import, Imports,
     MessageDecl, MessageDecls, Number, Range, Ranges, RpcDecl, RpcDecls, ServiceDecl, ServiceDecls,
     Span, ValueDecl, ValueDecls, Word, Words,
 };
+pub use joined::{Head, Heads, Home, Joined, Places};

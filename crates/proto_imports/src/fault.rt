@@ -1,5 +1,6 @@
 //! What can be at fault with the imports of a set.
 
+ghost use Rattle.proto_imports.specs.Reason.{import_word};
 ghost use Rattle.std.specs.Prelude.{◌≡◌};
 ghost use Rattle.proto_imports.specs.declared.fault.ImportFault.TheVariants.{Memory as NoMemory};
 
@@ -21,6 +22,19 @@ pub enum ImportReason {
     /// It leads back to a file from which it is reached.
     #[error("Cycle")]
     Cycle,
+}
+
+impl ImportReason {
+    /// The word of a printed fault.
+    pub fn word(self) -> &'static str
+        ensures { result.now ≡ import_word self }
+    {
+        match self {
+            ImportReason::Missing => "Missing",
+            ImportReason::Twice => "Twice",
+            ImportReason::Cycle => "Cycle",
+        }
+    }
 }
 
 /// Which import of which file is at fault.

@@ -110,7 +110,7 @@ token_starts text t (Tokens.word l s) w = omega arith
 token_starts text t (Tokens.the_end e s f) w = omega arith
 token_starts text t (Tokens.no_word e s f) w = omega arith
 
-token_goes : (text : List ℕ) (t : Token) → IsHere text t → is_last t.kind ≡ false → t.start < t.end
+pub token_goes : (text : List ℕ) (t : Token) → IsHere text t → is_last t.kind ≡ false → t.start < t.end
 token_goes text t (Tokens.word l s) n = long_token text t l s
 token_goes text t (Tokens.the_end e s f) n = absurd (not_false (is_last t.kind) n (ap is_last e))
 token_goes text t (Tokens.no_word e s f) n = absurd (not_false (is_last t.kind) n (ap is_last e))

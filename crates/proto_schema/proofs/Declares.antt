@@ -1,6 +1,6 @@
 -- A package, an import, a message, an enum or a service that is declared behind all others keeps the order, and so does a
 -- change that declares nothing.
-use Rattle.std.proofs.Common.{◌≡◌, ◌⊎◌, inl, inr, ℕ, zero, suc, ◌+◌, ◌-◌, ◌<◌, ◌≤◌, Bool, List, [], ◌∷◌, ◌++◌, length, refl, ap, subst, sym, ◌∙◌, arith}
+use Rattle.std.proofs.Common.{◌≡◌, ◌⊎◌, inl, inr, ℕ, zero, suc, ◌-◌, ◌<◌, ◌≤◌, List, [], ◌∷◌, ◌++◌, length, refl, ap, subst, sym, ◌∙◌, arith}
 use Rattle.std.specs.Prelude.{Option, Some, None, slice_get}
 use Rattle.std.proofs.lemmas.Bool.{cases_lt}
 use Rattle.std.proofs.lemmas.Option.{slice_get_within}
@@ -15,7 +15,7 @@ use Rattle.proto_file.specs.declared.file.Import.{Import}
 use Rattle.proto_file.specs.declared.file.FieldDecl.{FieldDecl}
 use Rattle.proto_file.specs.declared.file.ValueDecl.{ValueDecl}
 use Rattle.proto_file.specs.declared.file.ServiceDecl.{ServiceDecl}
-use Rattle.proto_schema.specs.Files.{edit, edit_at, edit_last, field}
+use Rattle.proto_schema.specs.Files.{edit, edit_at, edit_last}
 use Rattle.proto_file.specs.Order.{IsPlaceBelow}
 use Rattle.proto_schema.proofs.Drafts.{edit_beyond}
 use Rattle.proto_schema.proofs.Places.{nothing_at, in_pushed, changed, kept, in_edited_at, in_edited_last}
@@ -78,7 +78,7 @@ kept_import F b c y l i k =
 -- ---- a new message, enum or service
 
 abbrev pub new_message : Option ℕ → Word → MessageDecl
-new_message parent w = record { name = w; parent = parent; fields = []; oneofs = []; ranges = []; names = [] }
+new_message parent w = record { name = w; file = 0; parent = parent; fields = []; oneofs = []; ranges = []; names = [] }
 
 pub through : {A B C : Type 0} → (A → C) → A ⊎ B → C ⊎ B
 through f (inl a) = inl (f a)
@@ -128,7 +128,7 @@ kept_message F b c parent w parents l i k =
         ]
 
 abbrev pub new_enum : Option ℕ → Word → EnumDecl
-new_enum parent w = record { name = w; parent = parent; values = []; ranges = []; names = [] }
+new_enum parent w = record { name = w; file = 0; parent = parent; values = []; ranges = []; names = [] }
 
 pub in_new_enum : (es : List EnumDecl) (parent : Option ℕ) (w : Word) {s : Span} {x : Declaration} {p : Part}
     → InEnums (es ++ new_enum parent w ∷ []) s x p → InEnums es s x p ⊎ ((x ≡ enum_decl (length es)) × IsName w.span s p)
@@ -169,7 +169,7 @@ kept_enum F b c parent w l i k =
         ]
 
 abbrev pub new_service : Word → ServiceDecl
-new_service w = record { name = w; rpcs = [] }
+new_service w = record { name = w; file = 0; rpcs = [] }
 
 pub in_new_service : (ss : List ServiceDecl) (w : Word) {s : Span} {x : Declaration} {p : Part}
     → InServices (ss ++ new_service w ∷ []) s x p → InServices ss s x p ⊎ ((x ≡ service_decl (length ss)) × IsName w.span s p)

@@ -209,7 +209,7 @@ formed_message d w b n s =
     }
   where
     opened : MessageDecl
-    opened = record { name = w; parent = first_of d.messages; fields = []; oneofs = []; ranges = []; names = [] }
+    opened = record { name = w; file = 0; parent = first_of d.messages; fields = []; oneofs = []; ranges = []; names = [] }
 
     new : {P : ℕ → Type 0} → MessageSoFar P (length d.file.messages) opened
     new = record {
@@ -241,7 +241,7 @@ formed_enum d w b n s =
     }
   where
     opened : EnumDecl
-    opened = record { name = w; parent = first_of d.messages; values = []; ranges = []; names = [] }
+    opened = record { name = w; file = 0; parent = first_of d.messages; values = []; ranges = []; names = [] }
 
     new : (k : ℕ) → k ≡ length d.file.enums → EnumSoFar (IsOpenEnum (an_enum false) (length (d.file.enums ++ opened ∷ [])) k) (length d.file.messages) opened
     new k j = record {
@@ -268,7 +268,7 @@ formed_service d w b n s =
     }
   where
     opened : ServiceDecl
-    opened = record { name = w; rpcs = [] }
+    opened = record { name = w; file = 0; rpcs = [] }
 
     new : ServiceSoFar opened
     new = record { name = n; rpcs = λ j r e. absurd (nothing_at j r e) }

@@ -39,3 +39,5 @@ mod KeptOrder
 mod Declares
 mod Members
 mod Ordered
+mod AloneFiles
+mod Insides

@@ -1,6 +1,6 @@
 -- What the statements so far say stands in the order of the text: a statement adds one declaration at most, behind all
 -- that was declared before.
-use Rattle.std.proofs.Common.{◌≡◌, ℕ, suc, ◌+◌, ◌-◌, ◌≤◌, Bool, true, false, List, [], ◌∷◌, ◌++◌, length, refl, ◌∙◌, arith}
+use Rattle.std.proofs.Common.{◌≡◌, ℕ, suc, ◌≤◌, Bool, true, false, List, [], ◌∷◌, ◌++◌, length, refl, ◌∙◌, arith}
 use Rattle.std.specs.Prelude.{Option, Some, None}
 use Rattle.proto_file.specs.Order.{Declaration, Part, StandsAt, IsOrdered}
 use Rattle.proto_file.specs.Order

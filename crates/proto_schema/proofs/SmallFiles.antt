@@ -1,4 +1,4 @@
--- A small file and what it says, and a small text with a fault.
+-- A small file and what it says, a small text with a fault, and files that are in no order.
 use Rattle.std.proofs.Common.{ℕ, ◌<◌, false, List, [], ◌∷◌, ◌++◌, codes, refl, arith}
 use Rattle.std.specs.Prelude.{Option, Some, None}
 use Rattle.mrpc_table.specs.declared.words.Decimal.TheVariants.{Small}
@@ -8,8 +8,10 @@ use Rattle.proto_schema.specs.Files
 use Rattle.proto_schema.specs.Files.{nothing_said}
 use Rattle.proto_schema.specs.Faults
 use Rattle.proto_schema.specs.Faults.{IsNamed}
+use Rattle.proto_file.specs.Joined.{Joined, alone}
 use Rattle.proto_file.specs.Order
 use Rattle.proto_file.specs.Order.{IsFormed, IsOrdered, StandsAt, message_decl, field_decl, its_type, its_name, its_number}
+use Rattle.proto_file.specs.Together
 use Rattle.proto_schema.specs.declared.fault.ProtoReason.TheVariants as reasons
 use Rattle.proto_file.specs.declared.file.Span.{Span}
 use Rattle.proto_file.specs.declared.file.FieldLabel.TheVariants.{Plain}
@@ -17,6 +19,8 @@ use Rattle.proto_file.specs.declared.file.FieldType.TheVariants.{Named}
 use Rattle.proto_file.specs.declared.file.FieldDecl.{FieldDecl}
 use Rattle.proto_file.specs.declared.file.MessageDecl.{MessageDecl}
 use Rattle.proto_file.specs.declared.file.File.{File}
+use Rattle.proto_file.specs.declared.file.Word.{Word}
+use Rattle.proto_file.specs.declared.joined.Head.{Head}
 
 abbrev at : ℕ → Meaning → Lexeme
 at n m = record { means = m; span = record { start = n; end = n; line = 1 } }
@@ -43,6 +47,7 @@ small_says = record {
   imports = [];
   messages = record {
     name = word_at (codes "M") (here 5);
+    file = 0;
     parent = None;
     fields = record { name = word_at (codes "a") (here 8); number = number_at false (Small 1) (here 10); kind = Named (word_at (codes "uint64") (here 7)); label = Plain; oneof = None; packed = None } ∷ [];
     oneofs = [];
@@ -79,7 +84,7 @@ small_number = Order.field 0 0 _ _ refl refl (Order.field_number refl)
 
 -- no file has a message that stands before an earlier one
 abbrev message_at : ℕ → MessageDecl
-message_at n = record { name = word_at (codes "M") (here n); parent = None; fields = []; oneofs = []; ranges = []; names = [] }
+message_at n = record { name = word_at (codes "M") (here n); file = 0; parent = None; fields = []; oneofs = []; ranges = []; names = [] }
 
 abbrev of_messages : List MessageDecl → File
 of_messages ms = record { «package» = None; imports = []; messages = ms; enums = []; services = [] }
@@ -95,3 +100,36 @@ member = record { name = word_at (codes "a") (here 8); number = number_at false 
 
 small_stray : IsFormed (of_messages (record (message_at 5) { fields = member ∷ [] } ∷ [])) → ⊥
 small_stray h = let l : 0 < 0 = ((h.messages 0 (message_at 0) (omega arith)).fields 0 member (omega arith)).oneof in omega arith
+
+-- ---- files that are resolved together
+
+-- where the parts of the small file's field stand, and which file they are of, where it is resolved alone
+small_name_alone : Together.StandsAt (alone small_says) (here 8) (Together.field_decl 0 0) its_name
+small_name_alone = Together.field 0 0 _ _ refl refl (Order.field_name refl)
+
+small_home : Together.IsInFile (alone small_says) 0 (Together.field_decl 0 0)
+small_home = Together.in_field_of 0 0 _ refl refl
+
+-- no file alone has a message of another file
+abbrev message_of : ℕ → ℕ → MessageDecl
+message_of file n = record (message_at n) { file = file }
+
+small_other : Together.IsFormed (alone (of_messages (message_of 1 5 ∷ []))) → ⊥
+small_other h = let l : 1 < 1 = h.message_files 0 (message_at 0) (omega arith) in omega arith
+
+-- no two files have a message of the later one before one of the earlier, nor the later one's package
+abbrev head : Option Word → Head
+head w = record { «package» = w; sees = 0 ∷ 1 ∷ [] }
+
+abbrev two_files : Option Word → List MessageDecl → Joined
+two_files w ms = record { heads = head None ∷ head w ∷ []; messages = ms; enums = []; services = [] }
+
+small_files_mixed : Together.IsOrdered (two_files None (message_of 1 4 ∷ message_of 0 5 ∷ [])) → ⊥
+small_files_mixed h =
+    let l : 5 < 4 = h.files 0 1 (Together.message_decl 1) (Together.message_decl 0) its_name its_name (here 5) (here 4) (omega arith) (Together.in_message_of 1 _ refl refl) (Together.in_message_of 0 _ refl refl) (Together.message 1 _ refl refl) (Together.message 0 _ refl refl) in
+    omega arith
+
+small_late_package : Together.IsOrdered (two_files (Some (word_at (codes "p") (here 4))) (message_of 0 5 ∷ [])) → ⊥
+small_late_package h =
+    let l : 5 < 4 = h.files 0 1 (Together.message_decl 0) (Together.package_decl 1) its_name its_name (here 5) (here 4) (omega arith) (Together.in_message_of 0 _ refl refl) Together.its_package (Together.message 0 _ refl refl) (Together.package_name 1 _ _ refl refl refl) in
+    omega arith

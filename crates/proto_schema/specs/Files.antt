@@ -86,6 +86,7 @@ open_message d name = record {
   file = record d.file {
     messages = d.file.messages ++ record {
       name = name;
+      file = 0;
       parent = first_of d.messages;
       fields = [];
       oneofs = [];
@@ -102,6 +103,7 @@ open_enum d name = record {
   file = record d.file {
     enums = d.file.enums ++ record {
       name = name;
+      file = 0;
       parent = first_of d.messages;
       values = [];
       ranges = [];
@@ -114,7 +116,7 @@ open_enum d name = record {
 
 abbrev pub open_service : Draft → Word → Draft
 open_service d name = record {
-  file = record d.file { services = d.file.services ++ record { name = name; rpcs = [] } ∷ [] };
+  file = record d.file { services = d.file.services ++ record { name = name; file = 0; rpcs = [] } ∷ [] };
   messages = d.messages;
   block = a_service;
 }

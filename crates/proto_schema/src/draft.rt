@@ -241,6 +241,7 @@ impl Draft {
         let parent = self.innermost();
         self.messages.push(MessageDecl {
             name,
+            file: 0,
             parent,
             fields: FieldDecls::new(alloc),
             oneofs: Words::new(alloc),
@@ -258,6 +259,7 @@ impl Draft {
         let parent = self.innermost();
         self.enums.push(EnumDecl {
             name,
+            file: 0,
             parent,
             values: ValueDecls::new(alloc),
             ranges: Ranges::new(alloc),
@@ -272,6 +274,7 @@ impl Draft {
     {
         self.services.push(ServiceDecl {
             name,
+            file: 0,
             rpcs: RpcDecls::new(alloc),
         })?;
         self.block = Block::Service;

@@ -1,8 +1,11 @@
 //! Laws of proto files. These functions do nothing; their clauses hold.
 
-ghost use Rattle.std.specs.Prelude.{◌≡◌, ◌⊎◌, ℕ, List};
+ghost use Rattle.std.specs.Prelude.{◌≡◌, ◌⊎◌, ℕ, List, length};
 ghost use Rattle.proto_schema.specs.Faults.{IsTextOf, HasFault};
+ghost use Rattle.proto_file.specs.Joined.{alone};
 ghost use Rattle.proto_file.specs.Order.{IsFormed, IsOrdered};
+ghost use Rattle.proto_file.specs.Within.{IsWithin};
+ghost use Rattle.proto_file.specs.Together as Together;
 ghost use Rattle.proto_file.specs.declared.file.File.{File};
 ghost use Rattle.proto_file.specs.declared.file.Span.{Span};
 ghost use Rattle.proto_schema.specs.declared.fault.ProtoReason.{ProtoReason};
@@ -40,4 +43,15 @@ pub fn file_or_fault()
 pub fn file_is_ordered()
     ensures formed { (text : List ℕ) (F : File) → IsTextOf text F → IsFormed F }
     ensures ordered { (text : List ℕ) (F : File) → IsTextOf text F → IsOrdered F }
+{}
+
+/// A file that was read is well formed and in order also as one that is resolved alone.
+pub fn alone_is_ordered()
+    ensures formed { (text : List ℕ) (F : File) → IsTextOf text F → Together.IsFormed (alone F) }
+    ensures ordered { (text : List ℕ) (F : File) → IsTextOf text F → Together.IsOrdered (alone F) }
+{}
+
+/// What a text reads as stands in it: each name and number starts before the text's end, and ends there at the latest.
+pub fn file_is_within()
+    ensures { (text : List ℕ) (F : File) → IsTextOf text F → IsWithin (length text) F }
 {}

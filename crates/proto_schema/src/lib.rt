@@ -8,7 +8,8 @@
 //! runs out (`only`), and a fault that it answers is the text's first one (`fault`). A text reads as one file at most
 //! ([`one_file`]) and has one first fault at most ([`one_fault`]), one of both and never both ([`file_or_fault`]). What
 //! it reads as is well formed, and its names and numbers start in the order of its lists (`Order` of `proto_file`,
-//! [`file_is_ordered`]).
+//! [`file_is_ordered`]), also as a file that is resolved alone (`Together` of `proto_file`, [`alone_is_ordered`]). They
+//! stand in the text (`Within` of `proto_file`, [`file_is_within`]).
 #![tactic(auto)]
 
 mod draft;
@@ -26,5 +27,7 @@ mod tail;
 mod value;
 
 pub use fault::{ProtoFault, ProtoReason};
-pub use laws::{file_is_ordered, file_or_fault, one_fault, one_file};
+pub use laws::{
+    alone_is_ordered, file_is_ordered, file_is_within, file_or_fault, one_fault, one_file,
+};
 pub use read::read_proto;

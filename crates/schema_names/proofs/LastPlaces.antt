@@ -10,8 +10,8 @@ use Rattle.std.proofs.lemmas.Cmp.{tied_itself, nat_list_cmp_total}
 use Rattle.std.proofs.lemmas.Map.Lookups.{exact_bytes}
 use Rattle.std.proofs.lemmas.Option.{slice_get_within}
 use Rattle.std.proofs.lemmas.List.{take_more, length_push, length-take-le, length-map, get_or_default}
-use Rattle.schema_names.specs.Kept.{KnowsLast, IsLast, last_in, values_of}
-use Rattle.schema_names.proofs.Looking.{part_at}
+use Rattle.schema_names.specs.Parts.{KnowsLast, IsLast, last_in, values_of}
+use Rattle.schema_names.proofs.ListParts.{part_at}
 
 get_push : (xs : List (List ℕ)) (x q : List ℕ) (j : ℕ) → slice_get (xs ++ x ∷ []) j ≡ Some q → (slice_get xs j ≡ Some q) ⊎ ((j ≡ length xs) × (x ≡ q))
 get_push [] x q zero e = let same : x ≡ q = cc in inr (refl, same)

@@ -1,7 +1,12 @@
-mod Building
-mod Deciding
+mod BelowLemmas
+mod FindLemmas
+mod Keys
 mod LastPlaces
-mod Looking
+mod ListParts
+mod Meaning
+mod NumberLemmas
 mod OnlyOne
+mod PlaceLemmas
 mod Rows
 mod ScopeLemmas
+mod TypeLemmas

@@ -1,5 +1,12 @@
+pub mod Below
 pub mod Children
+pub mod Deepest
 pub mod Finding
-pub mod Kept
+pub mod Known
+pub mod Numbered
 pub mod Numbers
+pub mod Parts
+pub mod PlacesKept
 pub mod Scopes
+pub mod ScopesKept
+pub mod Types

@@ -1,10 +1,11 @@
 -- Names and scopes (Protocol Buffers, language guide, "Packages and Name Resolution"): which full name a declaration
 -- has, and which one a reference means. A full name is a list of names, the outermost first; so is a scope, which the
--- names of what stands in it begin with.
-use Rattle.std.specs.Prelude.{◌≡◌, ◌≢◌, ℕ, ◌≤◌, Bool, true, false, List, [], ◌∷◌, ◌++◌, Option, Some, None, slice_get, Contains}
+-- names of what stands in it begin with. The scope of a package is one over all files of that package.
+use Rattle.std.specs.Prelude.{◌≡◌, ◌≢◌, ℕ, ◌≤◌, Bool, true, false, List, [], ◌∷◌, ◌++◌, Some, slice_get, Contains}
 use Rattle.std.specs.List.{join_with_byte}
 use Rattle.mrpc_table.specs.Names.{parts_of}
 use Rattle.proto_file.specs.Dot.{dot}
+use Rattle.proto_file.specs.Joined.{Joined, Sees, home_of, enum_home_of, package_at}
 use Rattle.proto_file.specs.declared.file.Word.{Word}
 use Rattle.proto_file.specs.declared.file.Span.{Span}
 use Rattle.proto_file.specs.declared.file.FieldDecl.{FieldDecl}
@@ -13,7 +14,8 @@ use Rattle.proto_file.specs.declared.file.ValueDecl.{ValueDecl}
 use Rattle.proto_file.specs.declared.file.EnumDecl.{EnumDecl}
 use Rattle.proto_file.specs.declared.file.RpcDecl.{RpcDecl}
 use Rattle.proto_file.specs.declared.file.ServiceDecl.{ServiceDecl}
-use Rattle.proto_file.specs.declared.file.File.{File}
+use Rattle.proto_file.specs.declared.joined.Home.{Home}
+use Rattle.proto_file.specs.declared.joined.Home.TheVariants as home
 
 -- the text of a full name
 abbrev pub text_of : List (List ℕ) → List ℕ
@@ -21,18 +23,11 @@ text_of full = join_with_byte dot full
 
 -- ---- declarations
 
-abbrev pub package_parts : Option Word → List (List ℕ)
-package_parts None = []
-package_parts (Some w) = parts_of w.name
-
-abbrev pub package_of : File → List (List ℕ)
-package_of F = package_parts F.package
-
--- the scope of what stands in the file, or in the message at this place
-pub data IsScope (F : File) : Option ℕ → List (List ℕ) → Type 0 where
-  of_file : IsScope F None (package_of F)
+-- the scope of what stands in the file, or in the message, at this place
+pub data IsScope (F : Joined) : Home → List (List ℕ) → Type 0 where
+  of_file : (k : ℕ) → IsScope F (home.File k) (package_at F k)
   of_message : (i : ℕ) (m : MessageDecl) {outer : List (List ℕ)} → slice_get F.messages i ≡ Some m
-      → IsScope F m.parent outer → IsScope F (Some i) (outer ++ m.name.name ∷ [])
+      → IsScope F (home_of m) outer → IsScope F (home.Message i) (outer ++ m.name.name ∷ [])
 
 pub data Sort : Type 0 where
   a_message : Sort
@@ -44,60 +39,66 @@ is_type a_message = true
 is_type an_enum = true
 is_type no_type = false
 
--- The file declares this full name, here. The values of an enum stand beside it, in the scope that it stands in.
-pub data Declares (F : File) : Sort → List (List ℕ) → Span → Type 0 where
-  message : (m : MessageDecl) {outer : List (List ℕ)} → Contains F.messages m → IsScope F m.parent outer
-      → Declares F a_message (outer ++ m.name.name ∷ []) m.name.span
-  enum : (e : EnumDecl) {outer : List (List ℕ)} → Contains F.enums e → IsScope F e.parent outer
-      → Declares F an_enum (outer ++ e.name.name ∷ []) e.name.span
+-- The file at a place declares this full name, here. The values of an enum stand beside it, in the scope that it stands
+-- in.
+pub data Declares (F : Joined) : ℕ → Sort → List (List ℕ) → Span → Type 0 where
+  message : (m : MessageDecl) {outer : List (List ℕ)} → Contains F.messages m → IsScope F (home_of m) outer
+      → Declares F m.file a_message (outer ++ m.name.name ∷ []) m.name.span
+  enum : (e : EnumDecl) {outer : List (List ℕ)} → Contains F.enums e → IsScope F (enum_home_of e) outer
+      → Declares F e.file an_enum (outer ++ e.name.name ∷ []) e.name.span
   service : (s : ServiceDecl) → Contains F.services s
-      → Declares F no_type (package_of F ++ s.name.name ∷ []) s.name.span
+      → Declares F s.file no_type (package_at F s.file ++ s.name.name ∷ []) s.name.span
   value : (e : EnumDecl) (v : ValueDecl) {outer : List (List ℕ)} → Contains F.enums e → Contains e.values v
-      → IsScope F e.parent outer → Declares F no_type (outer ++ v.name.name ∷ []) v.name.span
+      → IsScope F (enum_home_of e) outer → Declares F e.file no_type (outer ++ v.name.name ∷ []) v.name.span
   field : (m : MessageDecl) (f : FieldDecl) {outer : List (List ℕ)} → Contains F.messages m → Contains m.fields f
-      → IsScope F m.parent outer → Declares F no_type (outer ++ m.name.name ∷ f.name.name ∷ []) f.name.span
+      → IsScope F (home_of m) outer
+      → Declares F m.file no_type (outer ++ m.name.name ∷ f.name.name ∷ []) f.name.span
   oneof : (m : MessageDecl) (o : Word) {outer : List (List ℕ)} → Contains F.messages m → Contains m.oneofs o
-      → IsScope F m.parent outer → Declares F no_type (outer ++ m.name.name ∷ o.name ∷ []) o.span
+      → IsScope F (home_of m) outer → Declares F m.file no_type (outer ++ m.name.name ∷ o.name ∷ []) o.span
   rpc : (s : ServiceDecl) (r : RpcDecl) → Contains F.services s → Contains s.rpcs r
-      → Declares F no_type (package_of F ++ s.name.name ∷ r.name.name ∷ []) r.name.span
+      → Declares F s.file no_type (package_at F s.file ++ s.name.name ∷ r.name.name ∷ []) r.name.span
+
+-- the package of a file has this full name, or begins with it
+pub record IsFront (F : Joined) (full : List (List ℕ)) : Type 0 where
+  pub file : ℕ
+  pub rest : List (List ℕ)
+  pub begins : package_at F file ≡ full ++ rest
 
 -- ---- references
 
--- a type of these files, or one of their packages or a front of one
-pub data IsThere (files : List File) (full : List (List ℕ)) : Type 0 where
-  a_type : (F : File) (sort : Sort) (span : Span) → Contains files F → Declares F sort full span
-      → is_type sort ≡ true → IsThere files full
-  a_package : (F : File) (rest : List (List ℕ)) → Contains files F → package_of F ≡ full ++ rest → IsThere files full
+-- a type of the files that a file sees, or one of their packages or a front of one
+pub data IsThere (F : Joined) (file : ℕ) (full : List (List ℕ)) : Type 0 where
+  a_type : (other : ℕ) (sort : Sort) (span : Span) → Sees F file other → Declares F other sort full span
+      → is_type sort ≡ true → IsThere F file full
+  a_package : (other : ℕ) (rest : List (List ℕ)) → Sees F file other → package_at F other ≡ full ++ rest
+      → IsThere F file full
 
--- the innermost scope, from this one outward, that has a type or a package of a name
-pub data Decides (files : List File) (name : List ℕ) : List (List ℕ) → List (List ℕ) → Type 0 where
-  here : {scope : List (List ℕ)} → IsThere files (scope ++ name ∷ []) → Decides files name scope scope
+-- the innermost scope, from this one outward, that has a type or a package of a name, as a file sees it
+pub data Decides (F : Joined) (file : ℕ) (name : List ℕ) : List (List ℕ) → List (List ℕ) → Type 0 where
+  here : {scope : List (List ℕ)} → IsThere F file (scope ++ name ∷ []) → Decides F file name scope scope
   outward : (last : List ℕ) {outer scope decisive : List (List ℕ)} → scope ≡ outer ++ last ∷ []
-      → (IsThere files (scope ++ name ∷ []) → ⊥) → Decides files name outer decisive
-      → Decides files name scope decisive
+      → (IsThere F file (scope ++ name ∷ []) → ⊥) → Decides F file name outer decisive
+      → Decides F file name scope decisive
 
--- The full name that a reference means in a scope. Its first part alone decides; behind a dot it is the full name.
-pub data Means (files : List File) (scope : List (List ℕ)) : List ℕ → List (List ℕ) → Type 0 where
-  absolute : (name : List ℕ) → Means files scope (dot ∷ name) (parts_of name)
+-- The full name that a reference of a file means in a scope. Its first part alone decides; behind a dot it is the full
+-- name.
+pub data Means (F : Joined) (file : ℕ) (scope : List (List ℕ)) : List ℕ → List (List ℕ) → Type 0 where
+  absolute : (name : List ℕ) → Means F file scope (dot ∷ name) (parts_of name)
   relative : (name first : List ℕ) {others decisive : List (List ℕ)} → parts_of name ≡ first ∷ others → first ≢ []
-      → Decides files first scope decisive → Means files scope name (decisive ++ first ∷ others)
+      → Decides F file first scope decisive → Means F file scope name (decisive ++ first ∷ others)
 
--- what a full name is in a file: where it is declared twice, the first declaration counts
-pub record IsFirst (F : File) (sort : Sort) (full : List (List ℕ)) : Type 0 where
+-- what a full name is, as a file sees it: where it is declared twice, the first declaration counts
+pub record Finds (F : Joined) (file : ℕ) (sort : Sort) (full : List (List ℕ)) : Type 0 where
   pub span : Span
-  pub declared : Declares F sort full span
+  pub other : ℕ
+  pub seen : Sees F file other
+  pub declared : Declares F other sort full span
   pub names_type : is_type sort ≡ true
-  pub first : (other : Sort) (t : Span) → Declares F other full t → is_type other ≡ true → span.start ≤ t.start
+  pub first : (another : ℕ) (its_sort : Sort) (t : Span) → Sees F file another → Declares F another its_sort full t
+      → is_type its_sort ≡ true → span.start ≤ t.start
 
-pub data Finds : List File → Sort → List (List ℕ) → Type 0 where
-  in_this : {F : File} {files : List File} {sort : Sort} {full : List (List ℕ)} → IsFirst F sort full
-      → Finds (F ∷ files) sort full
-  in_others : {F : File} {files : List File} {sort : Sort} {full : List (List ℕ)}
-      → ((other : Sort) (t : Span) → Declares F other full t → is_type other ≡ true → ⊥)
-      → Finds files sort full → Finds (F ∷ files) sort full
-
--- in a scope, a reference names a message or an enum of this full name
-pub record Names (files : List File) (scope : List (List ℕ)) (name : List ℕ) (sort : Sort)
+-- in a scope, a reference of a file names a message or an enum of this full name
+pub record Names (F : Joined) (file : ℕ) (scope : List (List ℕ)) (name : List ℕ) (sort : Sort)
     (full : List (List ℕ)) : Type 0 where
-  pub means : Means files scope name full
-  pub finds : Finds files sort full
+  pub means : Means F file scope name full
+  pub finds : Finds F file sort full

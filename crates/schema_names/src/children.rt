@@ -14,7 +14,7 @@ pub struct Children<'a, V> {
     by: BTreeMap<(usize, &'a [u8]), V>,
 }
 
-impl<'a, V: Copy + Drop> Children<'a, V> {
+impl<'a, V: Drop> Children<'a, V> {
     /// No values.
     pub fn new(alloc: Global) -> Children<'a, V>
         ensures { (scope : ℕ) (name : List ℕ) → child result scope name ≡ None }
@@ -25,10 +25,10 @@ impl<'a, V: Copy + Drop> Children<'a, V> {
     }
 
     /// The value of a name in a scope.
-    pub fn get(&self, scope: usize, name: &'a [u8]) -> Option<V>
-        ensures { result ≡ child self.now scope name.now }
+    pub fn get(&self, scope: usize, name: &'a [u8]) -> Option<&V>
+        ensures { option_copied result ≡ child self.now scope name.now }
     {
-        self.by.get(&(scope, name)).copied()
+        self.by.get(&(scope, name))
     }
 
     /// Gives a name in a scope this value.
@@ -38,5 +38,14 @@ impl<'a, V: Copy + Drop> Children<'a, V> {
     {
         self.by.insert((scope, name), value)?;
         Ok(())
+    }
+
+    /// Takes the value of a name in a scope away.
+    pub fn remove(&mut self, scope: usize, name: &'a [u8]) -> Option<V>
+        ensures value { result ≡ child self.old scope name.now }
+        ensures others { (k : ℕ) (other : List ℕ)
+            → child self.new k other ≡ cond (same_child scope name.now k other) None (child self.old k other) }
+    {
+        self.by.remove(&(scope, name))
     }
 }

@@ -1,17 +1,18 @@
 //! Messages and enums, by their places.
 
-/// A message or an enum, by its place in the file.
+/// A message or an enum, by its place among those of the files that are resolved together.
 #[derive(Clone, Copy, Debug, PartialEq, Eq)]
 pub enum Named {
-    /// A message, by its place among the file's messages.
+    /// A message.
     Message(usize),
-    /// An enum, by its place among the file's enums.
+    /// An enum.
     Enum(usize),
 }
 
-// A message or an enum, and where its name starts.
+// A message or an enum, the place of its file, and where its name starts.
 #[derive(Clone, Copy)]
 pub(crate) struct Declared {
+    pub file: usize,
     pub start: usize,
     pub named: Named,
 }

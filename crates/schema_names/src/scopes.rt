@@ -1,208 +1,269 @@
 //! Which message or enum a reference names.
 
-ghost use Rattle.std.specs.Prelude.{◌≡◌, ◌≤◌, ◌≢◌, ℕ, List, [], ◌∷◌, ◌++◌, IfOk, MatchOption, length, take, slice_get};
+ghost use Rattle.std.specs.Prelude.{◌≡◌, ◌≢◌, ◌<◌, ◌^◌, ◌↔◌, ◌++◌, ◌∷◌, [], ℕ, List, IfOk, IsTrue, MatchOption, length};
 ghost use Rattle.mrpc_table.specs.Names.{parts_of};
-ghost use Rattle.schema_names.specs.Scopes.{IsScope, Decides, package_of};
-ghost use Rattle.schema_names.specs.Numbers.{StandBehind, IsPlace, IsNumber, IsFirstAt};
-ghost use Rattle.schema_names.specs.Kept.{IsLast};
-ghost use Rattle.schema_names.specs.Finding.{IsAnswer, NoType, StaysOpen};
+ghost use Rattle.proto_file.specs.Joined.{package_at};
+ghost use Rattle.proto_file.specs.declared.joined.Home.{Home};
+ghost use Rattle.schema_names.specs.Scopes.{IsScope, IsFront, IsThere, Decides};
+ghost use Rattle.schema_names.specs.Numbers.{StandBehind, IsPlace, IsNumber, IsFirstAt, scope_count};
+ghost use Rattle.schema_names.specs.Finding.{IsAnswer, NoType};
+ghost use Rattle.schema_names.specs.Deepest.{IsDeepest, IsOwnAt, IsDeepestBusy, earlier_of, larger_of};
 
-use crate::build::{
-    add_enums, add_messages, last_places, number_in, number_messages, package_parts,
-};
-use crate::children::Children;
+use crate::below::all_busy_fronts;
 use crate::named::{Declared, Named};
+use crate::parts::{after_dot, first_part};
+use crate::places::Places;
+use crate::types::{Types, add_enums, add_messages};
 use mrpc_table::{Memory, cut};
-use proto_file::File;
+use proto_file::{Home, Joined};
 use std::alloc::Global;
-use std::collections::BTreeMap;
 use std::marker::Model;
 
-/// The names of a file's types by their scopes, and the parts of its package. Clauses see the file.
+/// The names of the types of files that are resolved together, by their scopes. Clauses see the files.
 #[derive(Drop)]
 pub struct Scopes<'a> {
-    file: &'a File,
-    numbers: Vec<usize>,
-    messages: Children<'a, usize>,
-    types: Children<'a, Declared>,
-    parts: Vec<&'a [u8]>,
-    last_places: BTreeMap<&'a [u8], usize>,
+    places: Places<'a>,
+    types: Types<'a>,
+    busy: Vec<Vec<usize>>,
 }
 
 impl<'a> Model for Scopes<'a> {
-    ghost use Rattle.proto_file.specs.declared.file.File.{File};
+    ghost use Rattle.proto_file.specs.Joined.{Joined};
 
-    ghost Value = { File };
+    ghost Value = { Joined };
 
-    ghost use Rattle.schema_names.specs.Kept.{AreOf};
+    ghost use Rattle.schema_names.specs.ScopesKept.{AreScopes};
 
-    ghost view = { λ s. s.file.now };
+    ghost view = { λ s. s.places };
 
-    ghost invariant = { AreOf };
+    ghost invariant = { AreScopes };
 }
 
-// What stands behind a dot at the front.
-fn after_dot(name: &[u8]) -> Option<&[u8]>
-    ensures { MatchOption result ((rest : List ℕ) → name.now ≢ 46 ∷ rest) (λ r. name.now ≡ 46 ∷ r.now) }
+// The one of two declarations that starts first.
+fn first_of(known: Option<Declared>, declared: Declared) -> Declared
+    ensures { result ≡ earlier_of known declared }
 {
-    match name {
-        [b'.', rest @ ..] => Some(rest),
-        _ => None,
+    match known {
+        Some(other) if other.start <= declared.start => other,
+        _ => declared,
     }
 }
 
-// The first part of a name.
-fn first_part(name: &[u8]) -> &[u8]
-    ensures { (others : List (List ℕ)) × (parts_of name.now ≡ result.now ∷ others) }
+// The larger one of two numbers, or the one that is there.
+fn larger(left: Option<usize>, right: Option<usize>) -> Option<usize>
+    ensures { result ≡ larger_of left right }
 {
-    match cut(name, b'.') {
-        Some((part, _)) => part,
-        None => name,
+    match (left, right) {
+        (Some(n), Some(m)) => Some(n.max(m)),
+        (Some(n), None) => Some(n),
+        (None, other) => other,
     }
 }
 
 impl<'a> Scopes<'a> {
-    /// The scopes of a file. It takes time by the file's length and the logarithm of its number of messages and enums.
-    pub fn new(alloc: Global, file: &'a File) -> Result<Scopes<'a>, Memory>
-        requires { StandBehind file.now }
-        ensures { IfOk result (λ s. s ≡ file.now) }
+    /// The scopes of files. It takes time by what they declare and the logarithm of the number of their types.
+    pub fn new(alloc: Global, files: &Joined<'a>) -> Result<Scopes<'a>, Memory>
+        requires { StandBehind files.now }
+        ensures { IfOk result (λ s. s ≡ files.now) }
     {
-        let mut messages = Children::new(alloc);
-        let numbers = number_messages(alloc, file, &mut messages)?;
-        let mut types = Children::new(alloc);
-        add_messages(file, &numbers, &mut types)?;
-        add_enums(file, &numbers, &mut types)?;
-        let parts = package_parts(alloc, &file.package)?;
-        let last_places = last_places(alloc, &parts)?;
+        let places = Places::new(alloc, files)?;
+        let mut types = Types::new(alloc);
+        add_messages(alloc, &places, &mut types)?;
+        add_enums(alloc, &places, &mut types)?;
+        let busy = all_busy_fronts(alloc, &places)?;
         Ok(Scopes {
-            file,
-            numbers,
-            messages,
+            places,
             types,
-            parts,
-            last_places,
+            busy,
         })
     }
 
-    /// The number of the scope of what stands in the file or in a message.
-    pub fn number(&self, parent: Option<usize>) -> usize
-        requires { IsPlace self.now parent }
-        ensures { (scope : List (List ℕ)) → IsScope self.now parent scope → IsNumber self.now scope result }
+    /// How many numbers of scopes there are.
+    pub fn count(&self) -> usize
+        ensures is { result ≡ scope_count self.now }
+        ensures few { result < 2 ^ 62 }
     {
-        number_in(&self.numbers, parent)
+        self.places.count()
     }
 
-    /// What a reference names that stands in the file or in a message: the first message or enum of its full name.
-    pub fn find(&self, parent: Option<usize>, name: &'a [u8]) -> Option<Named>
-        requires { IsPlace self.now parent }
-        ensures { (scope : List (List ℕ)) → IsScope self.now parent scope
-            → IsAnswer self.now scope name.now result }
+    /// The number of the scope of what stands in a file or in a message.
+    pub fn number(&self, home: Home) -> usize
+        requires { IsPlace self.now home }
+        ensures { (scope : List (List ℕ)) → IsScope self.now home scope → IsNumber self.now scope result }
+    {
+        self.places.number(home)
+    }
+
+    /// Whether a name in the scope of what stands in a file or in a message is a package's, or a front of one.
+    pub fn is_package(&self, home: Home, name: &'a [u8]) -> bool
+        requires { IsPlace self.now home }
+        ensures { (scope : List (List ℕ)) → IsScope self.now home scope
+            → IsTrue result ↔ IsFront self.now (scope ++ name.now ∷ []) }
+    {
+        match self.places.inner(self.places.number(home), name) {
+            Some(scope) => self.places.is_front(scope),
+            None => false,
+        }
+    }
+
+    /// What a reference of a file names that stands in a file or in a message: the first message or enum of its full
+    /// name among those that the file sees.
+    pub fn find(&self, file: usize, home: Home, name: &'a [u8]) -> Option<Named>
+        requires file { file < length self.now.heads }
+        requires home { IsPlace self.now home }
+        ensures { (scope : List (List ℕ)) → IsScope self.now home scope
+            → IsAnswer self.now file scope name.now result }
     {
         match after_dot(name) {
-            Some(full) => self.behind_package(0, full),
-            None => self.find_outward(parent, name),
+            Some(full) => self.find_in(file, 0, full),
+            None => self.find_outward(file, home, name),
         }
     }
 
     // The innermost scope that has the first part decides.
-    fn find_outward(&self, parent: Option<usize>, name: &'a [u8]) -> Option<Named>
-        requires place { IsPlace self.now parent }
+    fn find_outward(&self, file: usize, home: Home, name: &'a [u8]) -> Option<Named>
+        requires file { file < length self.now.heads }
+        requires home { IsPlace self.now home }
         requires relative { (rest : List ℕ) → name.now ≢ 46 ∷ rest }
-        ensures { (scope : List (List ℕ)) → IsScope self.now parent scope
-            → IsAnswer self.now scope name.now result }
+        ensures { (scope : List (List ℕ)) → IsScope self.now home scope
+            → IsAnswer self.now file scope name.now result }
     {
         let part = first_part(name);
         if part.is_empty() {
             return None;
         }
-        match self.deciding(parent, part) {
-            Some(scope) => self.find_in(scope, name),
-            None => self.find_behind(part, name),
-        }
-    }
-
-    // What a name means whose first part no scope of the file and of its messages has.
-    fn find_behind(&self, part: &'a [u8], name: &'a [u8]) -> Option<Named>
-        requires first { (others : List (List ℕ)) × (parts_of name.now ≡ part.now ∷ others) }
-        requires some { part.now ≢ [] }
-        ensures { (scope : List (List ℕ)) → StaysOpen self.now part.now scope
-            → IsAnswer self.now scope name.now result }
-    {
-        match self.last_place(part) {
-            Some(place) => self.behind_package(place, name),
+        match self.deciding(file, home, part) {
+            Some(scope) => self.find_in(file, scope, name),
             None => None,
         }
     }
 
-    // The number of the innermost scope, of this one, those of the messages around it and of the file, that has a type
-    // of this name.
-    fn deciding(&self, parent: Option<usize>, name: &'a [u8]) -> Option<usize>
-        requires { IsPlace self.now parent }
-        ensures { (scope : List (List ℕ)) → IsScope self.now parent scope
-            → MatchOption result (StaysOpen self.now name.now scope)
+    // The number of the innermost scope, from this one outward, that has a type or a package of a name.
+    fn deciding(&self, file: usize, home: Home, name: &'a [u8]) -> Option<usize>
+        requires file { file < length self.now.heads }
+        requires home { IsPlace self.now home }
+        ensures { (scope : List (List ℕ)) → IsScope self.now home scope
+            → MatchOption result ((decisive : List (List ℕ)) → Decides self.now file name.now scope decisive → ⊥)
             (λ k. (decisive : List (List ℕ)) × IsNumber self.now decisive k
-            × Decides (self.now ∷ []) name.now scope decisive) }
+            × Decides self.now file name.now scope decisive) }
     {
-        let mut place = parent;
-        while let Some(i) = place {
-            let scope = number_in(&self.numbers, place);
-            if self.types.get(scope, name).is_some() {
+        let mut place = home;
+        'outward: loop {
+            let i = match place {
+                Home::File(its_file) => return self.deciding_front(file, its_file, name),
+                Home::Message(i) => i,
+            };
+            let scope = self.places.number(place);
+            if self.is_there(file, scope, name) {
                 return Some(scope);
             }
-            place = self.file.messages.as_slice()[i].parent;
-        }
-        if self.types.get(0, name).is_some() {
-            Some(0)
-        } else {
-            None
+            place = self.places.messages()[i].home();
         }
     }
 
-    // The last place at which the package has a part.
-    fn last_place(&self, part: &'a [u8]) -> Option<usize>
-        ensures { MatchOption result ((i : ℕ) → slice_get (package_of self.now) i ≢ Some part.now)
-            (IsLast (package_of self.now) part.now) }
+    // The number of the longest front of a package that has a type or a package of a name.
+    fn deciding_front(&self, file: usize, its_file: usize, name: &'a [u8]) -> Option<usize>
+        requires file { file < length self.now.heads }
+        requires its_file { its_file < length self.now.heads }
+        ensures { MatchOption result ((decisive : List (List ℕ))
+            → Decides self.now file name.now (package_at self.now its_file) decisive → ⊥)
+            (λ k. (decisive : List (List ℕ)) × IsNumber self.now decisive k
+            × Decides self.now file name.now (package_at self.now its_file) decisive) }
     {
-        self.last_places.get(&part).copied()
+        let own = self.own_front(file, its_file, name);
+        match larger(own, self.busy_front(file, its_file, name)) {
+            Some(depth) => Some(self.places.front(its_file, depth)),
+            None => None,
+        }
     }
 
-    // The first type whose full name is a name behind the package's parts before a place.
-    fn behind_package(&self, place: usize, name: &'a [u8]) -> Option<Named>
-        requires { place ≤ length (package_of self.now) }
-        ensures { let full = take place (package_of self.now) ++ parts_of name.now
-            in MatchOption result (NoType self.now full) (λ named. IsFirstAt self.now named full) }
+    // The longest front of a package whose next part is a name. It is found at once where the file sees the package.
+    fn own_front(&self, file: usize, its_file: usize, name: &'a [u8]) -> Option<usize>
+        requires file { file < length self.now.heads }
+        requires its_file { its_file < length self.now.heads }
+        ensures { IsDeepest (IsOwnAt self.now file its_file name.now) result }
     {
-        let mut rest = name;
-        for i in place..self.parts.len() {
-            let Some((part, others)) = cut(rest, b'.') else {
-                return None;
-            };
-            if part != self.parts[i] {
-                return None;
-            }
-            rest = others;
-        }
-        self.find_in(0, rest)
-    }
-
-    // The first type whose full name is a name in a scope.
-    fn find_in(&self, start: usize, name: &'a [u8]) -> Option<Named>
-        ensures { (scope : List (List ℕ)) → IsNumber self.now scope start
-            → MatchOption result (NoType self.now (scope ++ parts_of name.now))
-            (λ named. IsFirstAt self.now named (scope ++ parts_of name.now)) }
-    {
-        let mut number = start;
-        let mut rest = name;
-        while let Some((part, others)) = cut(rest, b'.') {
-            let Some(inner) = self.messages.get(number, part) else {
-                return None;
-            };
-            number = inner;
-            rest = others;
-        }
-        let Some(declared) = self.types.get(number, rest) else {
+        let Some(last) = self.places.last_place(its_file, name) else {
             return None;
         };
-        Some(declared.named)
+        for n in (0..last + 1).rev() {
+            if self.places.part(its_file, n) != name {
+                continue;
+            }
+            let front = self.places.front(its_file, n + 1);
+            if self.places.sees_front(file, front) {
+                return Some(n);
+            }
+        }
+        None
+    }
+
+    // The longest front of a package that has a type or a package of a name, of those at which more may begin than its
+    // next part.
+    fn busy_front(&self, file: usize, its_file: usize, name: &'a [u8]) -> Option<usize>
+        requires file { file < length self.now.heads }
+        requires its_file { its_file < length self.now.heads }
+        ensures { IsDeepestBusy self.now file its_file name.now result }
+    {
+        for n in self.busy[its_file].as_slice() {
+            let scope = self.places.front(its_file, *n);
+            if self.is_there(file, scope, name) {
+                return Some(*n);
+            }
+        }
+        None
+    }
+
+    // Whether a name in a scope is a type's or a package's, as a file sees it.
+    fn is_there(&self, file: usize, scope: usize, name: &'a [u8]) -> bool
+        requires { file < length self.now.heads }
+        ensures { (outer : List (List ℕ)) → IsNumber self.now outer scope
+            → IsTrue result ↔ IsThere self.now file (outer ++ name.now ∷ []) }
+    {
+        if self.first_type(file, scope, name).is_some() {
+            return true;
+        }
+        match self.places.inner(scope, name) {
+            Some(inner) => self.places.sees_front(file, inner),
+            None => false,
+        }
+    }
+
+    // The first type of a name in a scope among those that a file sees.
+    fn first_type(&self, file: usize, scope: usize, name: &'a [u8]) -> Option<Named>
+        requires { file < length self.now.heads }
+        ensures { (outer : List (List ℕ)) → IsNumber self.now outer scope
+            → MatchOption result (NoType self.now file (outer ++ name.now ∷ []))
+            (λ named. IsFirstAt self.now file named (outer ++ name.now ∷ [])) }
+    {
+        let mut first: Option<Declared> = None;
+        for declared in self.types.get(scope, name) {
+            if self.places.sees(file, declared.file) {
+                first = Some(first_of(first, *declared));
+            }
+        }
+        match first {
+            Some(declared) => Some(declared.named),
+            None => None,
+        }
+    }
+
+    // The first type whose full name is a name in a scope, among those that a file sees.
+    fn find_in(&self, file: usize, start: usize, name: &'a [u8]) -> Option<Named>
+        requires { file < length self.now.heads }
+        ensures { (scope : List (List ℕ)) → IsNumber self.now scope start
+            → MatchOption result (NoType self.now file (scope ++ parts_of name.now))
+            (λ named. IsFirstAt self.now file named (scope ++ parts_of name.now)) }
+    {
+        let mut scope = start;
+        let mut rest = name;
+        while let Some((part, others)) = cut(rest, b'.') {
+            let Some(inner) = self.places.inner(scope, part) else {
+                return None;
+            };
+            scope = inner;
+            rest = others;
+        }
+        self.first_type(file, scope, rest)
     }
 }

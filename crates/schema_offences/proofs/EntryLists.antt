@@ -1,6 +1,6 @@
 -- Entries that are gathered one behind another.
 use Rattle.std.proofs.Common.{◌≡◌, ℕ, zero, suc, ◌+◌, ◌<◌, ◌⊎◌, inl, inr, List, [], ◌∷◌, ◌++◌, length, map, take, get_or, refl, sym, ap, ◌∙◌, subst, arith}
-use Rattle.std.specs.Prelude.{Option, Some, None, slice_get, Contains}
+use Rattle.std.specs.Prelude.{Some, slice_get, Contains}
 use Rattle.std.proofs.lemmas.Bool.{cases_lt}
 use Rattle.std.proofs.lemmas.List.{map-append, take_more}
 use Rattle.std.proofs.lemmas.List.Elements.{Contains-append_left, Contains-append_right, Contains-append_cases, Contains-push, Contains-push_cases}
@@ -11,11 +11,12 @@ use Rattle.proto_file.specs.declared.file.ValueDecl.{ValueDecl}
 use Rattle.proto_file.specs.declared.file.EnumDecl.{EnumDecl}
 use Rattle.proto_file.specs.declared.file.RpcDecl.{RpcDecl}
 use Rattle.proto_file.specs.declared.file.ServiceDecl.{ServiceDecl}
-use Rattle.proto_file.specs.declared.file.File.{File}
-use Rattle.schema_names.specs.Scopes.{of_file, package_of}
-use Rattle.schema_names.specs.Numbers.{StandBehind, IsPlace, of_file as number_of_file}
+use Rattle.proto_file.specs.Joined.{Joined, home_of, enum_home_of}
+use Rattle.proto_file.specs.declared.joined.Home.{Home}
+use Rattle.proto_file.specs.declared.joined.Home.TheVariants as home
+use Rattle.schema_names.specs.Numbers.{scope_count}
 use Rattle.schema_offences.specs.Entries
-use Rattle.schema_offences.specs.Entries.{Entry, entry, entry_of, entries_of, HasNumber, OfMessage, OfEnum, OfService, OfFirst, OfSome, Adds, HasNumbers, AreStarts}
+use Rattle.schema_offences.specs.Entries.{Entry, entry, entry_of, entries_of, HasNumber, OfMessage, OfEnum, OfService, OfFirst, OfSome, Adds, HaveNumbers, AreStarts}
 use Rattle.schema_offences.specs.declared.names.Declared.{Declared}
 use Rattle.schema_offences.specs.declared.names.Starts.{Starts}
 
@@ -140,11 +141,11 @@ pushed ds es d e is same =
     ap entries_of is ∙ (map-append entry_of ds (d ∷ []) ∙ ap (λ (x : Entry). entries_of ds ++ x ∷ []) same)
 
 -- the one number of a place
-abbrev IsTheNumber : File → Option ℕ → ℕ → Type 0
+abbrev pub IsTheNumber : Joined → Home → ℕ → Type 0
 IsTheNumber F place k = HasNumber F place k × ((j : ℕ) → HasNumber F place j → j ≡ k)
 
-module _ (F : File) (i : ℕ) (m : MessageDecl) (k l : ℕ) (outer : IsTheNumber F m.parent k)
-    (inner : IsTheNumber F (Some i) l) where
+module _ (F : Joined) (i : ℕ) (m : MessageDecl) (k l : ℕ) (outer : IsTheNumber F (home_of m) k)
+    (inner : IsTheNumber F (home.Message i) l) where
   abbrev FieldOrName : Entry → Type 0
   FieldOrName e = (e ≡ entry k m.name) ⊎ IsMapped (λ (f : FieldDecl). entry l f.name) m.fields e
 
@@ -168,7 +169,7 @@ module _ (F : File) (i : ℕ) (m : MessageDecl) (k l : ℕ) (outer : IsTheNumber
       (λ e h. h) (λ e h. h))
       (adds_map (entry l) m.oneofs c d oneofs) message_to message_from
 
-module _ (F : File) (i : ℕ) (x : EnumDecl) (k : ℕ) (outer : IsTheNumber F x.parent k) where
+module _ (F : Joined) (i : ℕ) (x : EnumDecl) (k : ℕ) (outer : IsTheNumber F (enum_home_of x) k) where
   abbrev EnumParts : Entry → Type 0
   EnumParts e = (e ≡ entry k x.name) ⊎ IsMapped (λ (v : ValueDecl). entry k v.name) x.values e
 
@@ -187,8 +188,8 @@ module _ (F : File) (i : ℕ) (x : EnumDecl) (k : ℕ) (outer : IsTheNumber F x.
       (adds_one (entry k x.name) a b one) (adds_map (λ (v : ValueDecl). entry k v.name) x.values b c values)
       enum_to enum_from
 
-module _ (F : File) (i : ℕ) (x : ServiceDecl) (k l : ℕ) (outer : IsTheNumber F None k)
-    (own : l ≡ 1 + length F.messages + i) where
+module _ (F : Joined) (i : ℕ) (x : ServiceDecl) (k l : ℕ) (outer : IsTheNumber F (home.File x.file) k)
+    (own : l ≡ scope_count F + i) where
   abbrev ServiceParts : Entry → Type 0
   ServiceParts e = (e ≡ entry k x.name) ⊎ IsMapped (λ (r : RpcDecl). entry l r.name) x.rpcs e
 
@@ -208,28 +209,25 @@ module _ (F : File) (i : ℕ) (x : ServiceDecl) (k l : ℕ) (outer : IsTheNumber
       (adds_one (entry k x.name) a b one) (adds_map (λ (r : RpcDecl). entry l r.name) x.rpcs b c rpcs)
       service_to service_from
 
--- ---- places
+-- ---- numbers
 
-placed : (F : File) (place : Option ℕ) → ((p : ℕ) → place ≡ Some p → p < length F.messages) → IsPlace F place
-placed F None h = tt
-placed F (Some p) h = h p refl
+pub numbers_none : {X : Type 0} (F : Joined) (xs : List X) (stands_in : X → Home) → HaveNumbers F 0 xs stands_in
+numbers_none F xs stands_in j y l e = absurd (omega arith)
 
-pub message_placed : (F : File) (i : ℕ) (m : MessageDecl) → StandBehind F → slice_get F.messages i ≡ Some m
-    → IsPlace F m.parent
-message_placed F i m behind at =
-    placed F m.parent (λ p e.
-    let l : p < i = behind.messages i p m at e in
-    let w : i < length F.messages = slice_get_within F.messages i m at in
-    omega arith)
+pub numbers_next : {X : Type 0} (F : Joined) (xs : List X) (stands_in : X → Home) (i : ℕ) (x : X)
+    → slice_get xs i ≡ Some x → HaveNumbers F i xs stands_in → ((k : ℕ) × HasNumber F (stands_in x) k)
+    → HaveNumbers F (i + 1) xs stands_in
+numbers_next {X} F xs stands_in i x at known own j y l e = elim (cases_lt j i) [
+  | inl k ↦ known j y k e
+  | inr k ↦
+      let same : j ≡ i = omega arith in
+      let here : slice_get xs i ≡ Some y = subst (λ (n : ℕ). slice_get xs n ≡ Some y) same e in
+      subst (λ (z : X). (n : ℕ) × HasNumber F (stands_in z) n) (same_Some x y (sym at ∙ here)) own
+]
 
-pub enum_placed : (F : File) (i : ℕ) (x : EnumDecl) → StandBehind F → slice_get F.enums i ≡ Some x → IsPlace F x.parent
-enum_placed F i x behind at = placed F x.parent (λ p e. behind.enums x p (get_contains F.enums i x at) e)
-
-pub has_numbers : (F : File) (n : ℕ) → n ≡ length F.messages
-    → ((j : ℕ) → j < n → (k : ℕ) × HasNumber F (Some j) k) → HasNumbers F
-has_numbers F n all each None here =
-    (0, record { full = package_of F; is_scope = of_file; number = number_of_file refl refl })
-has_numbers F n all each (Some j) here = each j (subst (λ (k : ℕ). j < k) (sym all) here)
+pub numbers_all : {X : Type 0} (F : Joined) (xs : List X) (stands_in : X → Home) (i : ℕ) → i ≡ length xs
+    → HaveNumbers F i xs stands_in → HaveNumbers F (length xs) xs stands_in
+numbers_all F xs stands_in i e known = subst (λ (n : ℕ). HaveNumbers F n xs stands_in) e known
 
 -- ---- starts
 

@@ -12,7 +12,6 @@ use Rattle.std.proofs.lemmas.Map.Lookups.{exact_pairs, exact_unsigned, exact_byt
 use Rattle.std.proofs.lemmas.List.Elements.{Contains-append_left, Contains-push, Contains-push_cases}
 use Rattle.std.proofs.lemmas.List.{get_or_default}
 use Rattle.std.proofs.lemmas.Option.{same_Some, slice_get_read}
-use Rattle.schema_names.specs.Children.{same_child}
 use Rattle.proto_file.specs.declared.file.Span.{Span}
 use Rattle.schema_offences.specs.Meeting.{first_of, Meets, OfFirst, OfElement}
 use Rattle.schema_offences.specs.Entries.{Entry, StartsBefore, IsBefore, start_in, AreStarts, IsLater, entry_of, entries_of}
@@ -23,6 +22,10 @@ use Rattle.schema_offences.specs.declared.names.Declared.{Declared}
 use Rattle.schema_offences.specs.declared.names.Starts.{Starts}
 use Rattle.schema_offences.proofs.Meetings.{meets_when, meets_next}
 use Rattle.schema_offences.proofs.EntryLists.{mapped_get}
+
+-- the same name in the same scope
+abbrev same_child : ℕ → List ℕ → ℕ → List ℕ → Bool
+same_child scope name k other = is_eq (ordering_then (nat_cmp scope k) (slice_cmp nat_cmp name other))
 
 same_parts : (a : ℕ) (x : List ℕ) (k : ℕ) (y : List ℕ) → same_child a x k y ≡ true → (a ≡ k) × (x ≡ y)
 same_parts a x k y h =

@@ -1,5 +1,5 @@
 -- What a field's types and its label make of it.
-use Rattle.std.proofs.Common.{◌≡◌, ◌≢◌, ℕ, Bool, true, false, List, [], ◌∷◌, ◌++◌, refl, sym, ap, subst}
+use Rattle.std.proofs.Common.{◌≡◌, ◌≢◌, ℕ, Bool, true, false, List, ◌++◌, refl, sym, ap, subst}
 use Rattle.std.specs.Prelude.{Option, Some, None, not, codes}
 use Rattle.std.specs.Option.{is_some}
 use denote.Enum.Bare.{sameb}
@@ -13,7 +13,7 @@ use Rattle.proto_file.specs.declared.file.FieldLabel.{FieldLabel}
 use Rattle.proto_file.specs.declared.file.FieldLabel.TheVariants.{Plain, Optional, Repeated}
 use Rattle.proto_file.specs.declared.file.FieldType.TheVariants.{Named, Map}
 use Rattle.proto_file.specs.declared.file.FieldDecl.{FieldDecl}
-use Rattle.proto_file.specs.declared.file.File.{File}
+use Rattle.proto_file.specs.Joined.{Joined}
 use Rattle.schema_names.specs.Scopes.{text_of}
 use Rattle.schema_names.specs.declared.named.Named.TheVariants.{Message, Enum}
 use Rattle.schema_offences.specs.Types
@@ -74,68 +74,69 @@ map_oneof f key value e none = oneof_at f key value f.oneof e refl none
 -- ---- types
 
 -- the word that a type has
-pub record HasWord (F : File) (scope : List (List ℕ)) (w : Word) (t : TypeOf) : Type 0 where
+pub record HasWord (F : Joined) (file : ℕ) (scope : List (List ℕ)) (w : Word) (t : TypeOf) : Type 0 where
   pub word : List ℕ
   pub of_type : IsWordOf F t word
-  pub has : HasType (F ∷ []) scope w word (is_message t) (is_packable t)
+  pub has : HasType F file scope w word (is_message t) (is_packable t)
 
-pub has_word : (F : File) (scope : List (List ℕ)) (w : Word) (t : TypeOf) → IsType F scope w.name t
-    → HasWord F scope w t
-has_word F scope w (Scalar k) is = record { word = w.name; of_type = sym is.named; has = Types.scalar k is }
-has_word F scope w (OfName (Message i)) is = record {
+pub has_word : (F : Joined) (file : ℕ) (scope : List (List ℕ)) (w : Word) (t : TypeOf) → IsType F file scope w.name t
+    → HasWord F file scope w t
+has_word F file scope w (Scalar k) is = record { word = w.name; of_type = sym is.named; has = Types.scalar k is }
+has_word F file scope w (OfName (Message i)) is = record {
   word = codes "message:" ++ text_of is.1.0;
   of_type = (is.1.0, is.1.2.span, is.1.2.stands, refl);
   has = Types.message is.1.0 is.0 is.1.1;
 }
-has_word F scope w (OfName (Enum i)) is = record {
+has_word F file scope w (OfName (Enum i)) is = record {
   word = codes "enum:" ++ text_of is.1.0;
   of_type = (is.1.0, is.1.2.span, is.1.2.stands, refl);
   has = Types.enum is.1.0 is.0 is.1.1;
 }
 
-pub no_type : (files : List File) (scope : List (List ℕ)) (w : Word) (word : List ℕ) (m p : Bool) → IsNoScalar w.name
-    → IsUnknown files scope w.name → HasType files scope w word m p → ⊥
-no_type files scope w word m p none unknown (Types.scalar k is) = none k is
-no_type files scope w word m p none unknown (Types.message full s names) = unknown _ full names
-no_type files scope w word m p none unknown (Types.enum full s names) = unknown _ full names
+pub no_type : (F : Joined) (file : ℕ) (scope : List (List ℕ)) (w : Word) (word : List ℕ) (m p : Bool)
+    → IsNoScalar w.name
+    → IsUnknown F file scope w.name → HasType F file scope w word m p → ⊥
+no_type F file scope w word m p none unknown (Types.scalar k is) = none k is
+no_type F file scope w word m p none unknown (Types.message full s names) = unknown _ full names
+no_type F file scope w word m p none unknown (Types.enum full s names) = unknown _ full names
 
 -- ---- forms
 
-module _ (files : List File) (scope : List (List ℕ)) (f : FieldDecl) where
-  pub no_single : (w : Word) → f.kind ≡ Named w → IsNoScalar w.name → IsUnknown files scope w.name
-      → (label : Label) (word : List ℕ) → HasForm files scope f label word → ⊥
+module _ (F : Joined) (file : ℕ) (scope : List (List ℕ)) (f : FieldDecl) where
+  pub no_single : (w : Word) → f.kind ≡ Named w → IsNoScalar w.name → IsUnknown F file scope w.name
+      → (label : Label) (word : List ℕ) → HasForm F file scope f label word → ⊥
   no_single w e none unknown label word (Types.single x other m p k has) =
       let same : x ≡ w = cc in
-      no_type files scope w other m p none unknown
-      (subst (λ (y : Word). HasType files scope y other m p) same has)
+      no_type F file scope w other m p none unknown
+      (subst (λ (y : Word). HasType F file scope y other m p) same has)
   no_single w e none unknown label word (Types.a_map a b k other m p kind plain out scalar key has) = absurd cc
 
   pub no_value : (key value : Word) → f.kind ≡ Map key value → IsNoScalar value.name
-      → IsUnknown files scope value.name → (label : Label) (word : List ℕ) → HasForm files scope f label word → ⊥
+      → IsUnknown F file scope value.name → (label : Label) (word : List ℕ) → HasForm F file scope f label word → ⊥
   no_value key value e none unknown label word (Types.single x other m p k has) = absurd cc
   no_value key value e none unknown label word (Types.a_map a b k other m p kind plain out scalar is_key has) =
       let same : b ≡ value = cc in
-      no_type files scope value other m p none unknown
-      (subst (λ (y : Word). HasType files scope y other m p) same has)
+      no_type F file scope value other m p none unknown
+      (subst (λ (y : Word). HasType F file scope y other m p) same has)
 
-module _ (F : File) (scope : List (List ℕ)) (f : FieldDecl) where
-  pub single_form : (w : Word) (t : TypeOf) (l : Label) → f.kind ≡ Named w → IsType F scope w.name t
+module _ (F : Joined) (file : ℕ) (scope : List (List ℕ)) (f : FieldDecl) where
+  pub single_form : (w : Word) (t : TypeOf) (l : Label) → f.kind ≡ Named w → IsType F file scope w.name t
       → l ≡ single_label f.label f.packed (is_message t) (is_packable t)
-      → IsForm F scope f (record { label = l; oneof = f.oneof; type_of = t })
+      → IsForm F file scope f (record { label = l; oneof = f.oneof; type_of = t })
   single_form w t l e is same =
-      let h = has_word F scope w t is in
+      let h = has_word F file scope w t is in
       record {
         word = h.word;
         of_type = h.of_type;
-        has = subst (λ (x : Label). HasForm (F ∷ []) scope f (label_in f.oneof x) h.word) (sym same)
+        has = subst (λ (x : Label). HasForm F file scope f (label_in f.oneof x) h.word) (sym same)
             (Types.single w h.word (is_message t) (is_packable t) e h.has);
       }
 
   pub map_form : (key value : Word) (k : Kind) (t : TypeOf) → f.kind ≡ Map key value → (IsMisplaced f → ⊥)
-      → IsScalar key.name k → is_key k ≡ true → IsType F scope value.name t
-      → IsForm F scope f (record { label = labels.Map k; oneof = None; type_of = t })
+      → IsScalar key.name k → is_key k ≡ true → IsType F file scope value.name t
+      → IsForm F file scope f (record { label = labels.Map k; oneof = None; type_of = t })
   map_form key value k t e placed scalar may is =
-      let h = has_word F scope value t is in
+      let h = has_word F file scope value t is in
       record {
         word = h.word;
         of_type = h.of_type;

@@ -8,7 +8,7 @@ use Rattle.std.proofs.lemmas.Option.{same_Some, slice_get_within}
 use Rattle.mrpc_table.specs.Valid.{IsFieldNumber}
 use Rattle.mrpc_table.specs.Text.{label_text, line, value_line}
 use Rattle.mrpc_table.specs.declared.table.Label.{Label}
-use Rattle.proto_file.specs.Order.{message_decl, field_decl, enum_decl, value_decl, rpc_decl}
+use Rattle.proto_file.specs.Together.{message_decl, field_decl, enum_decl, value_decl, rpc_decl}
 use Rattle.proto_file.specs.declared.file.Span.{Span}
 use Rattle.proto_file.specs.declared.file.FieldDecl.{FieldDecl}
 use Rattle.proto_file.specs.declared.file.MessageDecl.{MessageDecl}
@@ -16,9 +16,10 @@ use Rattle.proto_file.specs.declared.file.ValueDecl.{ValueDecl}
 use Rattle.proto_file.specs.declared.file.EnumDecl.{EnumDecl}
 use Rattle.proto_file.specs.declared.file.RpcDecl.{RpcDecl}
 use Rattle.proto_file.specs.declared.file.ServiceDecl.{ServiceDecl}
-use Rattle.proto_file.specs.declared.file.File.{File}
+use Rattle.proto_file.specs.declared.joined.Home.TheVariants as home
+use Rattle.proto_file.specs.Joined.{Joined, home_of, enum_home_of, package_at}
 use Rattle.schema_names.specs.Scopes
-use Rattle.schema_names.specs.Scopes.{a_message, text_of, package_of, IsScope, Names}
+use Rattle.schema_names.specs.Scopes.{a_message, text_of, IsScope, Names}
 use Rattle.schema_names.specs.Numbers
 use Rattle.schema_names.specs.Numbers.{StandsAt, IsFirstAt}
 use Rattle.schema_names.specs.declared.named.Named.TheVariants.{Message, Enum}
@@ -26,12 +27,12 @@ use Rattle.schema_offences.specs.Types.{value_of, no_table, label_in, HasForm}
 use Rattle.schema_offences.specs.Members.{IsNoMessage, IsFieldNumberOf}
 use Rattle.schema_offences.specs.Forms.{IsWordOf, IsForm}
 use Rattle.schema_offences.specs.Lengths
-use Rattle.schema_offences.specs.Lengths.{at_most_64_bits, AreLengths, full_length, IsKept, type_length, LineAt, IsLineOf, IsLengthAt, rpcs_before}
+use Rattle.schema_offences.specs.Lengths.{at_most_64_bits, AreLengths, full_length, IsKept, IsKeptHome, type_length, LineAt, IsLineOf, IsLengthAt, rpcs_before}
 use Rattle.schema_offences.specs.declared.lines.Lengths.{Lengths}
 use Rattle.schema_offences.specs.declared.types.TypeOf.{TypeOf}
 use Rattle.schema_offences.specs.declared.types.TypeOf.TheVariants.{Scalar, Named as OfName}
 use Rattle.schema_offences.specs.declared.types.Form.{Form}
-use Rattle.schema_offences.proofs.FullLengths.{full_is}
+use Rattle.schema_offences.proofs.FullLengths.{full_is, file_kept}
 
 -- ---- words in a line
 
@@ -97,7 +98,7 @@ sums_four d digits l len n i j a b c e p q x y z w = cc
 
 -- ---- types
 
-module _ (F : File) (kept : Lengths) (k : AreLengths F kept) where
+module _ (F : Joined) (kept : Lengths) (k : AreLengths F kept) where
   pub message_within : (i : ℕ) (full : List (List ℕ)) (s : Span) → StandsAt F (Message i) full s → i < length F.messages
   message_within i full s (Numbers.message j m at up) = slice_get_within F.messages j m at
 
@@ -132,7 +133,7 @@ module _ (F : File) (kept : Lengths) (k : AreLengths F kept) where
   -- ---- lines
 
   pub message_line : (i : ℕ) (m : MessageDecl) (outer : List (List ℕ)) (n : ℕ) → slice_get F.messages i ≡ Some m
-      → IsScope F m.parent outer → n ≡ at_most_64_bits (get_or kept.messages.items i 0 + 9)
+      → IsScope F (home_of m) outer → n ≡ at_most_64_bits (get_or kept.messages.items i 0 + 9)
       → IsLineOf F (message_decl i) (m.name.span, n)
   message_line i m outer n at up e =
       let full = outer ++ m.name.name ∷ [] in
@@ -148,7 +149,7 @@ module _ (F : File) (kept : Lengths) (k : AreLengths F kept) where
       }
 
   pub enum_line : (i : ℕ) (x : EnumDecl) (outer : List (List ℕ)) (n : ℕ) → slice_get F.enums i ≡ Some x
-      → IsScope F x.parent outer → n ≡ at_most_64_bits (get_or kept.enums.items i 0 + 6)
+      → IsScope F (enum_home_of x) outer → n ≡ at_most_64_bits (get_or kept.enums.items i 0 + 6)
       → IsLineOf F (enum_decl i) (x.name.span, n)
   enum_line i x outer n at up e =
       let full = outer ++ x.name.name ∷ [] in
@@ -163,8 +164,8 @@ module _ (F : File) (kept : Lengths) (k : AreLengths F kept) where
       }
 
   pub field_line : (i j : ℕ) (m : MessageDecl) (f : FieldDecl) (scope : List (List ℕ)) (form : Form) (n l r : ℕ)
-      → slice_get F.messages i ≡ Some m → slice_get m.fields j ≡ Some f → IsScope F (Some i) scope
-      → IsForm F scope f form → value_of f.number ≡ pos n → IsFieldNumber n
+      → slice_get F.messages i ≡ Some m → slice_get m.fields j ≡ Some f → IsScope F (home.Message i) scope
+      → IsForm F m.file scope f form → value_of f.number ≡ pos n → IsFieldNumber n
       → l ≡ at_most_64_bits (length (label_text no_table (map (λ o. o.name) m.oneofs) (label_in form.oneof form.label)))
       → r ≡ at_most_64_bits
       (at_most_64_bits (at_most_64_bits ((10 + length (decimal n)) + l) + type_length kept form.type_of)
@@ -186,21 +187,24 @@ module _ (F : File) (kept : Lengths) (k : AreLengths F kept) where
 
   pub method_line : (i j n : ℕ) (x : ServiceDecl) (r : RpcDecl) (a b : ℕ) (input output : List (List ℕ)) (v : ℕ)
       → slice_get F.services i ≡ Some x → slice_get x.rpcs j ≡ Some r → n ≡ rpcs_before F i + j
-      → Names (F ∷ []) (package_of F) r.input.name a_message input
-      → Names (F ∷ []) (package_of F) r.output.name a_message output
-      → IsFirstAt F (Message a) input → IsFirstAt F (Message b) output
+      → x.file < length F.heads
+      → Names F x.file (package_at F x.file) r.input.name a_message input
+      → Names F x.file (package_at F x.file) r.output.name a_message output
+      → IsFirstAt F x.file (Message a) input → IsFirstAt F x.file (Message b) output
       → v ≡ at_most_64_bits (at_most_64_bits
-      (at_most_64_bits (at_most_64_bits ((12 + length (decimal n)) + full_length kept None x.name) + length r.name.name)
+      (at_most_64_bits (at_most_64_bits ((12 + length (decimal n)) + full_length kept (home.File x.file) x.name)
+      + length r.name.name)
       + get_or kept.messages.items a 0) + get_or kept.messages.items b 0)
       → IsLineOf F (rpc_decl i j) (r.name.span, v)
-  method_line i j n x r a b input output v at rat count names_in names_out first_in first_out e =
-      let full = text_of (package_of F ++ x.name.name ∷ []) in
+  method_line i j n x r a b input output v at rat count there names_in names_out first_in first_out e =
+      let full = text_of (package_at F x.file ++ x.name.name ∷ []) in
       let sum : v ≡ at_most_64_bits ((12 + length (decimal n)) + length full + length r.name.name
       + length (text_of input) + length (text_of output)) =
       cut_four (12 + length (decimal n)) (length full) (length r.name.name) (length (text_of input))
-      (length (text_of output)) (full_length kept None x.name) (get_or kept.messages.items a 0)
+      (length (text_of output)) (full_length kept (home.File x.file) x.name) (get_or kept.messages.items a 0)
       (get_or kept.messages.items b 0) v
-      (full_is F (length F.messages) (length F.enums) kept None x.name k tt Scopes.of_file)
+      (full_is F (length F.messages) (length F.enums) kept (home.File x.file) x.name k
+      (file_kept F (length F.messages) (length F.enums) kept k x.file there) (Scopes.of_file x.file))
       (message_kept a input first_in.span first_in.stands) (message_kept b output first_out.span first_out.stands) e in
       let whole : length (line (codes "method" ∷ decimal n ∷ full ∷ r.name.name ∷ text_of input ∷ text_of output ∷ []))
       ≡ length (codes "method") + length (decimal n) + length full + length r.name.name + length (text_of input)
@@ -214,21 +218,25 @@ module _ (F : File) (kept : Lengths) (k : AreLengths F kept) where
 
 -- ---- names without a line
 
-module _ (F : File) (i j : ℕ) where
+module _ (F : Joined) (i j : ℕ) where
+  same_message : (m n : MessageDecl) → slice_get F.messages i ≡ Some m → slice_get F.messages i ≡ Some n → n ≡ m
+  same_message m n at nat = same_Some n m (sym nat ∙ at)
+
   same_field : (m n : MessageDecl) (f g : FieldDecl) → slice_get F.messages i ≡ Some m → slice_get m.fields j ≡ Some f
       → slice_get F.messages i ≡ Some n → slice_get n.fields j ≡ Some g → g ≡ f
   same_field m n f g at fat nat gat =
-      let same : n ≡ m = same_Some n m (sym nat ∙ at) in
+      let same : n ≡ m = same_message m n at nat in
       same_Some g f (sym (subst (λ (y : MessageDecl). slice_get y.fields j ≡ Some g) same gat) ∙ fat)
 
   pub no_form : (m : MessageDecl) (f : FieldDecl) → slice_get F.messages i ≡ Some m → slice_get m.fields j ≡ Some f
-      → ((scope : List (List ℕ)) → IsScope F (Some i) scope → (label : Label) (word : List ℕ)
-      → HasForm (F ∷ []) scope f label word → ⊥)
+      → ((scope : List (List ℕ)) → IsScope F (home.Message i) scope → (label : Label) (word : List ℕ)
+      → HasForm F m.file scope f label word → ⊥)
       → (s : Span) (text : List ℕ) → LineAt F (field_decl i j) s text → ⊥
   no_form m f at fat none s text
       (Lengths.of_field x y n g v {scope = scope} {label = label} {word = word} nat gat is e inside form) =
       none scope is label word
-      (subst (λ (h : FieldDecl). HasForm (F ∷ []) scope h label word) (same_field m n f g at fat nat gat) form)
+      (subst (λ (h : FieldDecl). HasForm F m.file scope h label word) (same_field m n f g at fat nat gat)
+      (subst (λ (z : MessageDecl). HasForm F z.file scope g label word) (same_message m n at nat) form))
 
   pub no_number : (m : MessageDecl) (f : FieldDecl) → slice_get F.messages i ≡ Some m → slice_get m.fields j ≡ Some f
       → (IsFieldNumberOf (value_of f.number) → ⊥)
@@ -236,29 +244,36 @@ module _ (F : File) (i j : ℕ) where
   no_number m f at fat none s text (Lengths.of_field x y n g v nat gat is e inside form) =
       none (v, (ap (λ (h : FieldDecl). value_of h.number) (sym (same_field m n f g at fat nat gat)) ∙ e), inside)
 
+  same_service : (x y : ServiceDecl) → slice_get F.services i ≡ Some x → slice_get F.services i ≡ Some y → y ≡ x
+  same_service x y at nat = same_Some y x (sym nat ∙ at)
+
   same_rpc : (x y : ServiceDecl) (r t : RpcDecl) → slice_get F.services i ≡ Some x → slice_get x.rpcs j ≡ Some r
       → slice_get F.services i ≡ Some y → slice_get y.rpcs j ≡ Some t → t ≡ r
   same_rpc x y r t at rat nat tat =
-      let same : y ≡ x = same_Some y x (sym nat ∙ at) in
+      let same : y ≡ x = same_service x y at nat in
       same_Some t r (sym (subst (λ (z : ServiceDecl). slice_get z.rpcs j ≡ Some t) same tat) ∙ rat)
 
   pub no_input : (x : ServiceDecl) (r : RpcDecl) → slice_get F.services i ≡ Some x → slice_get x.rpcs j ≡ Some r
-      → IsNoMessage (F ∷ []) (package_of F) r.input.name
+      → IsNoMessage F x.file (package_at F x.file) r.input.name
       → (s : Span) (text : List ℕ) → LineAt F (rpc_decl i j) s text → ⊥
   no_input x r at rat none s text (Lengths.of_method a b n y t {input = input} nat tat e names_in names_out) =
-      none input (subst (λ (z : RpcDecl). Names (F ∷ []) (package_of F) z.input.name a_message input)
-      (same_rpc x y r t at rat nat tat) names_in)
+      none input (subst (λ (z : RpcDecl). Names F x.file (package_at F x.file) z.input.name a_message input)
+      (same_rpc x y r t at rat nat tat)
+      (subst (λ (z : ServiceDecl). Names F z.file (package_at F z.file) t.input.name a_message input)
+      (same_service x y at nat) names_in))
 
   pub no_output : (x : ServiceDecl) (r : RpcDecl) → slice_get F.services i ≡ Some x → slice_get x.rpcs j ≡ Some r
-      → IsNoMessage (F ∷ []) (package_of F) r.output.name
+      → IsNoMessage F x.file (package_at F x.file) r.output.name
       → (s : Span) (text : List ℕ) → LineAt F (rpc_decl i j) s text → ⊥
   no_output x r at rat none s text (Lengths.of_method a b n y t {output = output} nat tat e names_in names_out) =
-      none output (subst (λ (z : RpcDecl). Names (F ∷ []) (package_of F) z.output.name a_message output)
-      (same_rpc x y r t at rat nat tat) names_out)
+      none output (subst (λ (z : RpcDecl). Names F x.file (package_at F x.file) z.output.name a_message output)
+      (same_rpc x y r t at rat nat tat)
+      (subst (λ (z : ServiceDecl). Names F z.file (package_at F z.file) t.output.name a_message output)
+      (same_service x y at nat) names_out))
 
 -- ---- values
 
-no_value_line : (F : File) (i j : ℕ) (e : EnumDecl) (v : ValueDecl) → slice_get F.enums i ≡ Some e
+no_value_line : (F : Joined) (i j : ℕ) (e : EnumDecl) (v : ValueDecl) → slice_get F.enums i ≡ Some e
     → slice_get e.values j ≡ Some v → (FitsSigned w32 (value_of v.number) → ⊥)
     → (s : Span) (text : List ℕ) → LineAt F (value_decl i j) s text → ⊥
 no_value_line F i j e v at vat none s text (Lengths.of_value a b x u xat uat fits) =
@@ -266,7 +281,7 @@ no_value_line F i j e v at vat none s text (Lengths.of_value a b x u xat uat fit
     let one : u ≡ v = same_Some u v (sym (subst (λ (y : EnumDecl). slice_get y.values j ≡ Some u) same uat) ∙ vat) in
     none (subst (λ (y : ValueDecl). FitsSigned w32 (value_of y.number)) one fits)
 
-pub value_at : (F : File) (i j : ℕ) (e : EnumDecl) (v : ValueDecl) (n : Option ℕ) → slice_get F.enums i ≡ Some e
+pub value_at : (F : Joined) (i j : ℕ) (e : EnumDecl) (v : ValueDecl) (n : Option ℕ) → slice_get F.enums i ≡ Some e
     → slice_get e.values j ≡ Some v
     → MatchOption n (FitsSigned w32 (value_of v.number) → ⊥) (λ r. FitsSigned w32 (value_of v.number)
     × (r ≡ at_most_64_bits (length (value_line (value_of v.number, v.name.name)))))

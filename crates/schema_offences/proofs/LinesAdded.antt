@@ -6,12 +6,14 @@ use Rattle.std.proofs.lemmas.List.{append-nil}
 use Rattle.std.proofs.lemmas.List.Elements.{Contains-append_left, Contains-push, Contains-push_cases}
 use Rattle.std.proofs.lemmas.Option.{same_Some, slice_get_within}
 use Rattle.proto_file.specs.Order
-use Rattle.proto_file.specs.Order.{Declaration, message_decl, field_decl, enum_decl, value_decl, rpc_decl, its_name, IsOrdered, StandsAt}
+use Rattle.proto_file.specs.Together
+use Rattle.proto_file.specs.Order.{its_name}
+use Rattle.proto_file.specs.Together.{Declaration, message_decl, field_decl, enum_decl, value_decl, rpc_decl, IsOrdered, StandsAt}
 use Rattle.proto_file.specs.declared.file.Span.{Span}
 use Rattle.proto_file.specs.declared.file.MessageDecl.{MessageDecl}
 use Rattle.proto_file.specs.declared.file.EnumDecl.{EnumDecl}
 use Rattle.proto_file.specs.declared.file.ServiceDecl.{ServiceDecl}
-use Rattle.proto_file.specs.declared.file.File.{File}
+use Rattle.proto_file.specs.Joined.{Joined}
 use Rattle.schema_offences.specs.Lengths
 use Rattle.schema_offences.specs.Lengths.{LineAt, IsLineOf, IsLengthAt, added, class_of, place_of, part_of, IsBefore, AreApart, Covers}
 
@@ -25,7 +27,7 @@ decl_of (suc zero) i zero = enum_decl i
 decl_of (suc zero) i (suc j) = value_decl i j
 decl_of (suc (suc c)) i j = rpc_decl i j
 
-back : (F : File) (d : Declaration) (s : Span) (text : List ℕ) → LineAt F d s text
+back : (F : Joined) (d : Declaration) (s : Span) (text : List ℕ) → LineAt F d s text
     → decl_of (class_of d) (place_of d) (part_of d) ≡ d
 unfolding decl_of
 back F d s text (Lengths.of_message i m at is) = refl
@@ -50,7 +52,7 @@ own_back d (own_enum i) = refl
 own_back d (own_value i j) = refl
 own_back d (own_rpc i j) = refl
 
-same_decl : (F : File) (d e : Declaration) (s : Span) (text : List ℕ) → IsOwn d → LineAt F e s text
+same_decl : (F : Joined) (d e : Declaration) (s : Span) (text : List ℕ) → IsOwn d → LineAt F e s text
     → class_of e ≡ class_of d → place_of e ≡ place_of d → part_of e ≡ part_of d → e ≡ d
 same_decl F d e s text own at c p q =
     sym (back F e s text at)
@@ -60,13 +62,14 @@ same_decl F d e s text own at c p q =
     ∙ own_back d own
 
 -- the name of a line stands in the text
-pub line_stands : (F : File) (d : Declaration) (s : Span) (text : List ℕ) → LineAt F d s text → StandsAt F s d its_name
-line_stands F d s text (Lengths.of_message i m at is) = Order.message i m at refl
+pub line_stands : (F : Joined) (d : Declaration) (s : Span) (text : List ℕ) → LineAt F d s text
+    → StandsAt F s d its_name
+line_stands F d s text (Lengths.of_message i m at is) = Together.message i m at refl
 line_stands F d s text (Lengths.of_field i j m f n at fat is e k form) =
-    Order.field i j m f at fat (Order.field_name refl)
-line_stands F d s text (Lengths.of_enum i e at is) = Order.enum i e at refl
-line_stands F d s text (Lengths.of_value i j e v at vat fits) = Order.value i j e v at vat (Order.value_name refl)
-line_stands F d s text (Lengths.of_method i j n x r at rat e a b) = Order.rpc i j x r at rat (Order.rpc_name refl)
+    Together.field i j m f at fat (Order.field_name refl)
+line_stands F d s text (Lengths.of_enum i e at is) = Together.enum i e at refl
+line_stands F d s text (Lengths.of_value i j e v at vat fits) = Together.value i j e v at vat (Order.value_name refl)
+line_stands F d s text (Lengths.of_method i j n x r at rat e a b) = Together.rpc i j x r at rat (Order.rpc_name refl)
 
 -- ---- the order
 
@@ -170,14 +173,14 @@ nothing_before d (inr p) = elim p.1 [
   | inr q ↦ let l : part_of d < 0 = q.1 in omega arith
 ]
 
-pub covers_none : (F : File) → Covers F 0 0 0 []
+pub covers_none : (F : Joined) → Covers F 0 0 0 []
 covers_none F = record {
   sound = λ x c. absurd (none_in x c);
   whole = λ d s text b at. absurd (nothing_before d b);
   once = tt;
 }
 
-module _ (F : File) (c i j : ℕ) (lines : List (Span × ℕ)) where
+module _ (F : Joined) (c i j : ℕ) (lines : List (Span × ℕ)) where
   -- the same lines up to another declaration
   covers_as : (a b e : ℕ) → Covers F c i j lines → ((d : Declaration) → IsBefore c i j d → IsBefore a b e d)
       → ((d : Declaration) (s : Span) (text : List ℕ) → LineAt F d s text → IsBefore a b e d → IsBefore c i j d)
@@ -244,7 +247,7 @@ module _ (F : File) (c i j : ℕ) (lines : List (Span × ℕ)) where
       subst (Covers F c i (j + 1)) (sym (append-nil lines)) (covers_missing d own a b e is v)
   covers_add order d span (Some n) own a b e is v = covers_more order d (span, n) own a b e is v
 
-pub covers_class : (F : File) (c i : ℕ) (lines : List (Span × ℕ)) → Covers F c i 0 lines
+pub covers_class : (F : Joined) (c i : ℕ) (lines : List (Span × ℕ)) → Covers F c i 0 lines
     → ((d : Declaration) (s : Span) (text : List ℕ) → LineAt F d s text → class_of d ≡ c → i ≤ place_of d → ⊥)
     → Covers F (c + 1) 0 0 lines
 covers_class F c i lines v none =
@@ -255,7 +258,7 @@ covers_class F c i lines v none =
 
 -- ---- no further lines
 
-module _ (F : File) where
+module _ (F : Joined) where
   pub no_field : (i : ℕ) (m : MessageDecl) (k : ℕ) → slice_get F.messages i ≡ Some m → length m.fields ≤ k
       → (d : Declaration) (s : Span) (text : List ℕ) → LineAt F d s text → class_of d ≡ 0 → place_of d ≡ i
       → k + 1 ≤ part_of d → ⊥

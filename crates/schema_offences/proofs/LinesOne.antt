@@ -1,14 +1,13 @@
 -- A name has one line.
 use Rattle.std.proofs.Common.{◌≡◌, ℕ, Bool, List, [], ◌∷◌, ◌++◌, refl, sym, ap, ◌∙◌, subst}
-use Rattle.std.specs.Prelude.{Option, Some, pos, codes, map, slice_get}
+use Rattle.std.specs.Prelude.{Some, pos, codes, map, slice_get}
 use Rattle.std.specs.Fmt.{decimal}
 use Rattle.std.proofs.lemmas.Option.{same_Some}
 use Rattle.mrpc_table.specs.Text.{label_text, line, value_line}
 use Rattle.mrpc_table.specs.Words.{is_numeric}
 use Rattle.mrpc_table.specs.declared.table.Label.{Label}
 use Rattle.mrpc_table.specs.declared.table.Label.TheVariants as labels
-use Rattle.proto_file.specs.Order
-use Rattle.proto_file.specs.Order.{Declaration, message_decl, field_decl, enum_decl, value_decl, rpc_decl, its_name, IsOrdered}
+use Rattle.proto_file.specs.Together.{Declaration}
 use Rattle.proto_file.specs.declared.file.Span.{Span}
 use Rattle.proto_file.specs.declared.file.Word.{Word}
 use Rattle.proto_file.specs.declared.file.FieldDecl.{FieldDecl}
@@ -17,110 +16,83 @@ use Rattle.proto_file.specs.declared.file.ValueDecl.{ValueDecl}
 use Rattle.proto_file.specs.declared.file.EnumDecl.{EnumDecl}
 use Rattle.proto_file.specs.declared.file.RpcDecl.{RpcDecl}
 use Rattle.proto_file.specs.declared.file.ServiceDecl.{ServiceDecl}
-use Rattle.proto_file.specs.declared.file.File.{File}
-use Rattle.schema_names.specs.Scopes.{Sort, a_message, an_enum, IsScope, Names, text_of, package_of}
-use Rattle.schema_names.specs.Numbers
-use Rattle.schema_names.specs.Numbers.{StartApart, StandsAt}
-use Rattle.schema_names.specs.declared.named.Named.{Named}
-use Rattle.schema_names.specs.declared.named.Named.TheVariants.{Message, Enum}
+use Rattle.proto_file.specs.declared.joined.Home.{Home}
+use Rattle.proto_file.specs.declared.joined.Home.TheVariants as home
+use Rattle.proto_file.specs.Joined.{Joined, home_of, enum_home_of, package_at}
+use Rattle.schema_names.specs.Scopes.{Sort, a_message, an_enum, IsScope, Names, text_of}
+use Rattle.schema_names.specs.Numbers.{StartApart}
 use Rattle.schema_offences.specs.Types
 use Rattle.schema_offences.specs.Types.{no_table, value_of, HasType, HasForm, label_in, single_label}
 use Rattle.schema_offences.specs.Lengths
 use Rattle.schema_offences.specs.Lengths.{LineAt}
 use Rattle.schema_offences.proofs.Scalars.{scalar_one}
 
--- ---- names of an ordered file
-
-one_at : (F : File) (a b : Named) (f g : List (List ℕ)) (s t : Span) → IsOrdered F → StandsAt F a f s → StandsAt F b g t
-    → s.start ≡ t.start → a ≡ b
-one_at F a b f g s t order (Numbers.message i m at up) (Numbers.message j n nat nup) e =
-    let same = (order.apart (message_decl i) (message_decl j) its_name its_name s t (Order.message i m at refl)
-    (Order.message j n nat refl) e).0 in
-    let one : i ≡ j = cc in
-    ap Message one
-one_at F a b f g s t order (Numbers.message i m at up) (Numbers.enum j x xat xup) e =
-    let same = (order.apart (message_decl i) (enum_decl j) its_name its_name s t (Order.message i m at refl)
-    (Order.enum j x xat refl) e).0 in
-    absurd cc
-one_at F a b f g s t order (Numbers.enum i x at up) (Numbers.message j n nat nup) e =
-    let same = (order.apart (enum_decl i) (message_decl j) its_name its_name s t (Order.enum i x at refl)
-    (Order.message j n nat refl) e).0 in
-    absurd cc
-one_at F a b f g s t order (Numbers.enum i x at up) (Numbers.enum j y yat yup) e =
-    let same = (order.apart (enum_decl i) (enum_decl j) its_name its_name s t (Order.enum i x at refl)
-    (Order.enum j y yat refl) e).0 in
-    let one : i ≡ j = cc in
-    ap Enum one
-
-pub start_apart : (F : File) → IsOrdered F → StartApart F
-start_apart F order = record { apart = λ a b f g s t x y e. one_at F a b f g s t order x y e }
-
 -- ---- types and forms
 
-module _ (F : File) (apart : StartApart F)
-    (scopes : (G : File) (place : Option ℕ) (s t : List (List ℕ)) → IsScope G place s → IsScope G place t → s ≡ t)
-    (names : (G : File) (scope : List (List ℕ)) (name : List ℕ) (a b : Sort) (f g : List (List ℕ)) → StartApart G
-    → Names (G ∷ []) scope name a f → Names (G ∷ []) scope name b g → (a ≡ b) × (f ≡ g)) where
+module _ (F : Joined) (apart : StartApart F)
+    (scopes : (G : Joined) (place : Home) (s t : List (List ℕ)) → IsScope G place s → IsScope G place t → s ≡ t)
+    (names : (G : Joined) (file : ℕ) (scope : List (List ℕ)) (name : List ℕ) (a b : Sort) (f g : List (List ℕ))
+    → StartApart G → Names G file scope name a f → Names G file scope name b g → (a ≡ b) × (f ≡ g)) where
   pub record SameType (word other : List ℕ) (m n p q : Bool) : Type 0 where
     pub words : word ≡ other
     pub messages : m ≡ n
     pub packables : p ≡ q
 
-  type_one : (scope : List (List ℕ)) (w : Word) (word other : List ℕ) (m n p q : Bool)
-      → HasType (F ∷ []) scope w word m p → HasType (F ∷ []) scope w other n q → SameType word other m n p q
-  type_one scope w word other m n p q (Types.scalar k is) (Types.scalar j also) =
+  type_one : (file : ℕ) (scope : List (List ℕ)) (w : Word) (word other : List ℕ) (m n p q : Bool)
+      → HasType F file scope w word m p → HasType F file scope w other n q → SameType word other m n p q
+  type_one file scope w word other m n p q (Types.scalar k is) (Types.scalar j also) =
       record { words = refl; messages = refl; packables = ap is_numeric (scalar_one w.name k j is also) }
-  type_one scope w word other m n p q (Types.scalar k is) (Types.message full none is_named) = absurd (none k is)
-  type_one scope w word other m n p q (Types.scalar k is) (Types.enum full none is_named) = absurd (none k is)
-  type_one scope w word other m n p q (Types.message full none is_named) (Types.scalar k is) = absurd (none k is)
-  type_one scope w word other m n p q (Types.message full none is_named) (Types.message more also is_also) =
-      let same = names F scope w.name a_message a_message full more apart is_named is_also in
+  type_one file scope w word other m n p q (Types.scalar k is) (Types.message full none is_named) = absurd (none k is)
+  type_one file scope w word other m n p q (Types.scalar k is) (Types.enum full none is_named) = absurd (none k is)
+  type_one file scope w word other m n p q (Types.message full none is_named) (Types.scalar k is) = absurd (none k is)
+  type_one file scope w word other m n p q (Types.message full none is_named) (Types.message more also is_also) =
+      let same = names F file scope w.name a_message a_message full more apart is_named is_also in
       record {
         words = ap (λ (f : List (List ℕ)). codes "message:" ++ text_of f) same.1;
         messages = refl;
         packables = refl;
       }
-  type_one scope w word other m n p q (Types.message full none is_named) (Types.enum more also is_also) =
-      let same = names F scope w.name a_message an_enum full more apart is_named is_also in
+  type_one file scope w word other m n p q (Types.message full none is_named) (Types.enum more also is_also) =
+      let same = names F file scope w.name a_message an_enum full more apart is_named is_also in
       let e : a_message ≡ an_enum = same.0 in
       absurd cc
-  type_one scope w word other m n p q (Types.enum full none is_named) (Types.scalar k is) = absurd (none k is)
-  type_one scope w word other m n p q (Types.enum full none is_named) (Types.message more also is_also) =
-      let same = names F scope w.name an_enum a_message full more apart is_named is_also in
+  type_one file scope w word other m n p q (Types.enum full none is_named) (Types.scalar k is) = absurd (none k is)
+  type_one file scope w word other m n p q (Types.enum full none is_named) (Types.message more also is_also) =
+      let same = names F file scope w.name an_enum a_message full more apart is_named is_also in
       let e : an_enum ≡ a_message = same.0 in
       absurd cc
-  type_one scope w word other m n p q (Types.enum full none is_named) (Types.enum more also is_also) =
-      let same = names F scope w.name an_enum an_enum full more apart is_named is_also in
+  type_one file scope w word other m n p q (Types.enum full none is_named) (Types.enum more also is_also) =
+      let same = names F file scope w.name an_enum an_enum full more apart is_named is_also in
       record {
         words = ap (λ (f : List (List ℕ)). codes "enum:" ++ text_of f) same.1;
         messages = refl;
         packables = refl;
       }
 
-  form_one : (scope : List (List ℕ)) (f : FieldDecl) (label other : Label) (word text : List ℕ)
-      → HasForm (F ∷ []) scope f label word → HasForm (F ∷ []) scope f other text → (label ≡ other) × (word ≡ text)
-  form_one scope f label other word text (Types.single w v m p e has) (Types.single x u n q k also) =
+  form_one : (file : ℕ) (scope : List (List ℕ)) (f : FieldDecl) (label other : Label) (word text : List ℕ)
+      → HasForm F file scope f label word → HasForm F file scope f other text → (label ≡ other) × (word ≡ text)
+  form_one file scope f label other word text (Types.single w v m p e has) (Types.single x u n q k also) =
       let same : x ≡ w = cc in
-      let one = type_one scope w word text m n p q has
-      (subst (λ (y : Word). HasType (F ∷ []) scope y text n q) same also) in (
+      let one = type_one file scope w word text m n p q has
+      (subst (λ (y : Word). HasType F file scope y text n q) same also) in (
         ap (λ (b : Bool). label_in f.oneof (single_label f.label f.packed b p)) one.messages
             ∙ ap (λ (b : Bool). label_in f.oneof (single_label f.label f.packed n b)) one.packables,
         one.words,
       )
-  form_one scope f label other word text (Types.single w v m p e has)
+  form_one file scope f label other word text (Types.single w v m p e has)
       (Types.a_map a b k u n q kind plain out scalar key also) =
       absurd cc
-  form_one scope f label other word text (Types.a_map a b k u n q kind plain out scalar key also)
+  form_one file scope f label other word text (Types.a_map a b k u n q kind plain out scalar key also)
       (Types.single w v m p e has) =
       absurd cc
-  form_one scope f label other word text (Types.a_map a b k v m p kind plain out scalar key has)
+  form_one file scope f label other word text (Types.a_map a b k v m p kind plain out scalar key has)
       (Types.a_map c d j u n q kind2 plain2 out2 scalar2 key2 also) =
       let keys : c ≡ a = cc in
       let values : d ≡ b = cc in
       let kinds : k ≡ j =
       scalar_one a.name k j scalar (subst (λ (w : Word). Types.IsScalar w.name j) keys scalar2) in
-      let one = type_one scope b word text m n p q has
-      (subst (λ (w : Word). HasType (F ∷ []) scope w text n q) values also) in
+      let one = type_one file scope b word text m n p q has
+      (subst (λ (w : Word). HasType F file scope w text n q) values also) in
       (ap labels.Map kinds, one.words)
 
   -- ---- lines
@@ -132,7 +104,7 @@ module _ (F : File) (apart : StartApart F)
 
   abbrev method_text : ℕ → ServiceDecl → RpcDecl → List (List ℕ) → List (List ℕ) → List ℕ
   method_text n x r input output =
-      line (codes "method" ∷ decimal n ∷ text_of (package_of F ++ x.name.name ∷ []) ∷ r.name.name ∷ text_of input
+      line (codes "method" ∷ decimal n ∷ text_of (package_at F x.file ++ x.name.name ∷ []) ∷ r.name.name ∷ text_of input
       ∷ text_of output ∷ [])
 
   pub line_one : (d : Declaration) (s t : Span) (text other : List ℕ) → LineAt F d s text → LineAt F d t other
@@ -141,7 +113,7 @@ module _ (F : File) (apart : StartApart F)
       (Lengths.of_message j n {outer = more} nat nup) =
       let same : n ≡ m = same_Some n m (sym nat ∙ at) in
       let one : outer ≡ more =
-      scopes F m.parent outer more up (subst (λ (x : MessageDecl). IsScope F x.parent more) same nup) in (
+      scopes F (home_of m) outer more up (subst (λ (x : MessageDecl). IsScope F (home_of x) more) same nup) in (
         ap (λ (x : MessageDecl). x.name.span) (sym same),
         ap (λ (x : List (List ℕ)). line (codes "message" ∷ text_of (x ++ m.name.name ∷ []) ∷ [])) one
             ∙ ap (λ (x : MessageDecl). line (codes "message" ∷ text_of (more ++ x.name.name ∷ []) ∷ [])) (sym same),
@@ -154,10 +126,11 @@ module _ (F : File) (apart : StartApart F)
       same_Some g f (sym (subst (λ (z : MessageDecl). slice_get z.fields j ≡ Some g) same gat) ∙ fat) in
       let values : pos v ≡ pos n = sym k ∙ ap (λ (z : FieldDecl). value_of z.number) field ∙ e in
       let number : v ≡ n = cc in
-      let one : more ≡ scope = scopes F (Some i) more scope also is in
-      let forms = form_one scope f label tag word noun form
-      (subst (λ (z : FieldDecl). HasForm (F ∷ []) scope z tag noun) field
-      (subst (λ (z : List (List ℕ)). HasForm (F ∷ []) z g tag noun) one has)) in
+      let one : more ≡ scope = scopes F (home.Message i) more scope also is in
+      let forms = form_one m.file scope f label tag word noun form
+      (subst (λ (z : FieldDecl). HasForm F m.file scope z tag noun) field
+      (subst (λ (z : List (List ℕ)). HasForm F m.file z g tag noun) one
+      (subst (λ (z : MessageDecl). HasForm F z.file more g tag noun) same has))) in
       let tags : label ≡ tag = forms.0 in
       let words : word ≡ noun = forms.1 in (
         ap (λ (z : FieldDecl). z.name.span) (sym field),
@@ -170,7 +143,7 @@ module _ (F : File) (apart : StartApart F)
   line_one d s t text other (Lengths.of_enum i x {outer = outer} at up) (Lengths.of_enum j y {outer = more} nat nup) =
       let same : y ≡ x = same_Some y x (sym nat ∙ at) in
       let one : outer ≡ more =
-      scopes F x.parent outer more up (subst (λ (z : EnumDecl). IsScope F z.parent more) same nup) in (
+      scopes F (enum_home_of x) outer more up (subst (λ (z : EnumDecl). IsScope F (enum_home_of z) more) same nup) in (
         ap (λ (z : EnumDecl). z.name.span) (sym same),
         ap (λ (z : List (List ℕ)). line (codes "enum" ∷ text_of (z ++ x.name.name ∷ []) ∷ [])) one
             ∙ ap (λ (z : EnumDecl). line (codes "enum" ∷ text_of (more ++ z.name.name ∷ []) ∷ [])) (sym same),
@@ -188,10 +161,14 @@ module _ (F : File) (apart : StartApart F)
       let rpc : q ≡ r =
       same_Some q r (sym (subst (λ (z : ServiceDecl). slice_get z.rpcs j ≡ Some q) same qat) ∙ rat) in
       let number : m ≡ n = g ∙ sym e in
-      let inputs : input ≡ first = (names F (package_of F) r.input.name a_message a_message input first apart a
-      (subst (λ (z : RpcDecl). Names (F ∷ []) (package_of F) z.input.name a_message first) rpc a2)).1 in
-      let outputs : output ≡ last = (names F (package_of F) r.output.name a_message a_message output last apart b
-      (subst (λ (z : RpcDecl). Names (F ∷ []) (package_of F) z.output.name a_message last) rpc b2)).1 in (
+      let inputs : input ≡ first =
+      (names F x.file (package_at F x.file) r.input.name a_message a_message input first apart a
+      (subst (λ (z : ServiceDecl). Names F z.file (package_at F z.file) r.input.name a_message first) same
+      (subst (λ (z : RpcDecl). Names F y.file (package_at F y.file) z.input.name a_message first) rpc a2))).1 in
+      let outputs : output ≡ last =
+      (names F x.file (package_at F x.file) r.output.name a_message a_message output last apart b
+      (subst (λ (z : ServiceDecl). Names F z.file (package_at F z.file) r.output.name a_message last) same
+      (subst (λ (z : RpcDecl). Names F y.file (package_at F y.file) z.output.name a_message last) rpc b2))).1 in (
         ap (λ (z : RpcDecl). z.name.span) (sym rpc),
         ap (λ (z : ℕ). method_text z x r input output) (sym number)
             ∙ ap (λ (z : ServiceDecl). method_text m z r input output) (sym same)

@@ -1,9 +1,8 @@
 -- The lines of an ordered file that pass the limit of a table's text.
 use Rattle.std.proofs.Common.{◌≡◌, ◌≢◌, ℕ, ◌+◌, ◌-◌, ◌^◌, ◌<◌, ◌≤◌, ◌⊎◌, inl, inr, Bool, false, eqb, List, [], ◌∷◌, ◌++◌, zero, suc, length, get_or, take, refl, sym, ap, ◌∙◌, subst, arith, length-append}
-use Rattle.std.specs.Prelude.{Option, Some, option_map, codes, map, sum_by, slice_get, All, Contains, min}
+use Rattle.std.specs.Prelude.{Option, Some, option_map, map, sum_by, slice_get, All, Contains, min}
 use Rattle.std.specs.List.{flat_map, IsDistinct}
 use Rattle.std.specs.List.Sorted.{IsNonDecreasingBy, IsPermutation}
-use Rattle.std.specs.Fmt.{decimal}
 use Rattle.std.proofs.lemmas.Bool.{cases_lt, ne_eqb, eqb-false}
 use Rattle.std.proofs.lemmas.Bool.Decides.{nat_tests}
 use Rattle.std.proofs.lemmas.List.{length-map, length-take, get_or-take, get_or_default}
@@ -15,15 +14,13 @@ use Rattle.std.proofs.lemmas.List.Elements.{All-cons, All-nil, All-contains, Con
 use Rattle.std.proofs.lemmas.Map.Keys.{IsDistinct-IsPermutation, apart_from_distinct}
 use Rattle.std.proofs.lemmas.Option.{same_Some, none-some, slice_get_within, slice_get_read, slice_get-get_or, get_or_from_slice_get, slice_get-map}
 use Rattle.mrpc_table.specs.Valid.{Ascends}
-use Rattle.mrpc_table.specs.Text.{line}
 use Rattle.mrpc_table.specs.declared.limits.TheConstants.{MAX_TEXT}
-use Rattle.proto_file.specs.Order.{Declaration, message_decl, field_decl, enum_decl, value_decl, rpc_decl}
+use Rattle.proto_file.specs.Together.{Declaration, message_decl, field_decl, enum_decl, value_decl, rpc_decl}
 use Rattle.proto_file.specs.declared.file.Span.{Span}
 use Rattle.proto_file.specs.declared.file.RpcDecl.{RpcDecl}
 use Rattle.proto_file.specs.declared.file.ServiceDecl.{ServiceDecl}
-use Rattle.proto_file.specs.declared.file.File.{File}
-use Rattle.schema_names.specs.Scopes.{text_of, package_of}
-use Rattle.schema_offences.specs.Sources.{alone, service_rpcs, rpcs_of}
+use Rattle.proto_file.specs.Joined.{Joined}
+use Rattle.schema_offences.specs.Methods.{service_rpcs, rpcs_of}
 use Rattle.schema_offences.specs.Lines
 use Rattle.schema_offences.specs.Lines.{HasLine, PassesAt}
 use Rattle.schema_offences.specs.Meeting.{AtSome, OfElement, PassesIn}
@@ -100,11 +97,8 @@ rpc_at services a b x r at rat =
 
 -- ---- lines by names and by declarations
 
-count : (i : ℕ) → 0 + i ≡ i
-count i = omega arith
-
 -- the declaration of a line
-pub line_at : (F : File) (s : Span) (text : List ℕ) → HasLine (alone F) s text → (d : Declaration) × LineAt F d s text
+pub line_at : (F : Joined) (s : Span) (text : List ℕ) → HasLine F s text → (d : Declaration) × LineAt F d s text
 line_at F s text (Lines.of_message m c is) =
     let p = placed F.messages m c in
     (message_decl p.0, Lengths.of_message p.0 m p.1 is)
@@ -120,9 +114,9 @@ line_at F s text (Lines.of_field m f n h e k form) =
     (field_decl h.place o.0, Lengths.of_field h.place o.0 m f n h.message o.1 h.is_scope e k form)
 line_at F s text (Lines.of_method x r i at a b) =
     let p = rpc_placed F.services i x r at in
-    (rpc_decl p.0 p.1, Lengths.of_method p.0 p.1 (0 + i) x r p.2 p.3 (count i ∙ p.4) a b)
+    (rpc_decl p.0 p.1, Lengths.of_method p.0 p.1 i x r p.2 p.3 p.4 a b)
 
-has_line : (F : File) (d : Declaration) (s : Span) (text : List ℕ) → LineAt F d s text → HasLine (alone F) s text
+has_line : (F : Joined) (d : Declaration) (s : Span) (text : List ℕ) → LineAt F d s text → HasLine F s text
 has_line F d s text (Lengths.of_message i m at is) = Lines.of_message m (contains_at F.messages i m at) is
 has_line F d s text (Lengths.of_enum i e at is) = Lines.of_enum e (contains_at F.enums i e at) is
 has_line F d s text (Lengths.of_value i j e v at vat fits) =
@@ -130,17 +124,14 @@ has_line F d s text (Lengths.of_value i j e v at vat fits) =
 has_line F d s text (Lengths.of_field i j m f n at fat is e k form) =
     Lines.of_field m f n
     (record { place = i; message = at; is_scope = is; field = contains_at m.fields j f fat }) e k form
-has_line F d s text (Lengths.of_method i j n x r {input = input} {output = output} at rat e a b) =
+has_line F d s text (Lengths.of_method i j n x r at rat e a b) =
     let there : slice_get (rpcs_of F) n ≡ Some (x, r) =
     ap (λ (k : ℕ). slice_get (rpcs_of F) k) e ∙ rpc_at F.services i j x r at rat in
-    subst
-    (λ (k : ℕ). HasLine (alone F) r.name.span (line (codes "method" ∷ decimal k
-    ∷ text_of (package_of F ++ x.name.name ∷ [])
-    ∷ r.name.name ∷ text_of input ∷ text_of output ∷ []))) (count n) (Lines.of_method x r n there a b)
+    Lines.of_method x r n there a b
 
 -- ---- all lines
 
-every_before : (F : File) (d : Declaration) (s : Span) (text : List ℕ) → LineAt F d s text → IsBefore 3 0 0 d
+every_before : (F : Joined) (d : Declaration) (s : Span) (text : List ℕ) → LineAt F d s text → IsBefore 3 0 0 d
 every_before F d s text (Lengths.of_message i m at is) = inl (omega arith)
 every_before F d s text (Lengths.of_field i j m f n at fat is e k form) = inl (omega arith)
 every_before F d s text (Lengths.of_enum i e at is) = inl (omega arith)
@@ -193,8 +184,8 @@ rise_take n xs r i j d l k =
 -- ---- lists of names with their lines
 
 -- each name has a line that is at least as long
-abbrev HaveLines : File → List (Span × ℕ) → Type 0
-HaveLines F xs = (x : Span × ℕ) → Contains xs x → (text : List ℕ) × HasLine (alone F) x.0 text × (x.1 ≤ length text)
+abbrev HaveLines : Joined → List (Span × ℕ) → Type 0
+HaveLines F xs = (x : Span × ℕ) → Contains xs x → (text : List ℕ) × HasLine F x.0 text × (x.1 ≤ length text)
 
 here : {X : Type 0} (x : X) (xs : List X) → Contains (x ∷ xs) x
 here x xs = (0, omega arith, refl)
@@ -202,16 +193,16 @@ here x xs = (0, omega arith, refl)
 later : {X : Type 0} (y x : X) (xs : List X) → Contains xs x → Contains (y ∷ xs) x
 later y x xs c = (suc c.0, (let l : c.0 < length xs = c.1 in omega arith), c.2)
 
-module _ (F : File) where
+module _ (F : Joined) where
   lines_of : (xs : List (Span × ℕ)) → HaveLines F xs → List (Span × List ℕ)
   lines_of [] has = []
   lines_of (x ∷ xs) has = (x.0, (has x (here x xs)).0) ∷ lines_of xs (λ y c. has y (later x y xs c))
 
-  lines_are : (xs : List (Span × ℕ)) (has : HaveLines F xs) → All (λ l. HasLine (alone F) l.0 l.1) (lines_of xs has)
+  lines_are : (xs : List (Span × ℕ)) (has : HaveLines F xs) → All (λ l. HasLine F l.0 l.1) (lines_of xs has)
   unfolding lines_of
-  lines_are [] has = All-nil (λ (l : Span × List ℕ). HasLine (alone F) l.0 l.1)
+  lines_are [] has = All-nil (λ (l : Span × List ℕ). HasLine F l.0 l.1)
   lines_are (x ∷ xs) has =
-      All-cons (λ (l : Span × List ℕ). HasLine (alone F) l.0 l.1) (x.0, (has x (here x xs)).0)
+      All-cons (λ (l : Span × List ℕ). HasLine F l.0 l.1) (x.0, (has x (here x xs)).0)
       (lines_of xs (λ y c. has y (later x y xs c))) (has x (here x xs)).1
       (lines_are xs (λ y c. has y (later x y xs c)))
 
@@ -354,7 +345,7 @@ all_covered (x ∷ xs) (l ∷ ls) r a among =
 
 -- ---- the offence of a long text
 
-module _ (F : File) (lines ys : List (Span × ℕ)) (v : CoversAll F lines) (p : IsPermutation lines ys)
+module _ (F : Joined) (lines ys : List (Span × ℕ)) (v : CoversAll F lines) (p : IsPermutation lines ys)
     (up : IsNonDecreasingBy {X = Span × ℕ} (λ x. x.0.start) ys)
     (one : (d : Declaration) (s t : Span) (text other : List ℕ) → LineAt F d s text → LineAt F d t other
     → (s ≡ t) × (text ≡ other)) where
@@ -373,7 +364,7 @@ module _ (F : File) (lines ys : List (Span × ℕ)) (v : CoversAll F lines) (p :
       let is : x.1 ≡ at_most_64_bits (length o.2.text) = o.2.is in
       (o.2.text, has_line F o.0 x.0 o.2.text o.2.at, omega arith)
 
-  known : (s : Span) (text : List ℕ) → HasLine (alone F) s text → Contains ys (s, at_most_64_bits (length text))
+  known : (s : Span) (text : List ℕ) → HasLine F s text → Contains ys (s, at_most_64_bits (length text))
   known s text has =
       let d = line_at F s text has in
       let o = v.whole d.0 s text (every_before F d.0 s text d.1) d.1 in
@@ -418,8 +409,8 @@ module _ (F : File) (lines ys : List (Span × ℕ)) (v : CoversAll F lines) (p :
   text_from q s k =
       let span = k.0 in
       let passes = k.1 in
-      let line_of : (l : Span × List ℕ) → Contains passes.lines l → HasLine (alone F) l.0 l.1 =
-      λ l c. All-contains (λ (m : Span × List ℕ). HasLine (alone F) m.0 m.1) passes.lines l passes.are c in
+      let line_of : (l : Span × List ℕ) → Contains passes.lines l → HasLine F l.0 l.1 =
+      λ l c. All-contains (λ (m : Span × List ℕ). HasLine F m.0 m.1) passes.lines l passes.are c in
       let x : Span × ℕ = (span, at_most_64_bits (length passes.own)) in
       let there : Contains ys x = known span passes.own (line_of (span, passes.own) passes.last) in
       let i = there.0 in

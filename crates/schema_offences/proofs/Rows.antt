@@ -1,6 +1,6 @@
--- Small files with an offence of each reason, and one that has a table.
-use Rattle.std.proofs.Common.{◌≡◌, ℕ, ◌<◌, false, List, [], ◌∷◌, codes, inr, refl, sym, subst, arith}
-use Rattle.std.specs.Prelude.{Option, None, Contains, pos}
+-- Small files with an offence of each reason, alone and resolved together, and files of which nothing is said.
+use Rattle.std.proofs.Common.{◌≡◌, ℕ, zero, suc, ◌<◌, false, List, [], ◌∷◌, codes, inr, refl, sym, ap, ◌∙◌, subst, arith}
+use Rattle.std.specs.Prelude.{Option, Some, None, Contains, slice_get, pos}
 use Rattle.std.proofs.lemmas.Option.{same_Some, none-some}
 use Rattle.mrpc_table.specs.declared.words.Decimal.TheVariants.{Small}
 use Rattle.mrpc_table.specs.declared.table.Kind.TheVariants.{Float as AFloat}
@@ -17,9 +17,12 @@ use Rattle.proto_file.specs.declared.file.RpcDecl.{RpcDecl}
 use Rattle.proto_file.specs.declared.file.ServiceDecl.{ServiceDecl}
 use Rattle.proto_file.specs.declared.file.Import.{Import}
 use Rattle.proto_file.specs.declared.file.File.{File}
+use Rattle.proto_file.specs.declared.joined.Head.{Head}
+use Rattle.proto_file.specs.declared.joined.Home.{Home}
+use Rattle.proto_file.specs.declared.joined.Home.TheVariants as home
+use Rattle.proto_file.specs.Joined.{Joined, alone, home_of}
 use Rattle.schema_names.specs.Scopes
-use Rattle.schema_names.specs.Scopes.{IsScope, of_file, of_message as in_message, Sort, a_message, message, Declares, Finds, in_this, in_others}
-use Rattle.schema_offences.specs.Sources.{alone}
+use Rattle.schema_names.specs.Scopes.{IsScope, of_file, of_message as in_message, Sort, a_message, no_type, message, service, rpc, Declares, IsFront, Finds}
 use Rattle.schema_offences.specs.Members.{MessageOffends, of_type, of_number, of_name, number_out_of_range, number_met_before, name_reserved, first_not_zero, bad_key, scalar_key, misplaced, nested, long_message, no_input, of_value}
 use Rattle.schema_offences.specs.Lines
 use Rattle.schema_offences.specs.Lines.{HasLine, PassesAt}
@@ -47,7 +50,7 @@ field type name n k l =
 -- a message whose name stands at 1
 abbrev message_with : List ℕ → List FieldDecl → List Word → MessageDecl
 message_with name fields names =
-    record { name = word name 1; parent = None; fields = fields; oneofs = []; ranges = []; names = names }
+    record { name = word name 1; file = 0; parent = None; fields = fields; oneofs = []; ranges = []; names = names }
 
 abbrev file_of : List MessageDecl → List EnumDecl → List ServiceDecl → List Import → File
 file_of messages enums services imports =
@@ -57,37 +60,34 @@ abbrev of_one : MessageDecl → File
 of_one m = file_of (m ∷ []) [] [] []
 
 -- what stands against the one message of a file
-in_one : (m : MessageDecl) (q : ResolveReason) (s : Span) → m.parent ≡ None
-    → MessageOffends (of_one m ∷ []) (m.name.name ∷ []) 0 m q s → IsOffence (of_one m) q s
+in_one : (m : MessageDecl) (q : ResolveReason) (s : Span) → home_of m ≡ home.File 0
+    → MessageOffends (alone (of_one m)) m.file (m.name.name ∷ []) 0 m q s → IsOffence (of_one m) q s
 in_one m q s e o =
-    offends (Offences.of_message 0 m refl (in_message 0 m refl (subst (λ (p : Option ℕ). IsScope (of_one m) p [])
-    (sym e) of_file)) o)
+    offends (Offences.of_message 0 m refl (in_message 0 m refl
+    (subst (λ (p : Home). IsScope (alone (of_one m)) p []) (sym e) (of_file 0))) o)
 
 -- ---- one offence of each reason
 
 nothing_in : {X : Type 0} (x : X) → Contains [] x → ⊥
 nothing_in x c = let l : c.0 < 0 = c.1 in omega arith
 
-no_message : (F : File) (full : List (List ℕ)) (span : Span) → F.messages ≡ [] → Declares F a_message full span → ⊥
-no_message F full span e (message m c s) = nothing_in m (subst (λ (ms : List MessageDecl). Contains ms m) e c)
+no_message : (F : Joined) (file : ℕ) (full : List (List ℕ)) (span : Span) → F.messages ≡ []
+    → Declares F file a_message full span → ⊥
+no_message F file full span e (message m c s) = nothing_in m (subst (λ (ms : List MessageDecl). Contains ms m) e c)
 
-found_nothing : {sort : Sort} {full : List (List ℕ)} → Finds [] sort full → ⊥
-found_nothing f = elim f [ ]
-
-finds_none : (F : File) (full : List (List ℕ)) → F.messages ≡ [] → Finds (F ∷ []) a_message full → ⊥
-finds_none F full e (in_this f) = no_message F full f.span e f.declared
-finds_none F full e (in_others none f) = found_nothing f
+finds_none : (F : Joined) (file : ℕ) (full : List (List ℕ)) → F.messages ≡ [] → Finds F file a_message full → ⊥
+finds_none F file full e f = no_message F f.other full f.span e f.declared
 
 -- service S { rpc R (X) returns (X); }
 abbrev an_rpc : RpcDecl
 an_rpc = record { name = word (codes "R") 2; input = word (codes "X") 3; output = word (codes "X") 4 }
 
 abbrev a_service : ServiceDecl
-a_service = record { name = word (codes "S") 1; rpcs = an_rpc ∷ [] }
+a_service = record { name = word (codes "S") 1; file = 0; rpcs = an_rpc ∷ [] }
 
 unknown_row : IsOffence (file_of [] [] (a_service ∷ []) []) UnknownName (at 3)
 unknown_row =
-    offends (Offences.of_method 0 a_service an_rpc refl (no_input (λ full names. finds_none _ full refl names.finds)
+    offends (Offences.of_method 0 a_service an_rpc refl (no_input (λ full names. finds_none _ _ full refl names.finds)
     (refl, refl)))
 
 -- message M { int32 a = 0; }
@@ -120,13 +120,15 @@ abbrev first_a : MessageDecl
 first_a = message_with (codes "A") [] []
 
 abbrev second_a : MessageDecl
-second_a = record { name = word (codes "A") 2; parent = None; fields = []; oneofs = []; ranges = []; names = [] }
+second_a =
+    record { name = word (codes "A") 2; file = 0; parent = None; fields = []; oneofs = []; ranges = []; names = [] }
 
 name_row : IsOffence (file_of (first_a ∷ second_a ∷ []) [] [] []) DuplicateName (at 2)
 name_row =
     offends (Offences.twice (at 2)
-    (Offences.in_file a_message a_message (codes "A" ∷ []) (at 1) (message first_a (0, omega arith, refl) of_file)
-    (message second_a (1, omega arith, refl) of_file) (omega arith)) (refl, refl))
+    (Offences.declared 0 0 a_message a_message (codes "A" ∷ []) (at 1)
+    (message first_a (0, omega arith, refl) (of_file 0))
+    (message second_a (1, omega arith, refl) (of_file 0)) (omega arith)) (refl, refl))
 
 -- message M { reserved "a"; int32 a = 1; }
 reserved_row : IsOffence (of_one (message_with (codes "M") (a_field ∷ []) (word (codes "a") 2 ∷ []))) Reserved (at 3)
@@ -138,6 +140,7 @@ reserved_row =
 abbrev from_one : EnumDecl
 from_one = record {
   name = word (codes "E") 1;
+  file = 0;
   parent = None;
   values = record { name = word (codes "A") 2; number = number 1 3 } ∷ [];
   ranges = [];
@@ -181,17 +184,89 @@ an_import = record { path = codes "x"; public = false; span = at 1 }
 import_row : IsOffence (file_of [] [] [] (an_import ∷ [])) HasImport (at 1)
 import_row = Offences.has_import an_import refl (refl, refl)
 
+-- ---- files that are resolved together
+
+abbrev head : Option Word → Head
+head name = record { «package» = name; sees = 0 ∷ 1 ∷ [] }
+
+abbrev two_files : Option Word → Option Word → List MessageDecl → List ServiceDecl → Joined
+two_files p q messages services =
+    record { heads = head p ∷ head q ∷ []; messages = messages; enums = []; services = services }
+
+abbrev message_at : ℕ → List ℕ → ℕ → MessageDecl
+message_at file name n = record {
+  name = word name n;
+  file = file;
+  parent = None;
+  fields = [];
+  oneofs = [];
+  ranges = [];
+  names = [];
+}
+
+-- message A {} in one file, message A {} in the other: the later one is the offence
+later_row : Offends (two_files None None (message_at 0 (codes "A") 1 ∷ message_at 1 (codes "A") 11 ∷ []) [])
+    DuplicateName (at 11)
+later_row =
+    Offences.twice (at 11)
+    (Offences.declared 0 1 a_message a_message (codes "A" ∷ []) (at 1) (message _ (0, omega arith, refl) (of_file 0))
+    (message _ (1, omega arith, refl) (of_file 1)) (omega arith)) (refl, refl)
+
+-- the same in two packages of one name
+same_package_row : Offends (two_files (Some (word (codes "p") 0)) (Some (word (codes "p") 10))
+    (message_at 0 (codes "A") 1 ∷ message_at 1 (codes "A") 11 ∷ []) []) DuplicateName (at 11)
+same_package_row =
+    Offences.twice (at 11)
+    (Offences.declared 0 1 a_message a_message (codes "p" ∷ codes "A" ∷ []) (at 1)
+    (message _ (0, omega arith, refl) (of_file 0)) (message _ (1, omega arith, refl) (of_file 1)) (omega arith))
+    (refl, refl)
+
+-- message p {} in a file without a package, the other file has package p
+package_row : Offends (two_files None (Some (word (codes "p") 10)) (message_at 0 (codes "p") 1 ∷ []) []) DuplicateName
+    (at 1)
+package_row =
+    Offences.twice (at 1)
+    (Offences.a_package 0 a_message (codes "p" ∷ []) (message _ (0, omega arith, refl) (of_file 0)) refl
+    (record { file = 1; rest = []; begins = refl })) (refl, refl)
+
+-- the same where the other file has package p.q
+front_row : Offends (two_files None (Some (word (codes "p.q") 10)) (message_at 0 (codes "p") 1 ∷ []) []) DuplicateName
+    (at 1)
+front_row =
+    Offences.twice (at 1)
+    (Offences.a_package 0 a_message (codes "p" ∷ []) (message _ (0, omega arith, refl) (of_file 0)) refl
+    (record { file = 1; rest = codes "q" ∷ []; begins = refl })) (refl, refl)
+
+-- package p; service S { rpc R (X) returns (X); } and package p.S; message R {}: the service is the first offence
+abbrev of_package_s : Joined
+of_package_s =
+    two_files (Some (word (codes "p") 0)) (Some (word (codes "p.S") 10)) (message_at 1 (codes "R") 11 ∷ [])
+    (a_service ∷ [])
+
+service_row : Offends of_package_s DuplicateName (at 1)
+service_row =
+    Offences.twice (at 1)
+    (Offences.a_service_package a_service (0, omega arith, refl) (record { file = 1; rest = []; begins = refl }) refl)
+    (refl, refl)
+
+method_row : Offends of_package_s DuplicateName (at 11)
+method_row =
+    Offences.twice (at 11)
+    (Offences.declared 0 1 no_type a_message (codes "p" ∷ codes "S" ∷ codes "R" ∷ []) (at 2)
+    (rpc a_service an_rpc (0, omega arith, refl) (0, omega arith, refl))
+    (message _ (0, omega arith, refl) (of_file 1)) (omega arith)) (refl, refl)
+
 -- ---- whole answers: a file of which nothing but imports is said
 
-no_declaration : (imports : List Import) (sort : Sort) (full : List (List ℕ)) (s : Span)
-    → Declares (file_of [] [] [] imports) sort full s → ⊥
-no_declaration imports sort full s (Scopes.message m c is) = nothing_in m c
-no_declaration imports sort full s (Scopes.enum e c is) = nothing_in e c
-no_declaration imports sort full s (Scopes.service x c) = nothing_in x c
-no_declaration imports sort full s (Scopes.value e v c d is) = nothing_in e c
-no_declaration imports sort full s (Scopes.field m f c d is) = nothing_in m c
-no_declaration imports sort full s (Scopes.oneof m o c d is) = nothing_in m c
-no_declaration imports sort full s (Scopes.rpc x r c d) = nothing_in x c
+no_declaration : (imports : List Import) (file : ℕ) (sort : Sort) (full : List (List ℕ)) (s : Span)
+    → Declares (alone (file_of [] [] [] imports)) file sort full s → ⊥
+no_declaration imports file sort full s (Scopes.message m c is) = nothing_in m c
+no_declaration imports file sort full s (Scopes.enum e c is) = nothing_in e c
+no_declaration imports file sort full s (Scopes.service x c) = nothing_in x c
+no_declaration imports file sort full s (Scopes.value e v c d is) = nothing_in e c
+no_declaration imports file sort full s (Scopes.field m f c d is) = nothing_in m c
+no_declaration imports file sort full s (Scopes.oneof m o c d is) = nothing_in m c
+no_declaration imports file sort full s (Scopes.rpc x r c d) = nothing_in x c
 
 no_line : (imports : List Import) (s : Span) (line : List ℕ)
     → HasLine (alone (file_of [] [] [] imports)) s line → ⊥
@@ -202,12 +277,12 @@ no_line imports s line (Lines.of_field m f n h e k form) = none-some m h.message
 no_line imports s line (Lines.of_method x r i at a b) = none-some (x, r) at
 
 not_twice : (imports : List Import) (s : Span) → IsTwice (alone (file_of [] [] [] imports)) s → ⊥
-not_twice imports s (Offences.in_file a b full earlier d e l) = no_declaration imports b full s e
-not_twice imports s (Offences.in_another G a b full other c d e) = no_declaration imports b full s e
-not_twice imports s (Offences.a_package G sort full rest c e d t) = no_declaration imports sort full s d
+not_twice imports s (Offences.declared j k a b full earlier d e l) = no_declaration imports k b full s e
+not_twice imports s (Offences.a_package k sort full d t front) = no_declaration imports k sort full s d
+not_twice imports s (Offences.a_service_package x c front e) = nothing_in x c
 
-not_long : (imports : List Import) (s : Span) → IsLongInFull (file_of [] [] [] imports) s → ⊥
-not_long imports s (Offences.a_type sort full d t l) = no_declaration imports sort full s d
+not_long : (imports : List Import) (s : Span) → IsLongInFull (alone (file_of [] [] [] imports)) s → ⊥
+not_long imports s (Offences.a_type k sort full d t l) = no_declaration imports k sort full s d
 not_long imports s (Offences.a_service x c l e) = nothing_in x c
 
 nothing_passes : (imports : List Import) (s : Span) → PassesAt (alone (file_of [] [] [] imports)) s → ⊥
@@ -216,13 +291,19 @@ nothing_passes imports s p =
     no_line imports s p.own
     (subst (λ (l : Span × List ℕ). HasLine (alone (file_of [] [] [] imports)) l.0 l.1) p.last.2 has)
 
+no_package : (imports : List Import) (k : ℕ) (h : Head) (w : Word)
+    → slice_get (alone (file_of [] [] [] imports)).heads k ≡ Some h → h.package ≡ Some w → ⊥
+no_package imports zero h w at e =
+    none-some w (ap (λ (x : Head). x.package) (same_Some (record { «package» = None; sees = 0 ∷ [] }) h at) ∙ e)
+no_package imports (suc k) h w at e = none-some h at
+
 nothing_offends : (imports : List Import) (q : ResolveReason) (s : Span)
     → Offends (alone (file_of [] [] [] imports)) q s → ⊥
 nothing_offends imports q s (Offences.of_message i m at is o) = none-some m at
 nothing_offends imports q s (Offences.of_enum i e at o) = none-some e at
 nothing_offends imports q s (Offences.of_service i x at o) = none-some x at
 nothing_offends imports q s (Offences.of_method i x r at o) = none-some (x, r) at
-nothing_offends imports q s (Offences.of_package w e l is) = none-some w e
+nothing_offends imports q s (Offences.of_package k h w at e l is) = no_package imports k h w at e
 nothing_offends imports q s (Offences.twice span t is) = not_twice imports span t
 nothing_offends imports q s (Offences.long_in_full span t is) = not_long imports span t
 nothing_offends imports q s (Offences.long_text span t is) = nothing_passes imports span t

@@ -1,5 +1,5 @@
--- What stands against methods, the package and imports is what their judges meet.
-use Rattle.std.proofs.Common.{◌≡◌, ℕ, ◌+◌, ◌-◌, ◌^◌, ◌<◌, ◌≤◌, ◌⊎◌, inl, inr, Bool, true, false, cond, not, List, [], ◌∷◌, ◌++◌, length, get_or, take, refl, sym, ap, ◌∙◌, subst, arith, length-append, append-nil}
+-- What stands against methods and packages is what their judges meet.
+use Rattle.std.proofs.Common.{◌≡◌, ℕ, ◌+◌, ◌-◌, ◌^◌, ◌<◌, ◌≤◌, Bool, true, false, cond, not, List, [], ◌∷◌, ◌++◌, length, get_or, take, refl, sym, ap, ◌∙◌, subst, arith, length-append, append-nil}
 use Rattle.std.specs.Prelude.{min, Some, None, option_map, slice_get}
 use Rattle.std.specs.List.{flat_map}
 use Rattle.std.proofs.lemmas.Option.{same_Some, none-some, slice_get-map, slice_get_within, get_or_from_slice_get, slice_get-get_or}
@@ -9,48 +9,20 @@ use Rattle.std.proofs.lemmas.List.Concat.{flat_map-append, get_or-flat_map}
 use Rattle.mrpc_table.specs.Names.{is_short_full}
 use Rattle.proto_file.specs.declared.file.Span.{Span}
 use Rattle.proto_file.specs.declared.file.Word.{Word}
-use Rattle.proto_file.specs.declared.file.Import.{Import}
 use Rattle.proto_file.specs.declared.file.RpcDecl.{RpcDecl}
 use Rattle.proto_file.specs.declared.file.ServiceDecl.{ServiceDecl}
-use Rattle.proto_file.specs.declared.file.File.{File}
-use Rattle.schema_offences.specs.Sources.{service_rpcs}
+use Rattle.proto_file.specs.declared.joined.Head.{Head}
+use Rattle.proto_file.specs.Joined.{Joined}
+use Rattle.schema_offences.specs.Methods.{service_rpcs}
 use Rattle.schema_offences.specs.Members
 use Rattle.schema_offences.specs.Members.{Is, MethodOffends}
-use Rattle.schema_offences.specs.Meeting.{first_of, IsWhere, Meets, HeadOffends, an_import, a_long_package}
+use Rattle.schema_offences.specs.Meeting.{first_of, IsWhere, Meets, PackageOffends}
 use Rattle.schema_offences.specs.declared.reason.ResolveReason.{ResolveReason}
-use Rattle.schema_offences.specs.declared.reason.ResolveReason.TheVariants.{Limit, Import as HasImport}
+use Rattle.schema_offences.specs.declared.reason.ResolveReason.TheVariants.{Limit}
 use Rattle.schema_offences.specs.declared.first.First.{First}
-use Rattle.schema_offences.proofs.Meetings.{meets_noted, meets_kept, meets_where, meets_as}
+use Rattle.schema_offences.proofs.Meetings.{meets_kept, meets_where, meets_as}
 
--- ---- the head of a file
-
-abbrev pub ImportOffends : File → ResolveReason → Span → Type 0
-ImportOffends F q s = (x : Import) × (slice_get F.imports 0 ≡ Some x) × Is HasImport x.span q s
-
-abbrev pub PackageOffends : File → ResolveReason → Span → Type 0
-PackageOffends F q s =
-    (w : Word) × (F.package ≡ Some w) × (is_short_full w.name ≡ false) × Is Limit w.span q s
-
-pub head_to : (F : File) (q : ResolveReason) (s : Span) → (ImportOffends F q s ⊎ PackageOffends F q s)
-    → HeadOffends F q s
-head_to F q s (inl p) = an_import p.0 p.1 p.2
-head_to F q s (inr p) = a_long_package p.0 p.1 p.2 p.3
-
-pub head_from : (F : File) (q : ResolveReason) (s : Span) → HeadOffends F q s
-    → ImportOffends F q s ⊎ PackageOffends F q s
-head_from F q s (an_import x at is) = inl (x, at, is)
-head_from F q s (a_long_package w at long is) = inr (w, at, long, is)
-
-pub meets_import : (F : File) (x : Import) (a b : First) → slice_get F.imports 0 ≡ Some x
-    → b.found ≡ Some (first_of a.found (record { reason = HasImport; span = x.span })) → Meets (ImportOffends F) a b
-meets_import F x a b at is =
-    meets_as (Is HasImport x.span) (ImportOffends F) a b (meets_noted HasImport x.span a b is) (λ q s p. (x, at, p))
-    (λ q s p. subst (λ (y : Import). Is HasImport y.span q s) (same_Some p.0 x (sym p.1 ∙ at)) p.2)
-
-pub meets_no_import : (F : File) (a b : First) → slice_get F.imports 0 ≡ None → b.found ≡ a.found
-    → Meets (ImportOffends F) a b
-meets_no_import F a b none is =
-    meets_kept (ImportOffends F) a b (λ q s p. none-some p.0 (sym none ∙ p.1)) is
+-- ---- packages
 
 not_true : (b : Bool) → not b ≡ true → b ≡ false
 not_true true e = absurd cc
@@ -60,23 +32,23 @@ true_not : (b : Bool) → b ≡ false → not b ≡ true
 true_not true e = absurd cc
 true_not false e = refl
 
-pub meets_package : (F : File) (w : Word) (a b : First) → F.package ≡ Some w
+pub meets_package : (h : Head) (w : Word) (a b : First) → h.package ≡ Some w
     → b.found ≡ cond (not (is_short_full w.name))
     (Some (first_of a.found (record { reason = Limit; span = w.span }))) a.found
-    → Meets (PackageOffends F) a b
-meets_package F w a b at is =
-    meets_as (IsWhere (not (is_short_full w.name)) Limit w.span) (PackageOffends F) a b
+    → Meets (PackageOffends h) a b
+meets_package h w a b at is =
+    meets_as (IsWhere (not (is_short_full w.name)) Limit w.span) (PackageOffends h) a b
     (meets_where (not (is_short_full w.name)) Limit w.span a b is)
-    (λ q s p. (w, at, not_true (is_short_full w.name) p.0, p.1))
+    (λ q s p. record { name = w; declared = at; long = not_true (is_short_full w.name) p.0; is = p.1 })
     (λ q s p.
-    let same : p.0 ≡ w = same_Some p.0 w (sym p.1 ∙ at) in (
-      true_not (is_short_full w.name) (subst (λ (v : Word). is_short_full v.name ≡ false) same p.2),
-      subst (λ (v : Word). Is Limit v.span q s) same p.3,
+    let same : p.name ≡ w = same_Some p.name w (sym p.declared ∙ at) in (
+      true_not (is_short_full w.name) (subst (λ (v : Word). is_short_full v.name ≡ false) same p.long),
+      subst (λ (v : Word). Is Limit v.span q s) same p.is,
     ))
 
-pub meets_no_package : (F : File) (a b : First) → F.package ≡ None → b.found ≡ a.found → Meets (PackageOffends F) a b
-meets_no_package F a b none is =
-    meets_kept (PackageOffends F) a b (λ q s p. none-some p.0 (sym none ∙ p.1)) is
+pub meets_no_package : (h : Head) (a b : First) → h.package ≡ None → b.found ≡ a.found → Meets (PackageOffends h) a b
+meets_no_package h a b none is =
+    meets_kept (PackageOffends h) a b (λ q s p. none-some p.name (sym none ∙ p.declared)) is
 
 -- ---- methods by their places among all
 
@@ -123,23 +95,23 @@ methods_more services i x at =
     omega arith
 
 -- the place may stop at the largest number
-counted_to : (files : List File) (scope : List (List ℕ)) (n place : ℕ) (r : RpcDecl) → n ≡ min place (2 ^ 64 - 1)
-    → (q : ResolveReason) (s : Span) → MethodOffends files scope n r q s → MethodOffends files scope place r q s
-counted_to files scope n place r e q s (Members.too_many_methods p is) = Members.too_many_methods (omega arith) is
-counted_to files scope n place r e q s (Members.long_method p) = Members.long_method p
-counted_to files scope n place r e q s (Members.no_input p is) = Members.no_input p is
-counted_to files scope n place r e q s (Members.no_output p is) = Members.no_output p is
+counted_to : (F : Joined) (file : ℕ) (scope : List (List ℕ)) (n place : ℕ) (r : RpcDecl) → n ≡ min place (2 ^ 64 - 1)
+    → (q : ResolveReason) (s : Span) → MethodOffends F file scope n r q s → MethodOffends F file scope place r q s
+counted_to F file scope n place r e q s (Members.too_many_methods p is) = Members.too_many_methods (omega arith) is
+counted_to F file scope n place r e q s (Members.long_method p) = Members.long_method p
+counted_to F file scope n place r e q s (Members.no_input p is) = Members.no_input p is
+counted_to F file scope n place r e q s (Members.no_output p is) = Members.no_output p is
 
-counted_from : (files : List File) (scope : List (List ℕ)) (n place : ℕ) (r : RpcDecl) → n ≡ min place (2 ^ 64 - 1)
-    → (q : ResolveReason) (s : Span) → MethodOffends files scope place r q s → MethodOffends files scope n r q s
-counted_from files scope n place r e q s (Members.too_many_methods p is) = Members.too_many_methods (omega arith) is
-counted_from files scope n place r e q s (Members.long_method p) = Members.long_method p
-counted_from files scope n place r e q s (Members.no_input p is) = Members.no_input p is
-counted_from files scope n place r e q s (Members.no_output p is) = Members.no_output p is
+counted_from : (F : Joined) (file : ℕ) (scope : List (List ℕ)) (n place : ℕ) (r : RpcDecl) → n ≡ min place (2 ^ 64 - 1)
+    → (q : ResolveReason) (s : Span) → MethodOffends F file scope place r q s → MethodOffends F file scope n r q s
+counted_from F file scope n place r e q s (Members.too_many_methods p is) = Members.too_many_methods (omega arith) is
+counted_from F file scope n place r e q s (Members.long_method p) = Members.long_method p
+counted_from F file scope n place r e q s (Members.no_input p is) = Members.no_input p is
+counted_from F file scope n place r e q s (Members.no_output p is) = Members.no_output p is
 
-pub meets_counted : (files : List File) (scope : List (List ℕ)) (n place : ℕ) (r : RpcDecl) (a b : First)
-    → n ≡ min place (2 ^ 64 - 1) → Meets (MethodOffends files scope n r) a b
-    → Meets (MethodOffends files scope place r) a b
-meets_counted files scope n place r a b e m =
-    meets_as (MethodOffends files scope n r) (MethodOffends files scope place r) a b m
-    (counted_to files scope n place r e) (counted_from files scope n place r e)
+pub meets_counted : (F : Joined) (file : ℕ) (scope : List (List ℕ)) (n place : ℕ) (r : RpcDecl) (a b : First)
+    → n ≡ min place (2 ^ 64 - 1) → Meets (MethodOffends F file scope n r) a b
+    → Meets (MethodOffends F file scope place r) a b
+meets_counted F file scope n place r a b e m =
+    meets_as (MethodOffends F file scope n r) (MethodOffends F file scope place r) a b m
+    (counted_to F file scope n place r e) (counted_from F file scope n place r e)

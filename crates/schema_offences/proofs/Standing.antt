@@ -1,4 +1,4 @@
--- Each offence stands at a name or a number of its file, so that of one file there is one first offence.
+-- Each offence stands at a name or a number, so that of files in order there is one first offence.
 use Rattle.std.proofs.Common.{◌≡◌, ℕ, zero, suc, ◌≤◌, ◌⊎◌, inl, inr, List, [], ◌∷◌, ◌++◌, length, map, refl, sym, ap, ◌∙◌, subst, arith}
 use Rattle.std.specs.Prelude.{Some, slice_get, Contains}
 use Rattle.std.specs.List.{flat_map}
@@ -11,23 +11,25 @@ use Rattle.proto_file.specs.declared.file.MessageDecl.{MessageDecl}
 use Rattle.proto_file.specs.declared.file.EnumDecl.{EnumDecl}
 use Rattle.proto_file.specs.declared.file.RpcDecl.{RpcDecl}
 use Rattle.proto_file.specs.declared.file.ServiceDecl.{ServiceDecl}
-use Rattle.proto_file.specs.declared.file.File.{File}
+use Rattle.proto_file.specs.Joined.{Joined}
 use Rattle.proto_file.specs.Order
-use Rattle.proto_file.specs.Order.{Declaration, Part, StandsAt, IsOrdered, message_decl, field_decl, oneof_decl, enum_decl, value_decl, service_decl, rpc_decl, package_decl, import_decl, its_type, its_key, its_value, its_name, its_number, its_input, its_output}
+use Rattle.proto_file.specs.Together
+use Rattle.proto_file.specs.Order.{Part, its_type, its_key, its_value, its_name, its_number, its_input, its_output}
+use Rattle.proto_file.specs.Together.{Declaration, StandsAt, IsOrdered, message_decl, field_decl, oneof_decl, enum_decl, value_decl, service_decl, rpc_decl, package_decl}
 use Rattle.schema_names.specs.Scopes
 use Rattle.schema_names.specs.Scopes.{Sort, Declares}
-use Rattle.schema_offences.specs.Sources.{alone, service_rpcs}
+use Rattle.schema_offences.specs.Methods.{service_rpcs}
 use Rattle.schema_offences.specs.Members
 use Rattle.schema_offences.specs.Members.{KeyOffends, TypeOffends, NumberOffends, ValueOffends, NameOffends, MessageOffends, EnumOffends, MethodOffends}
 use Rattle.schema_offences.specs.Lines
 use Rattle.schema_offences.specs.Lines.{HasLine, PassesAt}
 use Rattle.schema_offences.specs.Offences
-use Rattle.schema_offences.specs.Offences.{IsTwice, IsLongInFull, Offends, IsOffence, ComesFirst, HasOffence, rank_of}
+use Rattle.schema_offences.specs.Offences.{IsTwice, IsLongInFull, Offends, ComesFirst, HasFirst, rank_of}
 use Rattle.schema_offences.specs.declared.reason.ResolveReason.{ResolveReason}
 use Rattle.schema_offences.specs.declared.reason.ResolveReason.TheVariants.{UnknownName, NumberRange, DuplicateNumber, DuplicateName, Reserved, FirstEnum, MapKey, MapPlace, Limit, Import as HasImport}
 
--- a name or a number of the file stands here
-abbrev Stands : File → Span → Type 0
+-- a name or a number stands here
+abbrev Stands : Joined → Span → Type 0
 Stands F s = (x : Declaration) × (p : Part) × StandsAt F s x p
 
 -- ---- places
@@ -61,45 +63,45 @@ rpc_placed (s ∷ ss) i x r e = elim (mapped_or_later s s.rpcs (flat_map service
 
 -- ---- members
 
-module _ (F : File) (s : Span) where
-  key_stands : (files : List File) (scope : List (List ℕ)) (i j : ℕ) (m : MessageDecl) (f : FieldDecl) (k v : Word)
+module _ (F : Joined) (s : Span) where
+  key_stands : (G : Joined) (file : ℕ) (scope : List (List ℕ)) (i j : ℕ) (m : MessageDecl) (f : FieldDecl) (k v : Word)
       (q : ResolveReason) → slice_get F.messages i ≡ Some m → slice_get m.fields j ≡ Some f
-      → f.kind ≡ Map k v → KeyOffends files scope k q s → Stands F s
-  key_stands files scope i j m f k v q at fat e (Members.unknown_key o) =
-      (field_decl i j, its_key, Order.field i j m f at fat (Order.map_key k v e o.is.1))
-  key_stands files scope i j m f k v q at fat e (Members.scalar_key n a b is) =
-      (field_decl i j, its_key, Order.field i j m f at fat (Order.map_key k v e is.1))
-  key_stands files scope i j m f k v q at fat e (Members.type_key a b c d is) =
-      (field_decl i j, its_key, Order.field i j m f at fat (Order.map_key k v e is.1))
+      → f.kind ≡ Map k v → KeyOffends G file scope k q s → Stands F s
+  key_stands G file scope i j m f k v q at fat e (Members.unknown_key o) =
+      (field_decl i j, its_key, Together.field i j m f at fat (Order.map_key k v e o.is.1))
+  key_stands G file scope i j m f k v q at fat e (Members.scalar_key n a b is) =
+      (field_decl i j, its_key, Together.field i j m f at fat (Order.map_key k v e is.1))
+  key_stands G file scope i j m f k v q at fat e (Members.type_key a b c d is) =
+      (field_decl i j, its_key, Together.field i j m f at fat (Order.map_key k v e is.1))
 
-  type_stands : (files : List File) (scope : List (List ℕ)) (i j : ℕ) (m : MessageDecl) (f : FieldDecl)
+  type_stands : (G : Joined) (file : ℕ) (scope : List (List ℕ)) (i j : ℕ) (m : MessageDecl) (f : FieldDecl)
       (q : ResolveReason) → slice_get F.messages i ≡ Some m → slice_get m.fields j ≡ Some f
-      → TypeOffends files scope f q s → Stands F s
-  type_stands files scope i j m f q at fat (Members.unknown_type w e o) =
-      (field_decl i j, its_type, Order.field i j m f at fat (Order.field_type w e o.is.1))
-  type_stands files scope i j m f q at fat (Members.bad_key k v e o) = key_stands files scope i j m f k v q at fat e o
-  type_stands files scope i j m f q at fat (Members.unknown_value k v e o) =
-      (field_decl i j, its_value, Order.field i j m f at fat (Order.map_value k v e o.is.1))
-  type_stands files scope i j m f q at fat (Members.misplaced o is) =
-      (field_decl i j, its_name, Order.field i j m f at fat (Order.field_name is.1))
+      → TypeOffends G file scope f q s → Stands F s
+  type_stands G file scope i j m f q at fat (Members.unknown_type w e o) =
+      (field_decl i j, its_type, Together.field i j m f at fat (Order.field_type w e o.is.1))
+  type_stands G file scope i j m f q at fat (Members.bad_key k v e o) = key_stands G file scope i j m f k v q at fat e o
+  type_stands G file scope i j m f q at fat (Members.unknown_value k v e o) =
+      (field_decl i j, its_value, Together.field i j m f at fat (Order.map_value k v e o.is.1))
+  type_stands G file scope i j m f q at fat (Members.misplaced o is) =
+      (field_decl i j, its_name, Together.field i j m f at fat (Order.field_name is.1))
 
   number_stands : (i j : ℕ) (m : MessageDecl) (q : ResolveReason) → slice_get F.messages i ≡ Some m
       → NumberOffends m j q s → Stands F s
   number_stands i j m q at (Members.number_out_of_range f fat o is) =
-      (field_decl i j, its_number, Order.field i j m f at fat (Order.field_number is.1))
+      (field_decl i j, its_number, Together.field i j m f at fat (Order.field_number is.1))
   number_stands i j m q at (Members.number_met_before f g k fat l gat e is) =
-      (field_decl i j, its_number, Order.field i j m f at fat (Order.field_number is.1))
+      (field_decl i j, its_number, Together.field i j m f at fat (Order.field_number is.1))
   number_stands i j m q at (Members.number_reserved f fat o is) =
-      (field_decl i j, its_number, Order.field i j m f at fat (Order.field_number is.1))
+      (field_decl i j, its_number, Together.field i j m f at fat (Order.field_number is.1))
 
   value_stands : (i j : ℕ) (e : EnumDecl) (q : ResolveReason) → slice_get F.enums i ≡ Some e
       → ValueOffends e j q s → Stands F s
   value_stands i j e q at (Members.value_out_of_range v vat o is) =
-      (value_decl i j, its_number, Order.value i j e v at vat (Order.value_number is.1))
+      (value_decl i j, its_number, Together.value i j e v at vat (Order.value_number is.1))
   value_stands i j e q at (Members.value_reserved v vat o is) =
-      (value_decl i j, its_number, Order.value i j e v at vat (Order.value_number is.1))
+      (value_decl i j, its_number, Together.value i j e v at vat (Order.value_number is.1))
   value_stands i j e q at (Members.first_not_zero v vat z o is) =
-      (value_decl i j, its_number, Order.value i j e v at vat (Order.value_number is.1))
+      (value_decl i j, its_number, Together.value i j e v at vat (Order.value_number is.1))
 
   name_is : (names : List Word) (limit i : ℕ) (w : Word) (q : ResolveReason) → NameOffends names limit i w q s
       → s ≡ w.span
@@ -107,120 +109,120 @@ module _ (F : File) (s : Span) where
   name_is names limit i w q (Members.name_long o) = o.1.1
   name_is names limit i w q (Members.name_too_many o is) = is.1
 
-  message_stands : (files : List File) (scope : List (List ℕ)) (n i : ℕ) (m : MessageDecl) (q : ResolveReason)
-      → slice_get F.messages i ≡ Some m → MessageOffends files scope n m q s → Stands F s
-  message_stands files scope n i m q at (Members.too_many_messages l is) =
-      (message_decl i, its_name, Order.message i m at is.1)
-  message_stands files scope n i m q at (Members.long_message o) =
-      (message_decl i, its_name, Order.message i m at o.1.1)
-  message_stands files scope n i m q at (Members.of_type j f fat o) = type_stands files scope i j m f q at fat o
-  message_stands files scope n i m q at (Members.of_number j o) = number_stands i j m q at o
-  message_stands files scope n i m q at (Members.of_name j f fat o) =
-      (field_decl i j, its_name, Order.field i j m f at fat (Order.field_name (name_is m.names _ j f.name q o)))
-  message_stands files scope n i m q at (Members.of_oneof j w oat o) =
-      (oneof_decl i j, its_name, Order.oneof i j m w at oat o.1.1)
+  message_stands : (G : Joined) (file : ℕ) (scope : List (List ℕ)) (n i : ℕ) (m : MessageDecl) (q : ResolveReason)
+      → slice_get F.messages i ≡ Some m → MessageOffends G file scope n m q s → Stands F s
+  message_stands G file scope n i m q at (Members.too_many_messages l is) =
+      (message_decl i, its_name, Together.message i m at is.1)
+  message_stands G file scope n i m q at (Members.long_message o) =
+      (message_decl i, its_name, Together.message i m at o.1.1)
+  message_stands G file scope n i m q at (Members.of_type j f fat o) = type_stands G file scope i j m f q at fat o
+  message_stands G file scope n i m q at (Members.of_number j o) = number_stands i j m q at o
+  message_stands G file scope n i m q at (Members.of_name j f fat o) =
+      (field_decl i j, its_name, Together.field i j m f at fat (Order.field_name (name_is m.names _ j f.name q o)))
+  message_stands G file scope n i m q at (Members.of_oneof j w oat o) =
+      (oneof_decl i j, its_name, Together.oneof i j m w at oat o.1.1)
 
   enum_stands : (n i : ℕ) (e : EnumDecl) (q : ResolveReason) → slice_get F.enums i ≡ Some e
       → EnumOffends n e q s → Stands F s
-  enum_stands n i e q at (Members.too_many_enums l is) = (enum_decl i, its_name, Order.enum i e at is.1)
-  enum_stands n i e q at (Members.long_enum o) = (enum_decl i, its_name, Order.enum i e at o.1.1)
+  enum_stands n i e q at (Members.too_many_enums l is) = (enum_decl i, its_name, Together.enum i e at is.1)
+  enum_stands n i e q at (Members.long_enum o) = (enum_decl i, its_name, Together.enum i e at o.1.1)
   enum_stands n i e q at (Members.of_value j o) = value_stands i j e q at o
   enum_stands n i e q at (Members.of_value_name j v vat o) =
-      (value_decl i j, its_name, Order.value i j e v at vat (Order.value_name (name_is e.names _ j v.name q o)))
+      (value_decl i j, its_name, Together.value i j e v at vat (Order.value_name (name_is e.names _ j v.name q o)))
 
-  method_stands : (files : List File) (scope : List (List ℕ)) (n a b : ℕ) (x : ServiceDecl) (r : RpcDecl)
+  method_stands : (G : Joined) (file : ℕ) (scope : List (List ℕ)) (n a b : ℕ) (x : ServiceDecl) (r : RpcDecl)
       (q : ResolveReason) → slice_get F.services a ≡ Some x → slice_get x.rpcs b ≡ Some r
-      → MethodOffends files scope n r q s → Stands F s
-  method_stands files scope n a b x r q at rat (Members.too_many_methods l is) =
-      (rpc_decl a b, its_name, Order.rpc a b x r at rat (Order.rpc_name is.1))
-  method_stands files scope n a b x r q at rat (Members.long_method o) =
-      (rpc_decl a b, its_name, Order.rpc a b x r at rat (Order.rpc_name o.1.1))
-  method_stands files scope n a b x r q at rat (Members.no_input o is) =
-      (rpc_decl a b, its_input, Order.rpc a b x r at rat (Order.rpc_input is.1))
-  method_stands files scope n a b x r q at rat (Members.no_output o is) =
-      (rpc_decl a b, its_output, Order.rpc a b x r at rat (Order.rpc_output is.1))
+      → MethodOffends G file scope n r q s → Stands F s
+  method_stands G file scope n a b x r q at rat (Members.too_many_methods l is) =
+      (rpc_decl a b, its_name, Together.rpc a b x r at rat (Order.rpc_name is.1))
+  method_stands G file scope n a b x r q at rat (Members.long_method o) =
+      (rpc_decl a b, its_name, Together.rpc a b x r at rat (Order.rpc_name o.1.1))
+  method_stands G file scope n a b x r q at rat (Members.no_input o is) =
+      (rpc_decl a b, its_input, Together.rpc a b x r at rat (Order.rpc_input is.1))
+  method_stands G file scope n a b x r q at rat (Members.no_output o is) =
+      (rpc_decl a b, its_output, Together.rpc a b x r at rat (Order.rpc_output is.1))
 
 -- ---- declarations and lines
 
-declared_stands : (F : File) (sort : Sort) (full : List (List ℕ)) (s : Span) → Declares F sort full s → Stands F s
-declared_stands F sort full s (Scopes.message m c is) =
+declared_stands : (F : Joined) (file : ℕ) (sort : Sort) (full : List (List ℕ)) (s : Span) → Declares F file sort full s
+    → Stands F s
+declared_stands F file sort full s (Scopes.message m c is) =
     let p = placed F.messages m c in
-    (message_decl p.0, its_name, Order.message p.0 m p.1 refl)
-declared_stands F sort full s (Scopes.enum e c is) =
+    (message_decl p.0, its_name, Together.message p.0 m p.1 refl)
+declared_stands F file sort full s (Scopes.enum e c is) =
     let p = placed F.enums e c in
-    (enum_decl p.0, its_name, Order.enum p.0 e p.1 refl)
-declared_stands F sort full s (Scopes.service x c) =
+    (enum_decl p.0, its_name, Together.enum p.0 e p.1 refl)
+declared_stands F file sort full s (Scopes.service x c) =
     let p = placed F.services x c in
-    (service_decl p.0, its_name, Order.service p.0 x p.1 refl)
-declared_stands F sort full s (Scopes.value e v c d is) =
+    (service_decl p.0, its_name, Together.service p.0 x p.1 refl)
+declared_stands F file sort full s (Scopes.value e v c d is) =
     let p = placed F.enums e c in
     let o = placed e.values v d in
-    (value_decl p.0 o.0, its_name, Order.value p.0 o.0 e v p.1 o.1 (Order.value_name refl))
-declared_stands F sort full s (Scopes.field m f c d is) =
+    (value_decl p.0 o.0, its_name, Together.value p.0 o.0 e v p.1 o.1 (Order.value_name refl))
+declared_stands F file sort full s (Scopes.field m f c d is) =
     let p = placed F.messages m c in
     let o = placed m.fields f d in
-    (field_decl p.0 o.0, its_name, Order.field p.0 o.0 m f p.1 o.1 (Order.field_name refl))
-declared_stands F sort full s (Scopes.oneof m w c d is) =
+    (field_decl p.0 o.0, its_name, Together.field p.0 o.0 m f p.1 o.1 (Order.field_name refl))
+declared_stands F file sort full s (Scopes.oneof m w c d is) =
     let p = placed F.messages m c in
     let o = placed m.oneofs w d in
-    (oneof_decl p.0 o.0, its_name, Order.oneof p.0 o.0 m w p.1 o.1 refl)
-declared_stands F sort full s (Scopes.rpc x r c d) =
+    (oneof_decl p.0 o.0, its_name, Together.oneof p.0 o.0 m w p.1 o.1 refl)
+declared_stands F file sort full s (Scopes.rpc x r c d) =
     let p = placed F.services x c in
     let o = placed x.rpcs r d in
-    (rpc_decl p.0 o.0, its_name, Order.rpc p.0 o.0 x r p.1 o.1 (Order.rpc_name refl))
+    (rpc_decl p.0 o.0, its_name, Together.rpc p.0 o.0 x r p.1 o.1 (Order.rpc_name refl))
 
-line_stands : (F : File) (s : Span) (line : List ℕ) → HasLine (alone F) s line → Stands F s
+line_stands : (F : Joined) (s : Span) (line : List ℕ) → HasLine F s line → Stands F s
 line_stands F s line (Lines.of_message m c is) =
     let p = placed F.messages m c in
-    (message_decl p.0, its_name, Order.message p.0 m p.1 refl)
+    (message_decl p.0, its_name, Together.message p.0 m p.1 refl)
 line_stands F s line (Lines.of_enum e c is) =
     let p = placed F.enums e c in
-    (enum_decl p.0, its_name, Order.enum p.0 e p.1 refl)
+    (enum_decl p.0, its_name, Together.enum p.0 e p.1 refl)
 line_stands F s line (Lines.of_value e v h fits) =
     let p = placed F.enums e h.enum in
     let o = placed e.values v h.value in
-    (value_decl p.0 o.0, its_name, Order.value p.0 o.0 e v p.1 o.1 (Order.value_name refl))
+    (value_decl p.0 o.0, its_name, Together.value p.0 o.0 e v p.1 o.1 (Order.value_name refl))
 line_stands F s line (Lines.of_field m f n h e k form) =
     let o = placed m.fields f h.field in
-    (field_decl h.place o.0, its_name, Order.field h.place o.0 m f h.message o.1 (Order.field_name refl))
+    (field_decl h.place o.0, its_name, Together.field h.place o.0 m f h.message o.1 (Order.field_name refl))
 line_stands F s line (Lines.of_method x r i at a b) =
     let p = rpc_placed F.services i x r at in
-    (rpc_decl p.0 p.1, its_name, Order.rpc p.0 p.1 x r p.2 p.3 (Order.rpc_name refl))
+    (rpc_decl p.0 p.1, its_name, Together.rpc p.0 p.1 x r p.2 p.3 (Order.rpc_name refl))
 
 -- ---- offences
 
-twice_stands : (F : File) (s : Span) → IsTwice (alone F) s → Stands F s
-twice_stands F s (Offences.in_file a b full earlier d e l) = declared_stands F b full s e
-twice_stands F s (Offences.in_another G a b full other c d e) = declared_stands F b full s e
-twice_stands F s (Offences.a_package G sort full rest c e d t) = declared_stands F sort full s d
+twice_stands : (F : Joined) (s : Span) → IsTwice F s → Stands F s
+twice_stands F s (Offences.declared j k a b full earlier d e l) = declared_stands F k b full s e
+twice_stands F s (Offences.a_package k sort full d t front) = declared_stands F k sort full s d
+twice_stands F s (Offences.a_service_package x c front e) =
+    let p = placed F.services x c in
+    (service_decl p.0, its_name, Together.service p.0 x p.1 e)
 
-long_stands : (F : File) (s : Span) → IsLongInFull F s → Stands F s
-long_stands F s (Offences.a_type sort full d t l) = declared_stands F sort full s d
+long_stands : (F : Joined) (s : Span) → IsLongInFull F s → Stands F s
+long_stands F s (Offences.a_type k sort full d t l) = declared_stands F k sort full s d
 long_stands F s (Offences.a_service x c l e) =
     let p = placed F.services x c in
-    (service_decl p.0, its_name, Order.service p.0 x p.1 e)
+    (service_decl p.0, its_name, Together.service p.0 x p.1 e)
 
-text_stands : (F : File) (s : Span) → PassesAt (alone F) s → Stands F s
+text_stands : (F : Joined) (s : Span) → PassesAt F s → Stands F s
 text_stands F s p =
     let k = p.last.0 in
     let has = p.are k (s, p.own) p.last.1 in
-    line_stands F s p.own (subst (λ (l : Span × List ℕ). HasLine (alone F) l.0 l.1) p.last.2 has)
+    line_stands F s p.own (subst (λ (l : Span × List ℕ). HasLine F l.0 l.1) p.last.2 has)
 
-offends_stands : (F : File) (q : ResolveReason) (s : Span) → Offends (alone F) q s → Stands F s
-offends_stands F q s (Offences.of_message i m at is o) = message_stands F s _ _ _ i m q at o
+pub offends_stands : (F : Joined) (q : ResolveReason) (s : Span) → Offends F q s → Stands F s
+offends_stands F q s (Offences.of_message i m at is o) = message_stands F s _ _ _ _ i m q at o
 offends_stands F q s (Offences.of_enum i e at o) = enum_stands F s _ i e q at o
-offends_stands F q s (Offences.of_service i x at o) = (service_decl i, its_name, Order.service i x at o.1.1)
+offends_stands F q s (Offences.of_service i x at o) = (service_decl i, its_name, Together.service i x at o.1.1)
 offends_stands F q s (Offences.of_method i x r at o) =
     let p = rpc_placed F.services i x r at in
-    method_stands F s _ _ _ p.0 p.1 x r q p.2 p.3 o
-offends_stands F q s (Offences.of_package w e l is) = (package_decl, its_name, Order.package_name w e is.1)
+    method_stands F s _ _ _ _ p.0 p.1 x r q p.2 p.3 o
+offends_stands F q s (Offences.of_package k h w at e l is) =
+    (package_decl k, its_name, Together.package_name k h w at e is.1)
 offends_stands F q s (Offences.twice span t is) = subst (Stands F) (sym is.1) (twice_stands F span t)
 offends_stands F q s (Offences.long_in_full span t is) = subst (Stands F) (sym is.1) (long_stands F span t)
 offends_stands F q s (Offences.long_text span t is) = subst (Stands F) (sym is.1) (text_stands F span t)
-
-pub offence_stands : (F : File) (q : ResolveReason) (s : Span) → IsOffence F q s → Stands F s
-offence_stands F q s (Offences.offends o) = offends_stands F q s o
-offence_stands F q s (Offences.has_import x at is) = (import_decl 0, its_name, Order.import 0 x at is.1)
 
 -- ---- one first offence
 
@@ -263,11 +265,11 @@ one_start q r s t (inr a) (inr b) =
     let l : rank_of r ≤ rank_of q = b.1 in
     (a.0, omega arith)
 
--- of an ordered file two first offences are one
-pub first_is_one : (F : File) (q r : ResolveReason) (s t : Span) → IsOrdered F → HasOffence F q s → HasOffence F r t
+-- of files in order two first offences are one
+pub first_is_one : (F : Joined) (q r : ResolveReason) (s t : Span) → IsOrdered F → HasFirst F q s → HasFirst F r t
     → (q ≡ r) × (s ≡ t)
 first_is_one F q r s t order a b =
     let same = one_start q r s t (a.first r t b.offence) (b.first q s a.offence) in
-    let x = offence_stands F q s a.offence in
-    let y = offence_stands F r t b.offence in
+    let x = offends_stands F q s a.offence in
+    let y = offends_stands F r t b.offence in
     (one_reason q r same.1, (order.apart x.0 y.0 x.1 y.1 s t x.2 y.2 same.0).2)

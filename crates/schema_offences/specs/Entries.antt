@@ -1,6 +1,6 @@
--- The names that a file declares, each with the number of its scope. The methods of a service stand in a scope of their
--- own here, whose number is behind those of all messages.
-use Rattle.std.specs.Prelude.{◌≡◌, ◌⊎◌, ◌↔◌, ℕ, ◌+◌, ◌<◌, List, map, length, Option, Some, None, slice_get, Contains}
+-- The names that files declare, each with the number of its scope. The methods of a service stand in a scope of their
+-- own here, whose number is behind those of all scopes.
+use Rattle.std.specs.Prelude.{◌≡◌, ◌⊎◌, ◌↔◌, ℕ, ◌+◌, ◌<◌, List, [], ◌∷◌, ◌++◌, map, length, Option, Some, slice_get, Contains}
 use Rattle.std.specs.Ordering.{nat_cmp, ordering_then}
 use Rattle.std.specs.Cmp.Lexicographic.{slice_cmp}
 use Rattle.std.specs.BTreeMap.{get_by}
@@ -12,9 +12,11 @@ use Rattle.proto_file.specs.declared.file.ValueDecl.{ValueDecl}
 use Rattle.proto_file.specs.declared.file.EnumDecl.{EnumDecl}
 use Rattle.proto_file.specs.declared.file.RpcDecl.{RpcDecl}
 use Rattle.proto_file.specs.declared.file.ServiceDecl.{ServiceDecl}
-use Rattle.proto_file.specs.declared.file.File.{File}
-use Rattle.schema_names.specs.Scopes.{IsScope}
-use Rattle.schema_names.specs.Numbers.{IsPlace, IsNumber}
+use Rattle.proto_file.specs.Joined.{Joined, home_of, enum_home_of}
+use Rattle.proto_file.specs.declared.joined.Home.{Home}
+use Rattle.proto_file.specs.declared.joined.Home.TheVariants as home
+use Rattle.schema_names.specs.Scopes.{IsScope, IsFront}
+use Rattle.schema_names.specs.Numbers.{IsNumber, scope_count}
 use Rattle.schema_offences.specs.Members.{Is}
 use Rattle.schema_offences.specs.declared.reason.ResolveReason.{ResolveReason}
 use Rattle.schema_offences.specs.declared.reason.ResolveReason.TheVariants.{DuplicateName}
@@ -36,32 +38,39 @@ entry_of d = record { scope = d.scope; name = d.name.now; span = d.span }
 abbrev pub entries_of : List Declared → List Entry
 entries_of names = map entry_of names
 
--- ---- what a file declares
+-- ---- what files declare
 
--- what stands in the file or in a message has a scope of this number
-pub record HasNumber (F : File) (place : Option ℕ) (k : ℕ) : Type 0 where
+-- what stands in a file or in a message has a scope of this number
+pub record HasNumber (F : Joined) (place : Home) (k : ℕ) : Type 0 where
   pub full : List (List ℕ)
   pub is_scope : IsScope F place full
   pub number : IsNumber F full k
 
-abbrev pub HasNumbers : File → Type 0
-HasNumbers F = (place : Option ℕ) → IsPlace F place → (k : ℕ) × HasNumber F place k
+-- what each of the first n things of a list stands in has a scope with a number
+abbrev pub HaveNumbers : {X : Type 0} → Joined → ℕ → List X → (X → Home) → Type 0
+HaveNumbers {X} F n xs stands_in =
+    (i : ℕ) (x : X) → i < n → slice_get xs i ≡ Some x → (k : ℕ) × HasNumber F (stands_in x) k
+
+-- the scopes of the first n messages have numbers
+abbrev pub HaveOwnNumbers : Joined → ℕ → Type 0
+HaveOwnNumbers F n = (i : ℕ) → i < n → (k : ℕ) × HasNumber F (home.Message i) k
 
 -- a message, and what stands in it
-pub data OfMessage (F : File) (i : ℕ) (m : MessageDecl) : Entry → Type 0 where
-  message : (k : ℕ) → HasNumber F m.parent k → OfMessage F i m (entry k m.name)
-  field : (k : ℕ) (f : FieldDecl) → HasNumber F (Some i) k → Contains m.fields f → OfMessage F i m (entry k f.name)
-  oneof : (k : ℕ) (o : Word) → HasNumber F (Some i) k → Contains m.oneofs o → OfMessage F i m (entry k o)
+pub data OfMessage (F : Joined) (i : ℕ) (m : MessageDecl) : Entry → Type 0 where
+  message : (k : ℕ) → HasNumber F (home_of m) k → OfMessage F i m (entry k m.name)
+  field : (k : ℕ) (f : FieldDecl) → HasNumber F (home.Message i) k → Contains m.fields f
+      → OfMessage F i m (entry k f.name)
+  oneof : (k : ℕ) (o : Word) → HasNumber F (home.Message i) k → Contains m.oneofs o → OfMessage F i m (entry k o)
 
 -- an enum, and its values beside it
-pub data OfEnum (F : File) (i : ℕ) (e : EnumDecl) : Entry → Type 0 where
-  enum : (k : ℕ) → HasNumber F e.parent k → OfEnum F i e (entry k e.name)
-  value : (k : ℕ) (v : ValueDecl) → HasNumber F e.parent k → Contains e.values v → OfEnum F i e (entry k v.name)
+pub data OfEnum (F : Joined) (i : ℕ) (e : EnumDecl) : Entry → Type 0 where
+  enum : (k : ℕ) → HasNumber F (enum_home_of e) k → OfEnum F i e (entry k e.name)
+  value : (k : ℕ) (v : ValueDecl) → HasNumber F (enum_home_of e) k → Contains e.values v → OfEnum F i e (entry k v.name)
 
 -- a service, and its methods
-pub data OfService (F : File) (i : ℕ) (s : ServiceDecl) : Entry → Type 0 where
-  service : (k : ℕ) → HasNumber F None k → OfService F i s (entry k s.name)
-  rpc : (r : RpcDecl) → Contains s.rpcs r → OfService F i s (entry (1 + length F.messages + i) r.name)
+pub data OfService (F : Joined) (i : ℕ) (s : ServiceDecl) : Entry → Type 0 where
+  service : (k : ℕ) → HasNumber F (home.File s.file) k → OfService F i s (entry k s.name)
+  rpc : (r : RpcDecl) → Contains s.rpcs r → OfService F i s (entry (scope_count F + i) r.name)
 
 -- an entry of one of the first n things of a list
 pub record OfFirst {X : Type 0} (n : ℕ) (xs : List X) (of : ℕ → X → Entry → Type 0) (e : Entry) : Type 0 where
@@ -106,3 +115,10 @@ AreStarts es s = (scope : ℕ) (name : List ℕ) (place : ℕ)
 -- a duplicate name where an entry of its name starts before it
 abbrev pub IsLater : List Entry → ℕ → Entry → ResolveReason → Span → Type 0
 IsLater es i e q s = StartsBefore es e.scope e.name e.span.start × Is DuplicateName e.span q s
+
+-- what has this name in this scope is a package, too, or a front of one
+pub record IsPackageNamed (F : Joined) (place : Home) (w : Word) (q : ResolveReason) (s : Span) : Type 0 where
+  pub scope : List (List ℕ)
+  pub is_scope : IsScope F place scope
+  pub front : IsFront F (scope ++ w.name ∷ [])
+  pub is : Is DuplicateName w.span q s

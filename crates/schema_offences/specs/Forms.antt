@@ -1,10 +1,10 @@
--- Types and forms of fields as the resolver keeps them: a named type is one of the file's, by its place.
-use Rattle.std.specs.Prelude.{◌≡◌, ℕ, Bool, true, false, List, [], ◌∷◌, ◌++◌, codes}
+-- Types and forms of fields as the resolver keeps them: a named type by its place.
+use Rattle.std.specs.Prelude.{◌≡◌, ℕ, Bool, true, false, List, ◌++◌, codes}
 use Rattle.mrpc_table.specs.Words.{is_numeric, is_key}
 use Rattle.mrpc_table.specs.Text.{kind_text}
 use Rattle.proto_file.specs.declared.file.Span.{Span}
 use Rattle.proto_file.specs.declared.file.FieldDecl.{FieldDecl}
-use Rattle.proto_file.specs.declared.file.File.{File}
+use Rattle.proto_file.specs.Joined.{Joined}
 use Rattle.schema_names.specs.Scopes.{text_of, Names}
 use Rattle.schema_names.specs.Numbers.{StandsAt, sort_of, IsFirstAt}
 use Rattle.schema_names.specs.declared.named.Named.{Named}
@@ -14,11 +14,11 @@ use Rattle.schema_offences.specs.declared.types.TypeOf.{TypeOf}
 use Rattle.schema_offences.specs.declared.types.TypeOf.TheVariants.{Scalar, Named as OfName}
 use Rattle.schema_offences.specs.declared.types.Form.{Form}
 
--- a name means this type in a scope
-abbrev pub IsType : File → List (List ℕ) → List ℕ → TypeOf → Type 0
-IsType F scope name (Scalar k) = IsScalar name k
-IsType F scope name (OfName n) =
-    IsNoScalar name × ((full : List (List ℕ)) × Names (F ∷ []) scope name (sort_of n) full × IsFirstAt F n full)
+-- a name of a file means this type in a scope
+abbrev pub IsType : Joined → ℕ → List (List ℕ) → List ℕ → TypeOf → Type 0
+IsType F file scope name (Scalar k) = IsScalar name k
+IsType F file scope name (OfName n) =
+    IsNoScalar name × ((full : List (List ℕ)) × Names F file scope name (sort_of n) full × IsFirstAt F file n full)
 
 abbrev pub is_message : TypeOf → Bool
 is_message (OfName (Message i)) = true
@@ -39,13 +39,13 @@ sort_word (Message i) = codes "message:"
 sort_word (Enum i) = codes "enum:"
 
 -- the word for a type in a table's text
-abbrev pub IsWordOf : File → TypeOf → List ℕ → Type 0
+abbrev pub IsWordOf : Joined → TypeOf → List ℕ → Type 0
 IsWordOf F (Scalar k) word = word ≡ kind_text no_table k
 IsWordOf F (OfName n) word =
     (full : List (List ℕ)) × (span : Span) × StandsAt F n full span × (word ≡ sort_word n ++ text_of full)
 
--- a field has this form
-pub record IsForm (F : File) (scope : List (List ℕ)) (f : FieldDecl) (form : Form) : Type 0 where
+-- a field of a file has this form
+pub record IsForm (F : Joined) (file : ℕ) (scope : List (List ℕ)) (f : FieldDecl) (form : Form) : Type 0 where
   pub word : List ℕ
   pub of_type : IsWordOf F form.type_of word
-  pub has : HasForm (F ∷ []) scope f (label_in form.oneof form.label) word
+  pub has : HasForm F file scope f (label_in form.oneof form.label) word

@@ -9,7 +9,7 @@ use Rattle.mrpc_table.specs.Valid.{IsFieldNumber}
 use Rattle.mrpc_table.specs.Text.{kind_text, label_text, line, value_line}
 use Rattle.mrpc_table.specs.declared.limits.TheConstants.{MAX_FULL_NAME, MAX_TEXT}
 use Rattle.mrpc_table.specs.declared.table.Label.{Label}
-use Rattle.proto_file.specs.Order.{Declaration, message_decl, field_decl, enum_decl, value_decl, rpc_decl}
+use Rattle.proto_file.specs.Together.{Declaration, message_decl, field_decl, enum_decl, value_decl, rpc_decl}
 use Rattle.proto_file.specs.declared.file.Span.{Span}
 use Rattle.proto_file.specs.declared.file.Word.{Word}
 use Rattle.proto_file.specs.declared.file.FieldDecl.{FieldDecl}
@@ -18,11 +18,13 @@ use Rattle.proto_file.specs.declared.file.ValueDecl.{ValueDecl}
 use Rattle.proto_file.specs.declared.file.EnumDecl.{EnumDecl}
 use Rattle.proto_file.specs.declared.file.RpcDecl.{RpcDecl}
 use Rattle.proto_file.specs.declared.file.ServiceDecl.{ServiceDecl}
-use Rattle.proto_file.specs.declared.file.File.{File}
-use Rattle.schema_names.specs.Scopes.{a_message, text_of, package_of, IsScope, Names}
+use Rattle.proto_file.specs.Joined.{Joined, home_of, enum_home_of, package_parts, package_at}
+use Rattle.proto_file.specs.declared.joined.Home.{Home}
+use Rattle.proto_file.specs.declared.joined.Home.TheVariants as home
+use Rattle.schema_names.specs.Scopes.{a_message, text_of, IsScope, Names}
 use Rattle.schema_names.specs.Numbers.{StandsAt}
 use Rattle.schema_names.specs.declared.named.Named.TheVariants.{Message, Enum}
-use Rattle.schema_offences.specs.Sources.{service_rpcs}
+use Rattle.schema_offences.specs.Methods.{service_rpcs}
 use Rattle.schema_offences.specs.Types.{value_of, no_table, HasForm}
 use Rattle.schema_offences.specs.Members.{Is}
 use Rattle.schema_offences.specs.declared.reason.ResolveReason.{ResolveReason}
@@ -42,8 +44,8 @@ front_length [] = 0
 front_length (part ∷ parts) = length (text_of (part ∷ parts)) + 1
 
 -- the first messages and enums have the lengths of their full names
-pub record KeepsLengths (F : File) (messages enums : ℕ) (kept : Lengths) : Type 0 where
-  pub front : kept.front ≡ at_most_64_bits (front_length (package_of F))
+pub record KeepsLengths (F : Joined) (messages enums : ℕ) (kept : Lengths) : Type 0 where
+  pub fronts : kept.fronts.items ≡ map (λ h. at_most_64_bits (front_length (package_parts h.package))) F.heads
   pub all_messages : length kept.messages.items ≡ messages
   pub all_enums : length kept.enums.items ≡ enums
   pub of_message : (i : ℕ) (full : List (List ℕ)) (s : Span) → i < messages → StandsAt F (Message i) full s
@@ -52,15 +54,19 @@ pub record KeepsLengths (F : File) (messages enums : ℕ) (kept : Lengths) : Typ
       → get_or kept.enums.items i 0 ≡ at_most_64_bits (length (text_of full))
 
 -- all of them
-abbrev pub AreLengths : File → Lengths → Type 0
+abbrev pub AreLengths : Joined → Lengths → Type 0
 AreLengths F kept = KeepsLengths F (length F.messages) (length F.enums) kept
 
-abbrev pub kept_front : Lengths → Option ℕ → ℕ
-kept_front kept None = kept.front
-kept_front kept (Some i) = get_or kept.messages.items i 0 + 1
+abbrev pub kept_front : Lengths → Home → ℕ
+kept_front kept (home.File k) = get_or kept.fronts.items k 0
+kept_front kept (home.Message i) = get_or kept.messages.items i 0 + 1
 
--- the length of the full name of what stands in the file or in a message
-abbrev pub full_length : Lengths → Option ℕ → Word → ℕ
+abbrev pub IsKeptHome : Lengths → Home → Type 0
+IsKeptHome kept (home.File k) = k < length kept.fronts.items
+IsKeptHome kept (home.Message i) = i < length kept.messages.items
+
+-- the length of the full name of what stands in a file or in a message
+abbrev pub full_length : Lengths → Home → Word → ℕ
 full_length kept parent w = at_most_64_bits (kept_front kept parent + length w.name)
 
 -- ---- types
@@ -79,21 +85,21 @@ type_length kept (OfName (Enum i)) = at_most_64_bits (get_or kept.enums.items i 
 -- ---- lines
 
 -- how many rpcs stand in the services before a place
-abbrev pub rpcs_before : File → ℕ → ℕ
+abbrev pub rpcs_before : Joined → ℕ → ℕ
 rpcs_before F i = length (flat_map service_rpcs (take i F.services))
 
 -- the lines of names, by their declarations
-pub data LineAt (F : File) : Declaration → Span → List ℕ → Type 0 where
+pub data LineAt (F : Joined) : Declaration → Span → List ℕ → Type 0 where
   of_message : (i : ℕ) (m : MessageDecl) {outer : List (List ℕ)} → slice_get F.messages i ≡ Some m
-      → IsScope F m.parent outer
+      → IsScope F (home_of m) outer
       → LineAt F (message_decl i) m.name.span (line (codes "message" ∷ text_of (outer ++ m.name.name ∷ []) ∷ []))
   of_field : (i j : ℕ) (m : MessageDecl) (f : FieldDecl) (n : ℕ) {scope : List (List ℕ)} {label : Label}
       {word : List ℕ} → slice_get F.messages i ≡ Some m → slice_get m.fields j ≡ Some f
-      → IsScope F (Some i) scope → value_of f.number ≡ pos n → IsFieldNumber n
-      → HasForm (F ∷ []) scope f label word → LineAt F (field_decl i j) f.name.span (line
+      → IsScope F (home.Message i) scope → value_of f.number ≡ pos n → IsFieldNumber n
+      → HasForm F m.file scope f label word → LineAt F (field_decl i j) f.name.span (line
       (codes "field" ∷ decimal n ∷ label_text no_table (map (λ o. o.name) m.oneofs) label ∷ word ∷ f.name.name ∷ []))
   of_enum : (i : ℕ) (e : EnumDecl) {outer : List (List ℕ)} → slice_get F.enums i ≡ Some e
-      → IsScope F e.parent outer
+      → IsScope F (enum_home_of e) outer
       → LineAt F (enum_decl i) e.name.span (line (codes "enum" ∷ text_of (outer ++ e.name.name ∷ []) ∷ []))
   of_value : (i j : ℕ) (e : EnumDecl) (v : ValueDecl) → slice_get F.enums i ≡ Some e → slice_get e.values j ≡ Some v
       → FitsSigned w32 (value_of v.number)
@@ -101,20 +107,20 @@ pub data LineAt (F : File) : Declaration → Span → List ℕ → Type 0 where
   of_method : (i j n : ℕ) (s : ServiceDecl) (r : RpcDecl) {input output : List (List ℕ)}
       → slice_get F.services i ≡ Some s → slice_get s.rpcs j ≡ Some r
       → n ≡ rpcs_before F i + j
-      → Names (F ∷ []) (package_of F) r.input.name a_message input
-      → Names (F ∷ []) (package_of F) r.output.name a_message output
+      → Names F s.file (package_at F s.file) r.input.name a_message input
+      → Names F s.file (package_at F s.file) r.output.name a_message output
       → LineAt F (rpc_decl i j) r.name.span (line
-      (codes "method" ∷ decimal n ∷ text_of (package_of F ++ s.name.name ∷ []) ∷ r.name.name ∷ text_of input
+      (codes "method" ∷ decimal n ∷ text_of (package_at F s.file ++ s.name.name ∷ []) ∷ r.name.name ∷ text_of input
       ∷ text_of output ∷ []))
 
 -- a name with the length of its line
-pub record IsLineOf (F : File) (d : Declaration) (x : Span × ℕ) : Type 0 where
+pub record IsLineOf (F : Joined) (d : Declaration) (x : Span × ℕ) : Type 0 where
   pub text : List ℕ
   pub at : LineAt F d x.0 text
   pub is : x.1 ≡ at_most_64_bits (length text)
 
 -- the length of the line of a declaration's name here, where it has a line
-abbrev pub IsLengthAt : File → Declaration → Span → Option ℕ → Type 0
+abbrev pub IsLengthAt : Joined → Declaration → Span → Option ℕ → Type 0
 IsLengthAt F d span None = (s : Span) (text : List ℕ) → LineAt F d s text → ⊥
 IsLengthAt F d span (Some n) = IsLineOf F d (span, n)
 
@@ -157,20 +163,20 @@ AreApart [] = Unit {0}
 AreApart (x ∷ xs) = ((y : Span × ℕ) → Contains xs y → x.0.start ≢ y.0.start) × AreApart xs
 
 -- of the declarations before one each that has a line stands once among these lengths
-pub record Covers (F : File) (class place part : ℕ) (lines : List (Span × ℕ)) : Type 0 where
+pub record Covers (F : Joined) (class place part : ℕ) (lines : List (Span × ℕ)) : Type 0 where
   pub sound : (x : Span × ℕ) → Contains lines x → (d : Declaration) × IsBefore class place part d × IsLineOf F d x
   pub whole : (d : Declaration) (s : Span) (text : List ℕ) → IsBefore class place part d → LineAt F d s text
       → (x : Span × ℕ) × Contains lines x × IsLineOf F d x
   pub once : AreApart lines
 
 -- those of all declarations
-abbrev pub CoversAll : File → List (Span × ℕ) → Type 0
+abbrev pub CoversAll : Joined → List (Span × ℕ) → Type 0
 CoversAll F lines = Covers F 3 0 0 lines
 
 -- the first lines up to this one pass the limit
 abbrev pub IsPast : List (Span × ℕ) → ℕ → Span × ℕ → ResolveReason → Span → Type 0
 IsPast lines i x q s = (MAX_TEXT < sum_by (λ (y : Span × ℕ). y.1) (take (i + 1) lines)) × Is Limit x.0 q s
 
--- a full name in the file or in a message is too long
-abbrev pub IsLongName : Lengths → Option ℕ → Word → ResolveReason → Span → Type 0
+-- a full name in a file or in a message is too long
+abbrev pub IsLongName : Lengths → Home → Word → ResolveReason → Span → Type 0
 IsLongName kept parent w q s = (MAX_FULL_NAME < full_length kept parent w) × Is Limit w.span q s

@@ -1,4 +1,4 @@
-pub mod Sources
+pub mod Methods
 pub mod Types
 pub mod Those
 pub mod Members

@@ -1,5 +1,5 @@
 -- Which lines the names of files have in the table's text, and which name passes the text's limit (this project's own).
-use Rattle.std.specs.Prelude.{◌≡◌, ℕ, pos, ◌+◌, ◌<◌, ◌≤◌, List, [], ◌∷◌, ◌++◌, codes, length, map, Some, slice_get, All, Contains, FitsSigned}
+use Rattle.std.specs.Prelude.{◌≡◌, ℕ, pos, ◌<◌, ◌≤◌, List, [], ◌∷◌, ◌++◌, codes, length, map, Some, slice_get, All, Contains, FitsSigned}
 use Rattle.std.specs.Int.{w32}
 use Rattle.std.specs.List.{flat_map}
 use Rattle.std.specs.Fmt.{decimal}
@@ -14,48 +14,49 @@ use Rattle.proto_file.specs.declared.file.ValueDecl.{ValueDecl}
 use Rattle.proto_file.specs.declared.file.EnumDecl.{EnumDecl}
 use Rattle.proto_file.specs.declared.file.RpcDecl.{RpcDecl}
 use Rattle.proto_file.specs.declared.file.ServiceDecl.{ServiceDecl}
-use Rattle.proto_file.specs.declared.file.File.{File}
-use Rattle.schema_names.specs.Scopes.{a_message, text_of, package_of, IsScope, Names}
-use Rattle.schema_offences.specs.Sources.{Source, rpcs_of}
+use Rattle.proto_file.specs.Joined.{Joined, home_of, enum_home_of, package_at}
+use Rattle.proto_file.specs.declared.joined.Home.TheVariants as home
+use Rattle.schema_names.specs.Scopes.{a_message, text_of, IsScope, Names}
+use Rattle.schema_offences.specs.Methods.{rpcs_of}
 use Rattle.schema_offences.specs.Types.{value_of, no_table, HasForm}
 
 -- a field of a message, and the scope in which its types are looked for: the message itself
-pub record HasField (F : File) (scope : List (List ℕ)) (m : MessageDecl) (f : FieldDecl) : Type 0 where
+pub record HasField (F : Joined) (scope : List (List ℕ)) (m : MessageDecl) (f : FieldDecl) : Type 0 where
   pub place : ℕ
   pub message : slice_get F.messages place ≡ Some m
-  pub is_scope : IsScope F (Some place) scope
+  pub is_scope : IsScope F (home.Message place) scope
   pub field : Contains m.fields f
 
-pub record HasValue (F : File) (e : EnumDecl) (v : ValueDecl) : Type 0 where
+pub record HasValue (F : Joined) (e : EnumDecl) (v : ValueDecl) : Type 0 where
   pub enum : Contains F.enums e
   pub value : Contains e.values v
 
 -- the line that a name has in the table's text, where it has one: its types are known and its number is in range
-pub data HasLine (S : Source) : Span → List ℕ → Type 0 where
-  of_message : (m : MessageDecl) {outer : List (List ℕ)} → Contains S.file.messages m → IsScope S.file m.parent outer
-      → HasLine S m.name.span (line (codes "message" ∷ text_of (outer ++ m.name.name ∷ []) ∷ []))
-  of_enum : (e : EnumDecl) {outer : List (List ℕ)} → Contains S.file.enums e → IsScope S.file e.parent outer
-      → HasLine S e.name.span (line (codes "enum" ∷ text_of (outer ++ e.name.name ∷ []) ∷ []))
-  of_value : (e : EnumDecl) (v : ValueDecl) → HasValue S.file e v → FitsSigned w32 (value_of v.number)
-      → HasLine S v.name.span (value_line (value_of v.number, v.name.name))
+pub data HasLine (F : Joined) : Span → List ℕ → Type 0 where
+  of_message : (m : MessageDecl) {outer : List (List ℕ)} → Contains F.messages m → IsScope F (home_of m) outer
+      → HasLine F m.name.span (line (codes "message" ∷ text_of (outer ++ m.name.name ∷ []) ∷ []))
+  of_enum : (e : EnumDecl) {outer : List (List ℕ)} → Contains F.enums e → IsScope F (enum_home_of e) outer
+      → HasLine F e.name.span (line (codes "enum" ∷ text_of (outer ++ e.name.name ∷ []) ∷ []))
+  of_value : (e : EnumDecl) (v : ValueDecl) → HasValue F e v → FitsSigned w32 (value_of v.number)
+      → HasLine F v.name.span (value_line (value_of v.number, v.name.name))
   of_field : (m : MessageDecl) (f : FieldDecl) (n : ℕ) {scope : List (List ℕ)} {label : Label} {word : List ℕ}
-      → HasField S.file scope m f → value_of f.number ≡ pos n → IsFieldNumber n → HasForm S.seen scope f label word
-      → HasLine S f.name.span (line
+      → HasField F scope m f → value_of f.number ≡ pos n → IsFieldNumber n → HasForm F m.file scope f label word
+      → HasLine F f.name.span (line
       (codes "field" ∷ decimal n ∷ label_text no_table (map (λ o. o.name) m.oneofs) label ∷ word ∷ f.name.name ∷ []))
   of_method : (s : ServiceDecl) (r : RpcDecl) (i : ℕ) {input output : List (List ℕ)}
-      → slice_get (rpcs_of S.file) i ≡ Some (s, r)
-      → Names S.seen (package_of S.file) r.input.name a_message input
-      → Names S.seen (package_of S.file) r.output.name a_message output
-      → HasLine S r.name.span (line
-      (codes "method" ∷ decimal (length (flat_map rpcs_of S.before) + i)
-      ∷ text_of (package_of S.file ++ s.name.name ∷ []) ∷ r.name.name ∷ text_of input ∷ text_of output ∷ []))
+      → slice_get (rpcs_of F) i ≡ Some (s, r)
+      → Names F s.file (package_at F s.file) r.input.name a_message input
+      → Names F s.file (package_at F s.file) r.output.name a_message output
+      → HasLine F r.name.span (line
+      (codes "method" ∷ decimal i ∷ text_of (package_at F s.file ++ s.name.name ∷ []) ∷ r.name.name ∷ text_of input
+      ∷ text_of output ∷ []))
 
 -- with the line of this name, the lines in the order of the text take more than a table's text may have
-pub record PassesAt (S : Source) (span : Span) : Type 0 where
+pub record PassesAt (F : Joined) (span : Span) : Type 0 where
   pub lines : List (Span × List ℕ)
-  pub are : All (λ l. HasLine S l.0 l.1) lines
+  pub are : All (λ l. HasLine F l.0 l.1) lines
   pub ascend : Ascends (λ a b. a.0.start < b.0.start) lines
   pub own : List ℕ
   pub last : Contains lines (span, own)
   pub none_behind : All (λ l. l.0.start ≤ span.start) lines
-  pub pass : MAX_TEXT < S.spent + length (flat_map (λ (l : Span × List ℕ). l.1) lines)
+  pub pass : MAX_TEXT < length (flat_map (λ (l : Span × List ℕ). l.1) lines)

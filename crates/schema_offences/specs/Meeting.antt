@@ -1,23 +1,24 @@
 -- What the search for the first offence keeps of the offences that it meets.
-use Rattle.std.specs.Prelude.{◌≡◌, ◌⊎◌, ℕ, ◌<◌, ◌==◌, nat_lt, Bool, true, false, ◌&&◌, ◌||◌, if◌then◌else◌, List, [], ◌∷◌, Option, Some, None, slice_get}
+use Rattle.std.specs.Prelude.{◌≡◌, ◌⊎◌, ℕ, ◌<◌, ◌==◌, nat_lt, Bool, true, false, ◌&&◌, ◌||◌, if◌then◌else◌, List, Option, Some, None, slice_get}
 use Rattle.std.specs.Option.{is_some}
 use Rattle.std.specs.Ordering.{nat_cmp}
 use Rattle.std.specs.BTreeMap.{BTreeMap, get_by}
 use Rattle.proto_file.specs.declared.file.Span.{Span}
 use Rattle.mrpc_table.specs.Names.{is_short_full}
 use Rattle.proto_file.specs.declared.file.Word.{Word}
-use Rattle.proto_file.specs.declared.file.Import.{Import}
 use Rattle.proto_file.specs.declared.file.MessageDecl.{MessageDecl}
 use Rattle.proto_file.specs.declared.file.RpcDecl.{RpcDecl}
 use Rattle.proto_file.specs.declared.file.ServiceDecl.{ServiceDecl}
 use Rattle.proto_file.specs.declared.file.File.{File}
-use Rattle.schema_names.specs.Scopes.{IsScope, package_of}
+use Rattle.proto_file.specs.declared.joined.Head.{Head}
+use Rattle.proto_file.specs.declared.joined.Home.TheVariants as home
+use Rattle.proto_file.specs.Joined.{Joined, package_at}
+use Rattle.schema_names.specs.Scopes.{IsScope}
 use Rattle.schema_offences.specs.Members.{Is, IsLong, IsNoMessage, MessageOffends, MethodOffends}
-use Rattle.schema_offences.specs.Sources.{alone}
 use Rattle.schema_offences.specs.Lines.{PassesAt}
-use Rattle.schema_offences.specs.Offences.{IsTwice, IsLongInFull, IsOffence, HasOffence, ComesFirst, rank_of}
+use Rattle.schema_offences.specs.Offences.{Offends, IsTwice, IsLongInFull, IsOffence, HasFirst, HasOffence, ComesFirst, rank_of}
 use Rattle.schema_offences.specs.declared.reason.ResolveReason.{ResolveReason}
-use Rattle.schema_offences.specs.declared.reason.ResolveReason.TheVariants.{UnknownName, DuplicateName, Limit, Import as HasImport}
+use Rattle.schema_offences.specs.declared.reason.ResolveReason.TheVariants.{UnknownName, DuplicateName, Limit}
 use Rattle.schema_offences.specs.declared.first.Offence.{Offence}
 use Rattle.schema_offences.specs.declared.first.First.{First}
 
@@ -63,41 +64,50 @@ pub record OfElement {X : Type 0} (xs : List X) (offends : ℕ → X → Resolve
   pub at : slice_get xs i ≡ Some element
   pub is : offends i element q s
 
--- those against a message of a file alone, and against an enum, a method
-abbrev pub MessageIn : File → ℕ → MessageDecl → ResolveReason → Span → Type 0
+-- those against a message, and against a method
+abbrev pub MessageIn : Joined → ℕ → MessageDecl → ResolveReason → Span → Type 0
 MessageIn F i m q s =
-    (scope : List (List ℕ)) × IsScope F (Some i) scope × MessageOffends (F ∷ []) scope i m q s
+    (scope : List (List ℕ)) × IsScope F (home.Message i) scope × MessageOffends F m.file scope i m q s
 
-abbrev pub MethodIn : File → ℕ → ServiceDecl × RpcDecl → ResolveReason → Span → Type 0
-MethodIn F i p q s = MethodOffends (F ∷ []) (package_of F) i p.1 q s
+abbrev pub MethodIn : Joined → ℕ → ServiceDecl × RpcDecl → ResolveReason → Span → Type 0
+MethodIn F i p q s = MethodOffends F p.0.file (package_at F p.0.file) i p.1 q s
 
 abbrev pub IsLongService : ℕ → ServiceDecl → ResolveReason → Span → Type 0
 IsLongService i x = IsLong x.name
 
--- no message has the name of an rpc's type
-abbrev pub IsBadMessage : File → Word → ResolveReason → Span → Type 0
-IsBadMessage F w q s = IsNoMessage (F ∷ []) (package_of F) w.name × Is UnknownName w.span q s
+-- no message has the name of the type of a file's rpc
+abbrev pub IsBadMessage : Joined → ℕ → Word → ResolveReason → Span → Type 0
+IsBadMessage F file w q s = IsNoMessage F file (package_at F file) w.name × Is UnknownName w.span q s
 
--- the first import, and a long package
-pub data HeadOffends (F : File) (q : ResolveReason) (s : Span) : Type 0 where
-  an_import : (x : Import) → slice_get F.imports 0 ≡ Some x → Is HasImport x.span q s → HeadOffends F q s
-  a_long_package : (w : Word) → F.package ≡ Some w → is_short_full w.name ≡ false → Is Limit w.span q s
-      → HeadOffends F q s
+-- a long package
+pub record PackageOffends (h : Head) (q : ResolveReason) (s : Span) : Type 0 where
+  pub name : Word
+  pub declared : h.package ≡ Some name
+  pub long : is_short_full name.name ≡ false
+  pub is : Is Limit name.span q s
+
+abbrev pub PackageIn : ℕ → Head → ResolveReason → Span → Type 0
+PackageIn i h = PackageOffends h
 
 -- a name that stands twice, one that is long in full, one whose line passes the limit of a table's text
-abbrev pub TwiceIn : File → ResolveReason → Span → Type 0
-TwiceIn F q s = (span : Span) × IsTwice (alone F) span × Is DuplicateName span q s
+abbrev pub TwiceIn : Joined → ResolveReason → Span → Type 0
+TwiceIn F q s = (span : Span) × IsTwice F span × Is DuplicateName span q s
 
-abbrev pub LongIn : File → ResolveReason → Span → Type 0
+abbrev pub LongIn : Joined → ResolveReason → Span → Type 0
 LongIn F q s = (span : Span) × IsLongInFull F span × Is Limit span q s
 
-abbrev pub PassesIn : File → ResolveReason → Span → Type 0
-PassesIn F q s = (span : Span) × PassesAt (alone F) span × Is Limit span q s
+abbrev pub PassesIn : Joined → ResolveReason → Span → Type 0
+PassesIn F q s = (span : Span) × PassesAt F span × Is Limit span q s
 
--- what is found is the first offence of a file, or there is none
-abbrev pub FirstIs : File → Option Offence → Type 0
-FirstIs F None = (q : ResolveReason) (s : Span) → IsOffence F q s → ⊥
-FirstIs F (Some o) = HasOffence F o.reason o.span
+-- what is found is the first offence of files that are resolved together, or there is none
+abbrev pub FirstIs : Joined → Option Offence → Type 0
+FirstIs F None = (q : ResolveReason) (s : Span) → Offends F q s → ⊥
+FirstIs F (Some o) = HasFirst F o.reason o.span
+
+-- what is found is the first offence of a file alone, or there is none
+abbrev pub FirstOfFileIs : File → Option Offence → Type 0
+FirstOfFileIs F None = (q : ResolveReason) (s : Span) → IsOffence F q s → ⊥
+FirstOfFileIs F (Some o) = HasOffence F o.reason o.span
 
 -- the places of numbers that were met
 abbrev pub has_met : BTreeMap ℕ (Unit {0}) → ℕ → Bool

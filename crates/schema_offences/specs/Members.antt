@@ -18,7 +18,7 @@ use Rattle.proto_file.specs.declared.file.MessageDecl.{MessageDecl}
 use Rattle.proto_file.specs.declared.file.ValueDecl.{ValueDecl}
 use Rattle.proto_file.specs.declared.file.EnumDecl.{EnumDecl}
 use Rattle.proto_file.specs.declared.file.RpcDecl.{RpcDecl}
-use Rattle.proto_file.specs.declared.file.File.{File}
+use Rattle.proto_file.specs.Joined.{Joined}
 use Rattle.schema_names.specs.Scopes.{Sort, a_message, Names}
 use Rattle.schema_offences.specs.Types.{value_of, IsScalar, IsNoScalar}
 use Rattle.schema_offences.specs.declared.reason.ResolveReason.{ResolveReason}
@@ -31,27 +31,27 @@ Is reason span q s = (q ≡ reason) × (s ≡ span)
 -- ---- types of fields and rpcs
 
 -- no message or enum is named
-abbrev pub IsUnknown : List File → List (List ℕ) → List ℕ → Type 0
-IsUnknown files scope name = (sort : Sort) (full : List (List ℕ)) → Names files scope name sort full → ⊥
+abbrev pub IsUnknown : Joined → ℕ → List (List ℕ) → List ℕ → Type 0
+IsUnknown F file scope name = (sort : Sort) (full : List (List ℕ)) → Names F file scope name sort full → ⊥
 
-abbrev pub IsNoMessage : List File → List (List ℕ) → List ℕ → Type 0
-IsNoMessage files scope name = (full : List (List ℕ)) → Names files scope name a_message full → ⊥
+abbrev pub IsNoMessage : Joined → ℕ → List (List ℕ) → List ℕ → Type 0
+IsNoMessage F file scope name = (full : List (List ℕ)) → Names F file scope name a_message full → ⊥
 
 -- the type of a field or of a map's value is no scalar, and no message or enum has this name
-pub record IsNoType (files : List File) (scope : List (List ℕ)) (w : Word) (q : ResolveReason)
+pub record IsNoType (F : Joined) (file : ℕ) (scope : List (List ℕ)) (w : Word) (q : ResolveReason)
     (s : Span) : Type 0 where
   pub no_scalar : IsNoScalar w.name
-  pub unknown : IsUnknown files scope w.name
+  pub unknown : IsUnknown F file scope w.name
   pub is : Is UnknownName w.span q s
 
 -- the key of a map is no type, a scalar that no key may have, or a message or enum
-pub data KeyOffends (files : List File) (scope : List (List ℕ)) (key : Word) (q : ResolveReason)
+pub data KeyOffends (F : Joined) (file : ℕ) (scope : List (List ℕ)) (key : Word) (q : ResolveReason)
     (s : Span) : Type 0 where
-  unknown_key : IsNoType files scope key q s → KeyOffends files scope key q s
+  unknown_key : IsNoType F file scope key q s → KeyOffends F file scope key q s
   scalar_key : (k : Kind) → IsScalar key.name k → is_key k ≡ false → Is MapKey key.span q s
-      → KeyOffends files scope key q s
-  type_key : (sort : Sort) (full : List (List ℕ)) → IsNoScalar key.name → Names files scope key.name sort full
-      → Is MapKey key.span q s → KeyOffends files scope key q s
+      → KeyOffends F file scope key q s
+  type_key : (sort : Sort) (full : List (List ℕ)) → IsNoScalar key.name → Names F file scope key.name sort full
+      → Is MapKey key.span q s → KeyOffends F file scope key q s
 
 -- a map as a map's value, under a label, or in a oneof
 pub data IsMisplaced (f : FieldDecl) : Type 0 where
@@ -59,12 +59,12 @@ pub data IsMisplaced (f : FieldDecl) : Type 0 where
   labelled : (key value : Word) → f.kind ≡ Map key value → f.label ≢ Plain → IsMisplaced f
   in_oneof : (key value : Word) (o : ℕ) → f.kind ≡ Map key value → f.oneof ≡ Some o → IsMisplaced f
 
-pub data TypeOffends (files : List File) (scope : List (List ℕ)) (f : FieldDecl) (q : ResolveReason)
+pub data TypeOffends (F : Joined) (file : ℕ) (scope : List (List ℕ)) (f : FieldDecl) (q : ResolveReason)
     (s : Span) : Type 0 where
-  unknown_type : (w : Word) → f.kind ≡ Named w → IsNoType files scope w q s → TypeOffends files scope f q s
-  bad_key : (k v : Word) → f.kind ≡ Map k v → KeyOffends files scope k q s → TypeOffends files scope f q s
-  unknown_value : (k v : Word) → f.kind ≡ Map k v → IsNoType files scope v q s → TypeOffends files scope f q s
-  misplaced : IsMisplaced f → Is MapPlace f.name.span q s → TypeOffends files scope f q s
+  unknown_type : (w : Word) → f.kind ≡ Named w → IsNoType F file scope w q s → TypeOffends F file scope f q s
+  bad_key : (k v : Word) → f.kind ≡ Map k v → KeyOffends F file scope k q s → TypeOffends F file scope f q s
+  unknown_value : (k v : Word) → f.kind ≡ Map k v → IsNoType F file scope v q s → TypeOffends F file scope f q s
+  misplaced : IsMisplaced f → Is MapPlace f.name.span q s → TypeOffends F file scope f q s
 
 -- ---- numbers
 
@@ -111,18 +111,18 @@ pub data NameOffends (names : List Word) (limit i : ℕ) (w : Word) (q : Resolve
   name_long : IsLong w q s → NameOffends names limit i w q s
   name_too_many : limit ≤ i → Is Limit w.span q s → NameOffends names limit i w q s
 
--- ---- messages, enums and methods, of which n stand before this one in all files
+-- ---- messages, enums and methods, of which n stand before this one
 
-pub data MessageOffends (files : List File) (scope : List (List ℕ)) (n : ℕ) (m : MessageDecl) (q : ResolveReason)
+pub data MessageOffends (F : Joined) (file : ℕ) (scope : List (List ℕ)) (n : ℕ) (m : MessageDecl) (q : ResolveReason)
     (s : Span) : Type 0 where
-  too_many_messages : MAX_MESSAGES ≤ n → Is Limit m.name.span q s → MessageOffends files scope n m q s
-  long_message : IsLong m.name q s → MessageOffends files scope n m q s
-  of_type : (i : ℕ) (f : FieldDecl) → slice_get m.fields i ≡ Some f → TypeOffends files scope f q s
-      → MessageOffends files scope n m q s
-  of_number : (i : ℕ) → NumberOffends m i q s → MessageOffends files scope n m q s
+  too_many_messages : MAX_MESSAGES ≤ n → Is Limit m.name.span q s → MessageOffends F file scope n m q s
+  long_message : IsLong m.name q s → MessageOffends F file scope n m q s
+  of_type : (i : ℕ) (f : FieldDecl) → slice_get m.fields i ≡ Some f → TypeOffends F file scope f q s
+      → MessageOffends F file scope n m q s
+  of_number : (i : ℕ) → NumberOffends m i q s → MessageOffends F file scope n m q s
   of_name : (i : ℕ) (f : FieldDecl) → slice_get m.fields i ≡ Some f → NameOffends m.names MAX_FIELDS i f.name q s
-      → MessageOffends files scope n m q s
-  of_oneof : (i : ℕ) (o : Word) → slice_get m.oneofs i ≡ Some o → IsLong o q s → MessageOffends files scope n m q s
+      → MessageOffends F file scope n m q s
+  of_oneof : (i : ℕ) (o : Word) → slice_get m.oneofs i ≡ Some o → IsLong o q s → MessageOffends F file scope n m q s
 
 pub data EnumOffends (n : ℕ) (e : EnumDecl) (q : ResolveReason) (s : Span) : Type 0 where
   too_many_enums : MAX_ENUMS ≤ n → Is Limit e.name.span q s → EnumOffends n e q s
@@ -132,10 +132,11 @@ pub data EnumOffends (n : ℕ) (e : EnumDecl) (q : ResolveReason) (s : Span) : T
       → EnumOffends n e q s
 
 -- an rpc's types are looked for in the package; scalars and enums are no messages
-pub data MethodOffends (files : List File) (scope : List (List ℕ)) (n : ℕ) (r : RpcDecl) (q : ResolveReason)
+pub data MethodOffends (F : Joined) (file : ℕ) (scope : List (List ℕ)) (n : ℕ) (r : RpcDecl) (q : ResolveReason)
     (s : Span) : Type 0 where
-  too_many_methods : MAX_METHODS ≤ n → Is Limit r.name.span q s → MethodOffends files scope n r q s
-  long_method : IsLong r.name q s → MethodOffends files scope n r q s
-  no_input : IsNoMessage files scope r.input.name → Is UnknownName r.input.span q s → MethodOffends files scope n r q s
-  no_output : IsNoMessage files scope r.output.name → Is UnknownName r.output.span q s
-      → MethodOffends files scope n r q s
+  too_many_methods : MAX_METHODS ≤ n → Is Limit r.name.span q s → MethodOffends F file scope n r q s
+  long_method : IsLong r.name q s → MethodOffends F file scope n r q s
+  no_input : IsNoMessage F file scope r.input.name → Is UnknownName r.input.span q s
+      → MethodOffends F file scope n r q s
+  no_output : IsNoMessage F file scope r.output.name → Is UnknownName r.output.span q s
+      → MethodOffends F file scope n r q s

@@ -1,7 +1,6 @@
 -- What stands against files, and where (Protocol Buffers, proto3 language guide; the limits, and which name or number
 -- each offence stands at, are this project's own). Of several the first one counts.
-use Rattle.std.specs.Prelude.{◌≡◌, ◌⊎◌, ℕ, ◌+◌, ◌<◌, ◌≤◌, true, false, List, [], ◌∷◌, ◌++◌, length, Some, slice_get, Contains}
-use Rattle.std.specs.List.{flat_map}
+use Rattle.std.specs.Prelude.{◌≡◌, ◌⊎◌, ℕ, ◌<◌, ◌≤◌, true, false, List, [], ◌∷◌, ◌++◌, length, Some, slice_get, Contains}
 use Rattle.mrpc_table.specs.Names.{is_short_full}
 use Rattle.mrpc_table.specs.declared.limits.TheConstants.{MAX_FULL_NAME}
 use Rattle.proto_file.specs.declared.file.Word.{Word}
@@ -12,8 +11,11 @@ use Rattle.proto_file.specs.declared.file.EnumDecl.{EnumDecl}
 use Rattle.proto_file.specs.declared.file.RpcDecl.{RpcDecl}
 use Rattle.proto_file.specs.declared.file.ServiceDecl.{ServiceDecl}
 use Rattle.proto_file.specs.declared.file.File.{File}
-use Rattle.schema_names.specs.Scopes.{Sort, is_type, text_of, package_of, IsScope, Declares}
-use Rattle.schema_offences.specs.Sources.{Source, alone, rpcs_of}
+use Rattle.proto_file.specs.declared.joined.Head.{Head}
+use Rattle.proto_file.specs.declared.joined.Home.TheVariants as home
+use Rattle.proto_file.specs.Joined.{Joined, alone, package_at}
+use Rattle.schema_names.specs.Scopes.{Sort, is_type, text_of, IsScope, Declares, IsFront}
+use Rattle.schema_offences.specs.Methods.{rpcs_of}
 use Rattle.schema_offences.specs.Members.{Is, IsLong, MessageOffends, EnumOffends, MethodOffends}
 use Rattle.schema_offences.specs.Lines.{PassesAt}
 use Rattle.schema_offences.specs.declared.reason.ResolveReason.{ResolveReason}
@@ -21,41 +23,39 @@ use Rattle.schema_offences.specs.declared.reason.ResolveReason.TheVariants.{Unkn
 
 -- ---- full names
 
--- what a file declares twice, another file before it has too, or is a type here and a package, or a front of one
-pub data IsTwice (S : Source) (span : Span) : Type 0 where
+-- what files declare twice, or what is a type or a service, and a package too, or a front of one
+pub data IsTwice (F : Joined) (span : Span) : Type 0 where
   -- two things of one scope, at the later one
-  in_file : (a b : Sort) (full : List (List ℕ)) (earlier : Span) → Declares S.file a full earlier
-      → Declares S.file b full span → earlier.start < span.start → IsTwice S span
-  in_another : (F : File) (a b : Sort) (full : List (List ℕ)) (other : Span) → Contains S.before F
-      → Declares F a full other → Declares S.file b full span → IsTwice S span
-  a_package : (F : File) (sort : Sort) (full rest : List (List ℕ)) → Contains S.all F → package_of F ≡ full ++ rest
-      → Declares S.file sort full span → is_type sort ≡ true → IsTwice S span
+  declared : (j k : ℕ) (a b : Sort) (full : List (List ℕ)) (earlier : Span) → Declares F j a full earlier
+      → Declares F k b full span → earlier.start < span.start → IsTwice F span
+  a_package : (k : ℕ) (sort : Sort) (full : List (List ℕ)) → Declares F k sort full span → is_type sort ≡ true
+      → IsFront F full → IsTwice F span
+  a_service_package : (s : ServiceDecl) → Contains F.services s
+      → IsFront F (package_at F s.file ++ s.name.name ∷ []) → span ≡ s.name.span → IsTwice F span
 
 -- a message, enum or service whose full name has more than 255 bytes
-pub data IsLongInFull (F : File) (span : Span) : Type 0 where
-  a_type : (sort : Sort) (full : List (List ℕ)) → Declares F sort full span → is_type sort ≡ true
+pub data IsLongInFull (F : Joined) (span : Span) : Type 0 where
+  a_type : (k : ℕ) (sort : Sort) (full : List (List ℕ)) → Declares F k sort full span → is_type sort ≡ true
       → MAX_FULL_NAME < length (text_of full) → IsLongInFull F span
   a_service : (s : ServiceDecl) → Contains F.services s
-      → MAX_FULL_NAME < length (text_of (package_of F ++ s.name.name ∷ [])) → span ≡ s.name.span → IsLongInFull F span
+      → MAX_FULL_NAME < length (text_of (package_at F s.file ++ s.name.name ∷ [])) → span ≡ s.name.span
+      → IsLongInFull F span
 
 -- ---- offences
 
-pub data Offends (S : Source) (q : ResolveReason) (s : Span) : Type 0 where
-  of_message : (i : ℕ) (m : MessageDecl) {scope : List (List ℕ)} → slice_get S.file.messages i ≡ Some m
-      → IsScope S.file (Some i) scope
-      → MessageOffends S.seen scope (length (flat_map (λ (f : File). f.messages) S.before) + i) m q s
-      → Offends S q s
-  of_enum : (i : ℕ) (e : EnumDecl) → slice_get S.file.enums i ≡ Some e
-      → EnumOffends (length (flat_map (λ (f : File). f.enums) S.before) + i) e q s → Offends S q s
-  of_service : (i : ℕ) (x : ServiceDecl) → slice_get S.file.services i ≡ Some x → IsLong x.name q s → Offends S q s
-  of_method : (i : ℕ) (x : ServiceDecl) (r : RpcDecl) → slice_get (rpcs_of S.file) i ≡ Some (x, r)
-      → MethodOffends S.seen (package_of S.file) (length (flat_map rpcs_of S.before) + i) r q s → Offends S q s
+pub data Offends (F : Joined) (q : ResolveReason) (s : Span) : Type 0 where
+  of_message : (i : ℕ) (m : MessageDecl) {scope : List (List ℕ)} → slice_get F.messages i ≡ Some m
+      → IsScope F (home.Message i) scope → MessageOffends F m.file scope i m q s → Offends F q s
+  of_enum : (i : ℕ) (e : EnumDecl) → slice_get F.enums i ≡ Some e → EnumOffends i e q s → Offends F q s
+  of_service : (i : ℕ) (x : ServiceDecl) → slice_get F.services i ≡ Some x → IsLong x.name q s → Offends F q s
+  of_method : (i : ℕ) (x : ServiceDecl) (r : RpcDecl) → slice_get (rpcs_of F) i ≡ Some (x, r)
+      → MethodOffends F x.file (package_at F x.file) i r q s → Offends F q s
   -- a package with a part of more than 64 bytes, or of more than 255
-  of_package : (w : Word) → S.file.package ≡ Some w → is_short_full w.name ≡ false → Is Limit w.span q s
-      → Offends S q s
-  twice : (span : Span) → IsTwice S span → Is DuplicateName span q s → Offends S q s
-  long_in_full : (span : Span) → IsLongInFull S.file span → Is Limit span q s → Offends S q s
-  long_text : (span : Span) → PassesAt S span → Is Limit span q s → Offends S q s
+  of_package : (k : ℕ) (h : Head) (w : Word) → slice_get F.heads k ≡ Some h → h.package ≡ Some w
+      → is_short_full w.name ≡ false → Is Limit w.span q s → Offends F q s
+  twice : (span : Span) → IsTwice F span → Is DuplicateName span q s → Offends F q s
+  long_in_full : (span : Span) → IsLongInFull F span → Is Limit span q s → Offends F q s
+  long_text : (span : Span) → PassesAt F span → Is Limit span q s → Offends F q s
 
 -- ---- a file alone
 
@@ -63,6 +63,8 @@ pub data Offends (S : Source) (q : ResolveReason) (s : Span) : Type 0 where
 pub data IsOffence (F : File) (q : ResolveReason) (s : Span) : Type 0 where
   offends : Offends (alone F) q s → IsOffence F q s
   has_import : (x : Import) → slice_get F.imports 0 ≡ Some x → Is HasImport x.span q s → IsOffence F q s
+
+-- ---- the first one
 
 -- the order of the reasons at one place
 abbrev pub rank_of : ResolveReason → ℕ
@@ -84,3 +86,8 @@ ComesFirst q s r t = (s.start < t.start) ⊎ ((s.start ≡ t.start) × (rank_of 
 pub record HasOffence (F : File) (q : ResolveReason) (span : Span) : Type 0 where
   pub offence : IsOffence F q span
   pub first : (r : ResolveReason) (t : Span) → IsOffence F r t → ComesFirst q span r t
+
+-- files that are resolved together have their first offence here
+pub record HasFirst (F : Joined) (q : ResolveReason) (span : Span) : Type 0 where
+  pub offence : Offends F q span
+  pub first : (r : ResolveReason) (t : Span) → Offends F r t → ComesFirst q span r t

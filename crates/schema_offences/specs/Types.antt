@@ -19,7 +19,7 @@ use Rattle.proto_file.specs.declared.file.FieldLabel.{FieldLabel}
 use Rattle.proto_file.specs.declared.file.FieldLabel.TheVariants.{Plain, Optional, Repeated}
 use Rattle.proto_file.specs.declared.file.FieldType.TheVariants.{Named, Map}
 use Rattle.proto_file.specs.declared.file.FieldDecl.{FieldDecl}
-use Rattle.proto_file.specs.declared.file.File.{File}
+use Rattle.proto_file.specs.Joined.{Joined}
 use Rattle.schema_names.specs.Scopes.{a_message, an_enum, text_of, Names}
 
 -- ---- numbers
@@ -64,12 +64,12 @@ scalar_of name = option_map (λ e. e.1) (find (λ e. bytes_eq name e.0) scalar_n
 
 -- The word for a type in a table's text, whether it is a message, and whether many of it can stand in one record. The
 -- name of a scalar is that scalar, whatever is declared by that name.
-pub data HasType (files : List File) (scope : List (List ℕ)) (w : Word) : List ℕ → Bool → Bool → Type 0 where
-  scalar : (k : Kind) → IsScalar w.name k → HasType files scope w w.name false (is_numeric k)
-  message : (full : List (List ℕ)) → IsNoScalar w.name → Names files scope w.name a_message full
-      → HasType files scope w (codes "message:" ++ text_of full) true false
-  enum : (full : List (List ℕ)) → IsNoScalar w.name → Names files scope w.name an_enum full
-      → HasType files scope w (codes "enum:" ++ text_of full) false true
+pub data HasType (F : Joined) (file : ℕ) (scope : List (List ℕ)) (w : Word) : List ℕ → Bool → Bool → Type 0 where
+  scalar : (k : Kind) → IsScalar w.name k → HasType F file scope w w.name false (is_numeric k)
+  message : (full : List (List ℕ)) → IsNoScalar w.name → Names F file scope w.name a_message full
+      → HasType F file scope w (codes "message:" ++ text_of full) true false
+  enum : (full : List (List ℕ)) → IsNoScalar w.name → Names F file scope w.name an_enum full
+      → HasType F file scope w (codes "enum:" ++ text_of full) false true
 
 -- ---- labels
 
@@ -89,11 +89,11 @@ label_in None label = label
 label_in (Some i) label = labels.Member i
 
 -- the label and the word for the type of a field; a oneof is that at its place in the text's message
-pub data HasForm (files : List File) (scope : List (List ℕ)) (f : FieldDecl) : Label → List ℕ → Type 0 where
+pub data HasForm (F : Joined) (file : ℕ) (scope : List (List ℕ)) (f : FieldDecl) : Label → List ℕ → Type 0 where
   single : (w : Word) (word : List ℕ) (is_message packable : Bool) → f.kind ≡ Named w
-      → HasType files scope w word is_message packable
-      → HasForm files scope f (label_in f.oneof (single_label f.label f.packed is_message packable)) word
+      → HasType F file scope w word is_message packable
+      → HasForm F file scope f (label_in f.oneof (single_label f.label f.packed is_message packable)) word
   a_map : (key value : Word) (k : Kind) (word : List ℕ) (is_message packable : Bool) → f.kind ≡ Map key value
       → f.label ≡ Plain → f.oneof ≡ None → IsScalar key.name k → IsTrue (is_key k)
-      → HasType files scope value word is_message packable
-      → HasForm files scope f (labels.Map k) word
+      → HasType F file scope value word is_message packable
+      → HasForm F file scope f (labels.Map k) word

@@ -13,7 +13,7 @@ use crate::name_set::{NameSet, note_long};
 use crate::numbers::{Reserved, ZERO, enum_number, place_of};
 use crate::reason::ResolveReason;
 use mrpc_table::{MAX_ENUMS, MAX_VALUES, Memory};
-use proto_file::{EnumDecl, File, Number};
+use proto_file::{EnumDecl, Joined, Number};
 use std::alloc::Global;
 
 // Against a number, of which it is known whether it is reserved and whether it is that of the first value.
@@ -69,10 +69,10 @@ fn note_enum(alloc: Global, i: usize, choices: &EnumDecl, first: &mut First) -> 
 }
 
 /// Meets what stands against the enums, but for names that stand twice and names that are long in full.
-pub fn note_enums(alloc: Global, file: &File, first: &mut First) -> Result<(), Memory>
-    ensures { OnOk result (Meets (AtSome (OfElement file.now.enums EnumOffends)) first.old first.new) }
+pub fn note_enums(alloc: Global, files: &Joined<'_>, first: &mut First) -> Result<(), Memory>
+    ensures { OnOk result (Meets (AtSome (OfElement files.now.enums EnumOffends)) first.old first.new) }
 {
-    let enums = file.enums.as_slice();
+    let enums = files.enums();
     for i in 0..enums.len() {
         note_enum(alloc, i, &enums[i], first)?;
     }

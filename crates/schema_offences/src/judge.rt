@@ -1,40 +1,55 @@
-//! All that stands against a file.
+//! All that stands against files.
 
 ghost use Rattle.std.specs.Prelude.{◌≡◌, IfOk};
-ghost use Rattle.proto_file.specs.Order.{IsFormed, IsOrdered};
-ghost use Rattle.schema_offences.specs.Meeting.{FirstIs};
+ghost use Rattle.proto_file.specs.Together.{IsFormed, IsOrdered};
+ghost use Rattle.proto_file.specs.Joined.{alone};
+ghost use Rattle.schema_offences.specs.Meeting.{FirstIs, FirstOfFileIs};
 
 use crate::enums::note_enums;
 use crate::first::{First, Offence};
 use crate::lines::{Lengths, note_text};
 use crate::messages::note_messages;
 use crate::names::note_duplicates;
-use crate::services::{note_head, note_methods, note_services};
+use crate::reason::ResolveReason;
+use crate::services::{note_methods, note_packages, note_services};
 use mrpc_table::Memory;
-use proto_file::File;
+use proto_file::{File, Joined};
 use schema_names::Scopes;
 use std::alloc::Global;
 
-/// The first offence of a file alone, or none where nothing stands against it.
+/// The first offence of files that are resolved together, or none where nothing stands against them.
 pub fn first_offence<'a>(
     alloc: Global,
-    file: &'a File,
+    files: &Joined<'a>,
     scopes: &Scopes<'a>,
 ) -> Result<Option<Offence>, Memory>
-    requires formed { IsFormed file.now }
-    requires ordered { IsOrdered file.now }
-    requires scopes { scopes.now ≡ file.now }
-    ensures { IfOk result (FirstIs file.now) }
+    requires formed { IsFormed files.now }
+    requires ordered { IsOrdered files.now }
+    requires scopes { scopes.now ≡ files.now }
+    ensures { IfOk result (FirstIs files.now) }
 {
     let mut first = First::new();
-    note_head(file, &mut first);
-    note_duplicates(alloc, file, scopes, &mut first)?;
-    note_messages(alloc, file, scopes, &mut first)?;
-    note_enums(alloc, file, &mut first)?;
-    note_services(file, &mut first);
-    note_methods(file, scopes, &mut first);
-    let lengths = Lengths::new(alloc, file)?;
-    lengths.note_long(file, &mut first);
-    note_text(alloc, file, scopes, &lengths, &mut first)?;
+    note_packages(files, &mut first);
+    note_duplicates(alloc, files, scopes, &mut first)?;
+    note_messages(alloc, files, scopes, &mut first)?;
+    note_enums(alloc, files, &mut first)?;
+    note_services(files, &mut first);
+    note_methods(files, scopes, &mut first);
+    let lengths = Lengths::new(alloc, files)?;
+    lengths.note_long(files, &mut first);
+    note_text(alloc, files, scopes, &lengths, &mut first)?;
     Ok(first.found)
+}
+
+/// The first offence of a file alone, whose first offence but for imports was found. Where it has imports, the first
+/// one stands against it, too.
+pub fn with_import(file: &File, found: Option<Offence>) -> Option<Offence>
+    requires { FirstIs (alone file.now) found }
+    ensures { FirstOfFileIs file.now result }
+{
+    let mut first = First { found };
+    if let Some(import) = file.imports.as_slice().first() {
+        first.note(ResolveReason::Import, import.span);
+    }
+    first.found
 }

@@ -1,14 +1,21 @@
-//! A law of first offences.
+//! Laws of offences. These functions do nothing; their clauses hold.
 
 ghost use Rattle.std.specs.Prelude.{◌≡◌};
-ghost use Rattle.proto_file.specs.Order.{IsOrdered};
+ghost use Rattle.proto_file.specs.Order.{Part};
+ghost use Rattle.proto_file.specs.Together.{IsOrdered, Declaration, StandsAt};
 ghost use Rattle.proto_file.specs.declared.file.Span.{Span};
-ghost use Rattle.proto_file.specs.declared.file.File.{File};
-ghost use Rattle.schema_offences.specs.Offences.{HasOffence};
+ghost use Rattle.proto_file.specs.Joined.{Joined};
+ghost use Rattle.schema_offences.specs.Offences.{Offends, HasFirst};
 ghost use Rattle.schema_offences.specs.declared.reason.ResolveReason.{ResolveReason};
 
-/// A file in order has one first offence at most: two of them have one reason and stand at one place.
+/// Files in order have one first offence at most: two of them have one reason and stand at one place.
 pub fn one_offence()
-    ensures { (F : File) (q r : ResolveReason) (s t : Span) → IsOrdered F → HasOffence F q s → HasOffence F r t
+    ensures { (F : Joined) (q r : ResolveReason) (s t : Span) → IsOrdered F → HasFirst F q s → HasFirst F r t
         → (q ≡ r) × (s ≡ t) }
+{}
+
+/// Each offence stands at a name or a number.
+pub fn offences_stand()
+    ensures { (F : Joined) (q : ResolveReason) (s : Span) → Offends F q s
+        → (d : Declaration) × (part : Part) × StandsAt F s d part }
 {}

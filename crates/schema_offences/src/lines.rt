@@ -5,11 +5,13 @@ ghost use Rattle.std.specs.Int.{w32};
 ghost use Rattle.std.specs.Fmt.{decimal};
 ghost use Rattle.mrpc_table.specs.declared.table.Label.TheVariants as labels;
 ghost use Rattle.mrpc_table.specs.Text.{kind_text, label_text, value_line};
-ghost use Rattle.proto_file.specs.Order.{IsFormed, IsOrdered, IsPlaceBelow, field_decl, rpc_decl};
-ghost use Rattle.schema_names.specs.Scopes.{IsScope, package_parts};
+ghost use Rattle.proto_file.specs.Together.{IsFormed, IsOrdered, field_decl, rpc_decl};
+ghost use Rattle.proto_file.specs.Joined.{package_parts, home_of, enum_home_of};
+ghost use Rattle.proto_file.specs.declared.joined.Home.TheVariants as home;
+ghost use Rattle.schema_names.specs.Scopes.{IsScope};
 ghost use Rattle.schema_offences.specs.Types.{no_table, value_of, label_in};
 ghost use Rattle.schema_offences.specs.Meeting.{Meets, AtSome, OfElement, LongIn, PassesIn};
-ghost use Rattle.schema_offences.specs.Lengths.{at_most_64_bits, front_length, KeepsLengths, AreLengths, full_length, IsKept, type_length, IsLengthAt, added, rpcs_before, Covers, CoversAll, IsPast, IsLongName};
+ghost use Rattle.schema_offences.specs.Lengths.{at_most_64_bits, front_length, KeepsLengths, AreLengths, full_length, IsKept, IsKeptHome, type_length, IsLengthAt, added, rpcs_before, Covers, CoversAll, IsPast, IsLongName};
 
 use crate::first::First;
 use crate::numbers::{enum_number, field_number};
@@ -18,7 +20,7 @@ use crate::services::message_of;
 use crate::types::{Form, TypeOf, form_of};
 use mrpc_table::{Kind, Label, MAX_FULL_NAME, MAX_TEXT, Memory};
 use proto_file::{
-    FieldDecl, File, MessageDecl, RpcDecl, ServiceDecl, Span, ValueDecl, Word, Words,
+    FieldDecl, Head, Home, Joined, MessageDecl, RpcDecl, ServiceDecl, Span, ValueDecl, Word, Words,
 };
 use schema_names::{Named, Scopes, one_name, one_scope};
 use std::alloc::Global;
@@ -26,8 +28,8 @@ use std::alloc::Global;
 /// The lengths of full names.
 #[derive(Drop)]
 pub struct Lengths {
-    // Of the package and the dot behind it.
-    front: usize,
+    // Of each file's package and the dot behind it.
+    fronts: Vec<usize>,
     messages: Vec<usize>,
     enums: Vec<usize>,
 }
@@ -42,117 +44,131 @@ fn package_front(declared: &Option<Word>) -> usize
     }
 }
 
+// The same for each file.
+fn package_fronts(alloc: Global, heads: &[Head]) -> Result<Vec<usize>, Memory>
+    ensures { IfOk result (λ v.
+        v.items ≡ map (λ h. at_most_64_bits (front_length (package_parts h.package))) heads.now) }
+{
+    let mut fronts = Vec::with_capacity(alloc, heads.len())?;
+    for head in heads {
+        fronts.push(package_front(&head.package))?;
+    }
+    Ok(fronts)
+}
+
 impl Lengths {
-    /// The lengths of the full names of a file's messages and enums.
-    pub fn new(alloc: Global, file: &File) -> Result<Lengths, Memory>
-        requires { IsFormed file.now }
-        ensures { IfOk result (AreLengths file.now) }
+    /// The lengths of the full names of messages and enums.
+    pub fn new(alloc: Global, files: &Joined<'_>) -> Result<Lengths, Memory>
+        requires { IsFormed files.now }
+        ensures { IfOk result (AreLengths files.now) }
     {
         let mut lengths = Lengths {
-            front: package_front(&file.package),
-            messages: Vec::with_capacity(alloc, file.messages.len())?,
-            enums: Vec::with_capacity(alloc, file.enums.len())?,
+            fronts: package_fronts(alloc, files.heads())?,
+            messages: Vec::with_capacity(alloc, files.messages().len())?,
+            enums: Vec::with_capacity(alloc, files.enums().len())?,
         };
         one_scope();
-        lengths.add_messages(file)?;
-        lengths.add_enums(file)?;
+        lengths.add_messages(files)?;
+        lengths.add_enums(files)?;
         Ok(lengths)
     }
 
-    fn add_messages(&mut self, file: &File) -> Result<(), Memory>
-        requires formed { IsFormed file.now }
-        requires none { KeepsLengths file.now 0 0 self.old }
-        ensures { OnOk result (KeepsLengths file.now (length file.now.messages) 0 self.new) }
+    fn add_messages(&mut self, files: &Joined<'_>) -> Result<(), Memory>
+        requires formed { IsFormed files.now }
+        requires none { KeepsLengths files.now 0 0 self.old }
+        ensures { OnOk result (KeepsLengths files.now (length files.now.messages) 0 self.new) }
     {
-        let all = file.messages.as_slice();
+        let all = files.messages();
         for i in 0..all.len() {
             let message = &all[i];
-            let length = self.full(message.parent, &message.name);
+            let length = self.full(message.home(), &message.name);
             self.messages.push(length)?;
         }
         Ok(())
     }
 
-    fn add_enums(&mut self, file: &File) -> Result<(), Memory>
-        requires formed { IsFormed file.now }
-        requires messages { KeepsLengths file.now (length file.now.messages) 0 self.old }
-        ensures { OnOk result (AreLengths file.now self.new) }
+    fn add_enums(&mut self, files: &Joined<'_>) -> Result<(), Memory>
+        requires formed { IsFormed files.now }
+        requires messages { KeepsLengths files.now (length files.now.messages) 0 self.old }
+        ensures { OnOk result (AreLengths files.now self.new) }
     {
-        let all = file.enums.as_slice();
+        let all = files.enums();
         for i in 0..all.len() {
             let choices = &all[i];
-            let length = self.full(choices.parent, &choices.name);
+            let length = self.full(choices.home(), &choices.name);
             self.enums.push(length)?;
         }
         Ok(())
     }
 
-    // The length of the full name of what stands in the file or in a message.
-    fn full(&self, parent: Option<usize>, word: &Word) -> usize
-        requires { IsPlaceBelow (length self.now.messages.items) parent }
-        ensures { result ≡ full_length self.now parent word.now }
+    // The length of the full name of what stands in a file or in a message.
+    fn full(&self, home: Home, word: &Word) -> usize
+        requires { IsKeptHome self.now home }
+        ensures { result ≡ full_length self.now home word.now }
     {
-        let front = match parent {
-            Some(i) => self.messages[i].saturating_add(1),
-            None => self.front,
+        let front = match home {
+            Home::Message(i) => self.messages[i].saturating_add(1),
+            Home::File(k) => self.fronts[k],
         };
         front.saturating_add(word.name.len())
     }
 
     /// Meets each message, enum or service whose full name is too long.
-    pub fn note_long(&self, file: &File, first: &mut First)
-        requires formed { IsFormed file.now }
-        requires lengths { AreLengths file.now self.now }
-        ensures { Meets (LongIn file.now) first.old first.new }
+    pub fn note_long(&self, files: &Joined<'_>, first: &mut First)
+        requires formed { IsFormed files.now }
+        requires lengths { AreLengths files.now self.now }
+        ensures { Meets (LongIn files.now) first.old first.new }
     {
         one_scope();
-        self.note_messages(file, first);
-        self.note_enums(file, first);
-        self.note_services(file, first);
+        self.note_messages(files, first);
+        self.note_enums(files, first);
+        self.note_services(files, first);
     }
 
-    fn note_messages(&self, file: &File, first: &mut First)
-        requires formed { IsFormed file.now }
-        requires lengths { AreLengths file.now self.now }
-        ensures { Meets (AtSome (OfElement file.now.messages (λ i m. IsLongName self.now m.parent m.name)))
+    fn note_messages(&self, files: &Joined<'_>, first: &mut First)
+        requires formed { IsFormed files.now }
+        requires lengths { AreLengths files.now self.now }
+        ensures { Meets (AtSome (OfElement files.now.messages (λ i m. IsLongName self.now (home_of m) m.name)))
             first.old first.new }
     {
-        let all = file.messages.as_slice();
+        let all = files.messages();
         for i in 0..all.len() {
             let message = &all[i];
-            self.note_full(message.parent, &message.name, first);
+            self.note_full(message.home(), &message.name, first);
         }
     }
 
-    fn note_enums(&self, file: &File, first: &mut First)
-        requires formed { IsFormed file.now }
-        requires lengths { AreLengths file.now self.now }
-        ensures { Meets (AtSome (OfElement file.now.enums (λ i e. IsLongName self.now e.parent e.name)))
+    fn note_enums(&self, files: &Joined<'_>, first: &mut First)
+        requires formed { IsFormed files.now }
+        requires lengths { AreLengths files.now self.now }
+        ensures { Meets (AtSome (OfElement files.now.enums (λ i e. IsLongName self.now (enum_home_of e) e.name)))
             first.old first.new }
     {
-        let all = file.enums.as_slice();
+        let all = files.enums();
         for i in 0..all.len() {
             let choices = &all[i];
-            self.note_full(choices.parent, &choices.name, first);
+            self.note_full(choices.home(), &choices.name, first);
         }
     }
 
-    fn note_services(&self, file: &File, first: &mut First)
-        ensures { Meets (AtSome (OfElement file.now.services (λ i x. IsLongName self.now None x.name)))
+    fn note_services(&self, files: &Joined<'_>, first: &mut First)
+        requires formed { IsFormed files.now }
+        requires lengths { AreLengths files.now self.now }
+        ensures { Meets (AtSome (OfElement files.now.services (λ i x. IsLongName self.now (home.File x.file) x.name)))
             first.old first.new }
     {
-        let all = file.services.as_slice();
+        let all = files.services();
         for i in 0..all.len() {
             let service = &all[i];
-            self.note_full(None, &service.name, first);
+            self.note_full(Home::File(service.file), &service.name, first);
         }
     }
 
-    fn note_full(&self, parent: Option<usize>, word: &Word, first: &mut First)
-        requires { IsPlaceBelow (length self.now.messages.items) parent }
-        ensures { Meets (IsLongName self.now parent word.now) first.old first.new }
+    fn note_full(&self, home: Home, word: &Word, first: &mut First)
+        requires { IsKeptHome self.now home }
+        ensures { Meets (IsLongName self.now home word.now) first.old first.new }
     {
-        let long = self.full(parent, word) > MAX_FULL_NAME;
+        let long = self.full(home, word) > MAX_FULL_NAME;
         first.note_if(long, ResolveReason::Limit, word.span);
     }
 
@@ -245,11 +261,12 @@ fn field_length<'a>(
 ) -> Option<usize>
     requires lengths { AreLengths scopes.now lengths.now }
     requires place { slice_get scopes.now.messages i ≡ Some message.now }
-    requires scope { (scope : List (List ℕ)) × IsScope scopes.now (Some i) scope }
+    requires file { message.now.file < length scopes.now.heads }
+    requires scope { (scope : List (List ℕ)) × IsScope scopes.now (home.Message i) scope }
     ensures { (j : ℕ) → slice_get message.now.fields j ≡ Some field.now
         → IsLengthAt scopes.now (field_decl i j) field.now.name.span result }
 {
-    let form = form_of(scopes, i, field)?;
+    let form = form_of(scopes, message.file, i, field)?;
     let number = field_number(&field.number)?;
     let front = 10 + digits(u128::from(number));
     Some(
@@ -270,16 +287,17 @@ fn method_length<'a>(
 ) -> Option<usize>
     requires ordered { IsOrdered scopes.now }
     requires lengths { AreLengths scopes.now lengths.now }
+    requires file { service.now.file < length scopes.now.heads }
     ensures { (i j : ℕ) → slice_get scopes.now.services i ≡ Some service.now
         → slice_get service.now.rpcs j ≡ Some rpc.now → index ≡ rpcs_before scopes.now i + j
         → IsLengthAt scopes.now (rpc_decl i j) rpc.now.name.span result }
 {
-    let input = message_of(scopes, &rpc.input)?;
-    let output = message_of(scopes, &rpc.output)?;
+    let input = message_of(scopes, service.file, &rpc.input)?;
+    let output = message_of(scopes, service.file, &rpc.output)?;
     let front = 12 + digits(index);
     Some(
         front
-            .saturating_add(lengths.full(None, &service.name))
+            .saturating_add(lengths.full(Home::File(service.file), &service.name))
             .saturating_add(rpc.name.name.len())
             .saturating_add(lengths.messages[input])
             .saturating_add(lengths.messages[output]),
@@ -299,21 +317,22 @@ fn add(lines: &mut Lines, span: Span, length: Option<usize>) -> Result<(), Memor
 }
 
 fn add_fields<'a>(
-    file: &'a File,
+    files: &Joined<'a>,
     scopes: &Scopes<'a>,
     lengths: &Lengths,
     i: usize,
     lines: &mut Lines,
 ) -> Result<(), Memory>
-    requires ordered { IsOrdered file.now }
-    requires scopes { scopes.now ≡ file.now }
-    requires lengths { AreLengths file.now lengths.now }
-    requires place { i < length file.now.messages }
-    requires scope { (scope : List (List ℕ)) × IsScope file.now (Some i) scope }
-    requires message { Covers file.now 0 i 1 lines.old.items }
-    ensures { OnOk result (Covers file.now 0 (i + 1) 0 lines.new.items) }
+    requires formed { IsFormed files.now }
+    requires ordered { IsOrdered files.now }
+    requires scopes { scopes.now ≡ files.now }
+    requires lengths { AreLengths files.now lengths.now }
+    requires place { i < length files.now.messages }
+    requires scope { (scope : List (List ℕ)) × IsScope files.now (home.Message i) scope }
+    requires message { Covers files.now 0 i 1 lines.old.items }
+    ensures { OnOk result (Covers files.now 0 (i + 1) 0 lines.new.items) }
 {
-    let message = &file.messages.as_slice()[i];
+    let message = &files.messages()[i];
     let fields = message.fields.as_slice();
     for j in 0..fields.len() {
         let field = &fields[j];
@@ -324,36 +343,36 @@ fn add_fields<'a>(
 }
 
 fn add_messages<'a>(
-    file: &'a File,
+    files: &Joined<'a>,
     scopes: &Scopes<'a>,
     lengths: &Lengths,
     lines: &mut Lines,
 ) -> Result<(), Memory>
-    requires formed { IsFormed file.now }
-    requires ordered { IsOrdered file.now }
-    requires scopes { scopes.now ≡ file.now }
-    requires lengths { AreLengths file.now lengths.now }
-    requires none { Covers file.now 0 0 0 lines.old.items }
-    ensures { OnOk result (Covers file.now 1 0 0 lines.new.items) }
+    requires formed { IsFormed files.now }
+    requires ordered { IsOrdered files.now }
+    requires scopes { scopes.now ≡ files.now }
+    requires lengths { AreLengths files.now lengths.now }
+    requires none { Covers files.now 0 0 0 lines.old.items }
+    ensures { OnOk result (Covers files.now 1 0 0 lines.new.items) }
 {
     one_scope();
-    let all = file.messages.as_slice();
+    let all = files.messages();
     for i in 0..all.len() {
         let length = lengths.messages[i].saturating_add(9);
         let message = &all[i];
         add(lines, message.name.span, Some(length))?;
-        add_fields(file, scopes, lengths, i, lines)?;
+        add_fields(files, scopes, lengths, i, lines)?;
     }
     Ok(())
 }
 
-fn add_values(file: &File, i: usize, lines: &mut Lines) -> Result<(), Memory>
-    requires ordered { IsOrdered file.now }
-    requires place { i < length file.now.enums }
-    requires choices { Covers file.now 1 i 1 lines.old.items }
-    ensures { OnOk result (Covers file.now 1 (i + 1) 0 lines.new.items) }
+fn add_values(files: &Joined<'_>, i: usize, lines: &mut Lines) -> Result<(), Memory>
+    requires ordered { IsOrdered files.now }
+    requires place { i < length files.now.enums }
+    requires choices { Covers files.now 1 i 1 lines.old.items }
+    ensures { OnOk result (Covers files.now 1 (i + 1) 0 lines.new.items) }
 {
-    let choices = &file.enums.as_slice()[i];
+    let choices = &files.enums()[i];
     let values = choices.values.as_slice();
     for j in 0..values.len() {
         let value = &values[j];
@@ -363,43 +382,44 @@ fn add_values(file: &File, i: usize, lines: &mut Lines) -> Result<(), Memory>
     Ok(())
 }
 
-fn add_enums(file: &File, lengths: &Lengths, lines: &mut Lines) -> Result<(), Memory>
-    requires formed { IsFormed file.now }
-    requires ordered { IsOrdered file.now }
-    requires lengths { AreLengths file.now lengths.now }
-    requires messages { Covers file.now 1 0 0 lines.old.items }
-    ensures { OnOk result (Covers file.now 2 0 0 lines.new.items) }
+fn add_enums(files: &Joined<'_>, lengths: &Lengths, lines: &mut Lines) -> Result<(), Memory>
+    requires formed { IsFormed files.now }
+    requires ordered { IsOrdered files.now }
+    requires lengths { AreLengths files.now lengths.now }
+    requires messages { Covers files.now 1 0 0 lines.old.items }
+    ensures { OnOk result (Covers files.now 2 0 0 lines.new.items) }
 {
     one_scope();
-    let all = file.enums.as_slice();
+    let all = files.enums();
     for i in 0..all.len() {
         let length = lengths.enums[i].saturating_add(6);
         let choices = &all[i];
         add(lines, choices.name.span, Some(length))?;
-        add_values(file, i, lines)?;
+        add_values(files, i, lines)?;
     }
     Ok(())
 }
 
 // Of the methods of a service, before which there are so many.
 fn add_rpcs<'a>(
-    file: &'a File,
+    files: &Joined<'a>,
     scopes: &Scopes<'a>,
     lengths: &Lengths,
     i: usize,
     before: u128,
     lines: &mut Lines,
 ) -> Result<(), Memory>
-    requires ordered { IsOrdered file.now }
-    requires scopes { scopes.now ≡ file.now }
-    requires lengths { AreLengths file.now lengths.now }
-    requires place { i < length file.now.services }
-    requires before { before ≡ rpcs_before file.now i }
+    requires formed { IsFormed files.now }
+    requires ordered { IsOrdered files.now }
+    requires scopes { scopes.now ≡ files.now }
+    requires lengths { AreLengths files.now lengths.now }
+    requires place { i < length files.now.services }
+    requires before { before ≡ rpcs_before files.now i }
     requires few { before ≤ i * 2 ^ 64 }
-    requires services { Covers file.now 2 i 0 lines.old.items }
-    ensures { OnOk result (Covers file.now 2 (i + 1) 0 lines.new.items) }
+    requires services { Covers files.now 2 i 0 lines.old.items }
+    ensures { OnOk result (Covers files.now 2 (i + 1) 0 lines.new.items) }
 {
-    let service = &file.services.as_slice()[i];
+    let service = &files.services()[i];
     let rpcs = service.rpcs.as_slice();
     for j in 0..rpcs.len() {
         let rpc = &rpcs[j];
@@ -410,21 +430,22 @@ fn add_rpcs<'a>(
 }
 
 fn add_methods<'a>(
-    file: &'a File,
+    files: &Joined<'a>,
     scopes: &Scopes<'a>,
     lengths: &Lengths,
     lines: &mut Lines,
 ) -> Result<(), Memory>
-    requires ordered { IsOrdered file.now }
-    requires scopes { scopes.now ≡ file.now }
-    requires lengths { AreLengths file.now lengths.now }
-    requires enums { Covers file.now 2 0 0 lines.old.items }
-    ensures { OnOk result (CoversAll file.now lines.new.items) }
+    requires formed { IsFormed files.now }
+    requires ordered { IsOrdered files.now }
+    requires scopes { scopes.now ≡ files.now }
+    requires lengths { AreLengths files.now lengths.now }
+    requires enums { Covers files.now 2 0 0 lines.old.items }
+    ensures { OnOk result (CoversAll files.now lines.new.items) }
 {
-    let all = file.services.as_slice();
+    let all = files.services();
     let mut before: u128 = 0;
     for i in 0..all.len() {
-        add_rpcs(file, scopes, lengths, i, before, lines)?;
+        add_rpcs(files, scopes, lengths, i, before, lines)?;
         let service = &all[i];
         before += service.rpcs.len() as u128;
     }
@@ -446,23 +467,23 @@ fn note_lines(lines: &[(Span, usize)], first: &mut First)
 /// Meets the first name with whose line the lines, in the order of the text, are too long together.
 pub fn note_text<'a>(
     alloc: Global,
-    file: &'a File,
+    files: &Joined<'a>,
     scopes: &Scopes<'a>,
     lengths: &Lengths,
     first: &mut First,
 ) -> Result<(), Memory>
-    requires formed { IsFormed file.now }
-    requires ordered { IsOrdered file.now }
-    requires scopes { scopes.now ≡ file.now }
-    requires lengths { AreLengths file.now lengths.now }
-    ensures { OnOk result (Meets (PassesIn file.now) first.old first.new) }
+    requires formed { IsFormed files.now }
+    requires ordered { IsOrdered files.now }
+    requires scopes { scopes.now ≡ files.now }
+    requires lengths { AreLengths files.now lengths.now }
+    ensures { OnOk result (Meets (PassesIn files.now) first.old first.new) }
 {
     one_scope();
     one_name();
     let mut lines = Vec::new(alloc);
-    add_messages(file, scopes, lengths, &mut lines)?;
-    add_enums(file, lengths, &mut lines)?;
-    add_methods(file, scopes, lengths, &mut lines)?;
+    add_messages(files, scopes, lengths, &mut lines)?;
+    add_enums(files, lengths, &mut lines)?;
+    add_methods(files, scopes, lengths, &mut lines)?;
     lines.sort_by_key(|line| line.0.start)?;
     note_lines(&lines, first);
     Ok(())

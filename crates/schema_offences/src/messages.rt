@@ -2,7 +2,8 @@
 
 ghost use Rattle.std.specs.Prelude.{◌≡◌, ◌<◌, ◌⊎◌, ℕ, true, List, [], ◌∷◌, length, ◌==◌, ◌||◌, Some, IfOk, OnOk};
 ghost use Rattle.mrpc_table.specs.declared.limits.TheConstants.{MAX_FIELDS as FIELDS};
-ghost use Rattle.proto_file.specs.Order.{IsFormed};
+ghost use Rattle.proto_file.specs.Together.{IsFormed};
+ghost use Rattle.proto_file.specs.declared.joined.Home.TheVariants as home;
 ghost use Rattle.schema_names.specs.Scopes.{IsScope};
 ghost use Rattle.schema_offences.specs.Types.{value_of};
 ghost use Rattle.schema_offences.specs.Members.{Is, IsNoType, KeyOffends, TypeOffends, IsFieldNumberOf, NumberOffends, NameOffends, IsLong, MessageOffends};
@@ -15,41 +16,56 @@ use crate::numbers::{Reserved, field_number, place_of};
 use crate::reason::ResolveReason;
 use crate::types::{is_misplaced_map, may_be_key, type_of};
 use mrpc_table::{MAX_FIELDS, MAX_MESSAGES, Memory};
-use proto_file::{FieldDecl, FieldType, File, MessageDecl, Number, Word};
+use proto_file::{FieldDecl, FieldType, Joined, MessageDecl, Number, Word};
 use schema_names::{Scopes, one_scope};
 use std::alloc::Global;
 use std::collections::BTreeMap;
 
-fn note_type<'a>(scopes: &Scopes<'a>, message: usize, word: &'a Word, first: &mut First)
-    requires { message < length scopes.now.messages }
-    ensures { (scope : List (List ℕ)) → IsScope scopes.now (Some message) scope
-        → Meets (IsNoType (scopes.now ∷ []) scope word.now) first.old first.new }
+fn note_type<'a>(
+    scopes: &Scopes<'a>,
+    file: usize,
+    message: usize,
+    word: &'a Word,
+    first: &mut First,
+)
+    requires file { file < length scopes.now.heads }
+    requires message { message < length scopes.now.messages }
+    ensures { (scope : List (List ℕ)) → IsScope scopes.now (home.Message message) scope
+        → Meets (IsNoType scopes.now file scope word.now) first.old first.new }
 {
-    let unknown = type_of(scopes, message, word).is_none();
+    let unknown = type_of(scopes, file, message, word).is_none();
     first.note_if(unknown, ResolveReason::UnknownName, word.span);
 }
 
-fn note_key<'a>(scopes: &Scopes<'a>, message: usize, key: &'a Word, first: &mut First)
-    requires { message < length scopes.now.messages }
-    ensures { (scope : List (List ℕ)) → IsScope scopes.now (Some message) scope
-        → Meets (KeyOffends (scopes.now ∷ []) scope key.now) first.old first.new }
+fn note_key<'a>(scopes: &Scopes<'a>, file: usize, message: usize, key: &'a Word, first: &mut First)
+    requires file { file < length scopes.now.heads }
+    requires message { message < length scopes.now.messages }
+    ensures { (scope : List (List ℕ)) → IsScope scopes.now (home.Message message) scope
+        → Meets (KeyOffends scopes.now file scope key.now) first.old first.new }
 {
-    match type_of(scopes, message, key) {
+    match type_of(scopes, file, message, key) {
         Some(type_of) => first.note_if(!may_be_key(type_of), ResolveReason::MapKey, key.span),
         None => first.note(ResolveReason::UnknownName, key.span),
     }
 }
 
-fn note_types<'a>(scopes: &Scopes<'a>, message: usize, field: &'a FieldDecl, first: &mut First)
-    requires { message < length scopes.now.messages }
-    ensures { (scope : List (List ℕ)) → IsScope scopes.now (Some message) scope
-        → Meets (TypeOffends (scopes.now ∷ []) scope field.now) first.old first.new }
+fn note_types<'a>(
+    scopes: &Scopes<'a>,
+    file: usize,
+    message: usize,
+    field: &'a FieldDecl,
+    first: &mut First,
+)
+    requires file { file < length scopes.now.heads }
+    requires message { message < length scopes.now.messages }
+    ensures { (scope : List (List ℕ)) → IsScope scopes.now (home.Message message) scope
+        → Meets (TypeOffends scopes.now file scope field.now) first.old first.new }
 {
     match &field.kind {
-        FieldType::Named(word) => note_type(scopes, message, word, first),
+        FieldType::Named(word) => note_type(scopes, file, message, word, first),
         FieldType::Map { key, value } => {
-            note_key(scopes, message, key, first);
-            note_type(scopes, message, value, first);
+            note_key(scopes, file, message, key, first);
+            note_type(scopes, file, message, value, first);
         }
         FieldType::NestedMap => {}
     }
@@ -62,16 +78,18 @@ fn note_types<'a>(scopes: &Scopes<'a>, message: usize, field: &'a FieldDecl, fir
 
 fn note_all_types<'a>(
     scopes: &Scopes<'a>,
+    file: usize,
     message: usize,
     fields: &'a [FieldDecl],
     first: &mut First,
 )
-    requires { message < length scopes.now.messages }
-    ensures { (scope : List (List ℕ)) → IsScope scopes.now (Some message) scope
-        → Meets (AtSome (OfElement fields.now (λ i. TypeOffends (scopes.now ∷ []) scope))) first.old first.new }
+    requires file { file < length scopes.now.heads }
+    requires message { message < length scopes.now.messages }
+    ensures { (scope : List (List ℕ)) → IsScope scopes.now (home.Message message) scope
+        → Meets (AtSome (OfElement fields.now (λ i. TypeOffends scopes.now file scope))) first.old first.new }
 {
     for i in 0..fields.len() {
-        note_types(scopes, message, &fields[i], first);
+        note_types(scopes, file, message, &fields[i], first);
     }
 }
 
@@ -139,13 +157,14 @@ fn note_message<'a>(
     message: &'a MessageDecl,
     first: &mut First,
 ) -> Result<(), Memory>
-    requires { i < length scopes.now.messages }
-    ensures { OnOk result ((scope : List (List ℕ)) → IsScope scopes.now (Some i) scope
-        → Meets (MessageOffends (scopes.now ∷ []) scope i message.now) first.old first.new) }
+    requires file { message.now.file < length scopes.now.heads }
+    requires place { i < length scopes.now.messages }
+    ensures { OnOk result ((scope : List (List ℕ)) → IsScope scopes.now (home.Message i) scope
+        → Meets (MessageOffends scopes.now message.now.file scope i message.now) first.old first.new) }
 {
     first.note_if(i >= MAX_MESSAGES, ResolveReason::Limit, message.name.span);
     note_long(&message.name, first);
-    note_all_types(scopes, i, message.fields.as_slice(), first);
+    note_all_types(scopes, message.file, i, message.fields.as_slice(), first);
     note_numbers(alloc, message, first)?;
     note_names(alloc, message, first)?;
     note_oneofs(message, first);
@@ -155,16 +174,16 @@ fn note_message<'a>(
 /// Meets what stands against the messages, but for names that stand twice and names that are long in full.
 pub fn note_messages<'a>(
     alloc: Global,
-    file: &'a File,
+    files: &Joined<'a>,
     scopes: &Scopes<'a>,
     first: &mut First,
 ) -> Result<(), Memory>
-    requires formed { IsFormed file.now }
-    requires scopes { scopes.now ≡ file.now }
-    ensures { OnOk result (Meets (AtSome (OfElement file.now.messages (MessageIn file.now))) first.old first.new) }
+    requires formed { IsFormed files.now }
+    requires scopes { scopes.now ≡ files.now }
+    ensures { OnOk result (Meets (AtSome (OfElement files.now.messages (MessageIn files.now))) first.old first.new) }
 {
     one_scope();
-    let messages = file.messages.as_slice();
+    let messages = files.messages();
     for i in 0..messages.len() {
         note_message(alloc, scopes, i, &messages[i], first)?;
     }

@@ -1,16 +1,18 @@
 //! Which names are declared twice in a scope.
 
 ghost use Rattle.std.specs.Prelude.{◌≡◌, ◌<◌, ◌+◌, ◌⊎◌, ◌↔◌, ◌++◌, ◌∷◌, [], ℕ, List, Option, Some, None, slice_get, length, map, true, IfOk, OnOk};
-ghost use Rattle.proto_file.specs.Order.{IsFormed, IsOrdered};
-ghost use Rattle.schema_names.specs.Numbers.{StandBehind, IsPlace};
+ghost use Rattle.proto_file.specs.Together.{IsFormed, IsOrdered};
+ghost use Rattle.proto_file.specs.Joined.{home_of, enum_home_of};
+ghost use Rattle.proto_file.specs.declared.joined.Home.TheVariants as home;
+ghost use Rattle.schema_names.specs.Numbers.{StandBehind, IsPlace, scope_count};
 ghost use Rattle.schema_offences.specs.Meeting.{Meets, TwiceIn, AtSome, OfElement};
-ghost use Rattle.schema_offences.specs.Entries.{Entry, entry, entry_of, entries_of, HasNumber, HasNumbers, OfMessage, OfEnum, OfService, OfSome, Adds, IsBefore, start_in, AreStarts, IsLater};
+ghost use Rattle.schema_offences.specs.Entries.{Entry, entry, entry_of, entries_of, HasNumber, HaveNumbers, HaveOwnNumbers, OfMessage, OfEnum, OfService, OfSome, Adds, IsBefore, start_in, AreStarts, IsLater, IsPackageNamed};
 
 use crate::first::First;
 use crate::reason::ResolveReason;
 use mrpc_table::Memory;
 use proto_file::{
-    EnumDecl, FieldDecl, File, MessageDecl, RpcDecl, ServiceDecl, Span, ValueDecl, Word,
+    EnumDecl, FieldDecl, Home, Joined, MessageDecl, RpcDecl, ServiceDecl, Span, ValueDecl, Word,
 };
 use schema_names::{Scopes, one_number, one_scope};
 use std::alloc::Global;
@@ -34,16 +36,16 @@ fn name_in<'a>(scope: usize, word: &'a Word) -> Declared<'a>
     }
 }
 
-// The number of the scope of what stands in the file or in a message.
-fn number_in<'a>(scopes: &Scopes<'a>, parent: Option<usize>) -> usize
+// The number of the scope of what stands in a file or in a message.
+fn number_in<'a>(scopes: &Scopes<'a>, home: Home) -> usize
     requires behind { StandBehind scopes.now }
-    requires place { IsPlace scopes.now parent }
-    ensures has { HasNumber scopes.now parent result }
-    ensures one { (k : ℕ) → HasNumber scopes.now parent k → k ≡ result }
+    requires place { IsPlace scopes.now home }
+    ensures has { HasNumber scopes.now home result }
+    ensures one { (k : ℕ) → HasNumber scopes.now home k → k ≡ result }
 {
     one_scope();
     one_number();
-    scopes.number(parent)
+    scopes.number(home)
 }
 
 fn add_fields<'a>(
@@ -109,30 +111,32 @@ fn add_message<'a>(
 ) -> Result<(), Memory>
     requires behind { StandBehind scopes.now }
     requires within { i < length scopes.now.messages }
-    requires parent { IsPlace scopes.now message.now.parent }
-    ensures number { OnOk result ((k : ℕ) × HasNumber scopes.now (Some i) k) }
+    requires home { IsPlace scopes.now (home_of message.now) }
+    ensures outer { OnOk result ((k : ℕ) × HasNumber scopes.now (home_of message.now) k) }
+    ensures own { OnOk result ((k : ℕ) × HasNumber scopes.now (home.Message i) k) }
     ensures names { OnOk result (Adds (OfMessage scopes.now i message.now)
         (entries_of names.old.items) (entries_of names.new.items)) }
 {
-    let outer = number_in(scopes, message.parent);
+    let outer = number_in(scopes, message.home());
     names.push(name_in(outer, &message.name))?;
-    let inner = number_in(scopes, Some(i));
+    let inner = number_in(scopes, Home::Message(i));
     add_fields(inner, message.fields.as_slice(), names)?;
     add_oneofs(inner, message.oneofs.as_slice(), names)
 }
 
 fn add_messages<'a>(
-    file: &'a File,
+    files: &Joined<'a>,
     scopes: &Scopes<'a>,
     names: &mut Vec<Declared<'a>>,
 ) -> Result<(), Memory>
-    requires behind { StandBehind file.now }
-    requires scopes { scopes.now ≡ file.now }
-    ensures numbers { OnOk result (HasNumbers file.now) }
-    ensures names { OnOk result (Adds (OfSome file.now.messages (OfMessage file.now))
+    requires behind { StandBehind files.now }
+    requires scopes { scopes.now ≡ files.now }
+    ensures outer { OnOk result (HaveNumbers files.now (length files.now.messages) files.now.messages home_of) }
+    ensures own { OnOk result (HaveOwnNumbers files.now (length files.now.messages)) }
+    ensures names { OnOk result (Adds (OfSome files.now.messages (OfMessage files.now))
         (entries_of names.old.items) (entries_of names.new.items)) }
 {
-    let messages = file.messages.as_slice();
+    let messages = files.messages();
     for i in 0..messages.len() {
         add_message(scopes, i, &messages[i], names)?;
     }
@@ -145,33 +149,35 @@ fn add_enum<'a>(
     names: &mut Vec<Declared<'a>>,
 ) -> Result<(), Memory>
     requires behind { StandBehind scopes.now }
-    requires parent { IsPlace scopes.now choices.now.parent }
-    ensures { OnOk result ((i : ℕ) → Adds (OfEnum scopes.now i choices.now)
+    requires home { IsPlace scopes.now (enum_home_of choices.now) }
+    ensures number { OnOk result ((k : ℕ) × HasNumber scopes.now (enum_home_of choices.now) k) }
+    ensures names { OnOk result ((i : ℕ) → Adds (OfEnum scopes.now i choices.now)
         (entries_of names.old.items) (entries_of names.new.items)) }
 {
-    let scope = number_in(scopes, choices.parent);
+    let scope = number_in(scopes, choices.home());
     names.push(name_in(scope, &choices.name))?;
     add_values(scope, choices.values.as_slice(), names)
 }
 
 fn add_enums<'a>(
-    file: &'a File,
+    files: &Joined<'a>,
     scopes: &Scopes<'a>,
     names: &mut Vec<Declared<'a>>,
 ) -> Result<(), Memory>
-    requires behind { StandBehind file.now }
-    requires scopes { scopes.now ≡ file.now }
-    ensures { OnOk result (Adds (OfSome file.now.enums (OfEnum file.now))
+    requires behind { StandBehind files.now }
+    requires scopes { scopes.now ≡ files.now }
+    ensures numbers { OnOk result (HaveNumbers files.now (length files.now.enums) files.now.enums enum_home_of) }
+    ensures names { OnOk result (Adds (OfSome files.now.enums (OfEnum files.now))
         (entries_of names.old.items) (entries_of names.new.items)) }
 {
-    let enums = file.enums.as_slice();
+    let enums = files.enums();
     for i in 0..enums.len() {
         add_enum(scopes, &enums[i], names)?;
     }
     Ok(())
 }
 
-// The scope of a service's methods has a number behind those of all messages.
+// The scope of a service's methods has a number behind those of all scopes.
 fn add_service<'a>(
     scopes: &Scopes<'a>,
     scope: usize,
@@ -179,28 +185,31 @@ fn add_service<'a>(
     names: &mut Vec<Declared<'a>>,
 ) -> Result<(), Memory>
     requires behind { StandBehind scopes.now }
-    ensures { OnOk result ((i : ℕ) → scope ≡ 1 + length scopes.now.messages + i
+    requires home { IsPlace scopes.now (home.File service.now.file) }
+    ensures number { OnOk result ((k : ℕ) × HasNumber scopes.now (home.File service.now.file) k) }
+    ensures names { OnOk result ((i : ℕ) → scope ≡ scope_count scopes.now + i
         → Adds (OfService scopes.now i service.now) (entries_of names.old.items) (entries_of names.new.items)) }
 {
-    let outer = number_in(scopes, None);
+    let outer = number_in(scopes, Home::File(service.file));
     names.push(name_in(outer, &service.name))?;
     add_rpcs(scope, service.rpcs.as_slice(), names)
 }
 
 fn add_services<'a>(
-    file: &'a File,
+    files: &Joined<'a>,
     scopes: &Scopes<'a>,
     names: &mut Vec<Declared<'a>>,
 ) -> Result<(), Memory>
-    requires behind { StandBehind file.now }
-    requires scopes { scopes.now ≡ file.now }
-    ensures { OnOk result (Adds (OfSome file.now.services (OfService file.now))
+    requires formed { IsFormed files.now }
+    requires scopes { scopes.now ≡ files.now }
+    ensures numbers { OnOk result (HaveNumbers files.now (length files.now.services) files.now.services
+        (λ s. home.File s.file)) }
+    ensures names { OnOk result (Adds (OfSome files.now.services (OfService files.now))
         (entries_of names.old.items) (entries_of names.new.items)) }
 {
-    let messages = file.messages.as_slice();
-    let services = file.services.as_slice();
+    let services = files.services();
     for i in 0..services.len() {
-        add_service(scopes, 1 + messages.len() + i, &services[i], names)?;
+        add_service(scopes, scopes.count() + i, &services[i], names)?;
     }
     Ok(())
 }
@@ -267,25 +276,78 @@ fn note_later<'a>(names: &[Declared<'a>], starts: &Starts<'a>, first: &mut First
     }
 }
 
-/// Meets each name that an earlier thing of its scope has.
+// Meets a name that is a package's in its scope, or a front of one.
+fn note_package_name<'a>(scopes: &Scopes<'a>, home: Home, word: &'a Word, first: &mut First)
+    requires behind { StandBehind scopes.now }
+    requires place { IsPlace scopes.now home }
+    ensures { Meets (IsPackageNamed scopes.now home word.now) first.old first.new }
+{
+    one_scope();
+    let is_package = scopes.is_package(home, word.name.as_slice());
+    first.note_if(is_package, ResolveReason::DuplicateName, word.span);
+}
+
+fn note_message_packages<'a>(files: &Joined<'a>, scopes: &Scopes<'a>, first: &mut First)
+    requires formed { IsFormed files.now }
+    requires scopes { scopes.now ≡ files.now }
+    ensures { Meets (AtSome (OfElement files.now.messages (λ i m. IsPackageNamed files.now (home_of m) m.name)))
+        first.old first.new }
+{
+    let messages = files.messages();
+    for i in 0..messages.len() {
+        let message = &messages[i];
+        note_package_name(scopes, message.home(), &message.name, first);
+    }
+}
+
+fn note_enum_packages<'a>(files: &Joined<'a>, scopes: &Scopes<'a>, first: &mut First)
+    requires formed { IsFormed files.now }
+    requires scopes { scopes.now ≡ files.now }
+    ensures { Meets (AtSome (OfElement files.now.enums (λ i e. IsPackageNamed files.now (enum_home_of e) e.name)))
+        first.old first.new }
+{
+    let enums = files.enums();
+    for i in 0..enums.len() {
+        let choices = &enums[i];
+        note_package_name(scopes, choices.home(), &choices.name, first);
+    }
+}
+
+fn note_service_packages<'a>(files: &Joined<'a>, scopes: &Scopes<'a>, first: &mut First)
+    requires formed { IsFormed files.now }
+    requires scopes { scopes.now ≡ files.now }
+    ensures { Meets (AtSome (OfElement files.now.services (λ i x. IsPackageNamed files.now (home.File x.file) x.name)))
+        first.old first.new }
+{
+    let services = files.services();
+    for i in 0..services.len() {
+        let service = &services[i];
+        note_package_name(scopes, Home::File(service.file), &service.name, first);
+    }
+}
+
+/// Meets each name that an earlier thing of its scope has, and each type or service that has the name of a package.
 pub fn note_duplicates<'a>(
     alloc: Global,
-    file: &'a File,
+    files: &Joined<'a>,
     scopes: &Scopes<'a>,
     first: &mut First,
 ) -> Result<(), Memory>
-    requires formed { IsFormed file.now }
-    requires ordered { IsOrdered file.now }
-    requires scopes { scopes.now ≡ file.now }
-    ensures { OnOk result (Meets (TwiceIn file.now) first.old first.new) }
+    requires formed { IsFormed files.now }
+    requires ordered { IsOrdered files.now }
+    requires scopes { scopes.now ≡ files.now }
+    ensures { OnOk result (Meets (TwiceIn files.now) first.old first.new) }
 {
     one_scope();
     one_number();
     let mut names = Vec::new(alloc);
-    add_messages(file, scopes, &mut names)?;
-    add_enums(file, scopes, &mut names)?;
-    add_services(file, scopes, &mut names)?;
+    add_messages(files, scopes, &mut names)?;
+    add_enums(files, scopes, &mut names)?;
+    add_services(files, scopes, &mut names)?;
     let starts = Starts::new(alloc, &names)?;
     note_later(&names, &starts, first);
+    note_message_packages(files, scopes, first);
+    note_enum_packages(files, scopes, first);
+    note_service_packages(files, scopes, first);
     Ok(())
 }

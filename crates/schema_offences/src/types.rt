@@ -5,13 +5,14 @@ ghost use Rattle.mrpc_table.specs.Words.{is_key};
 ghost use Rattle.mrpc_table.specs.declared.table.Kind.{Kind};
 ghost use Rattle.std.specs.Str.{bytes_eq};
 ghost use Rattle.mrpc_table.specs.declared.table.Label.{Label};
+ghost use Rattle.proto_file.specs.declared.joined.Home.TheVariants as home;
 ghost use Rattle.schema_names.specs.Scopes.{IsScope};
 ghost use Rattle.schema_offences.specs.Types.{scalar_of, single_label, IsScalar, IsNoScalar, HasForm};
 ghost use Rattle.schema_offences.specs.Members.{IsUnknown, IsMisplaced};
 ghost use Rattle.schema_offences.specs.Forms.{IsType, IsForm, is_message, is_packable, may_be_key};
 
 use mrpc_table::{Kind, Label};
-use proto_file::{FieldDecl, FieldLabel, FieldType, Word};
+use proto_file::{FieldDecl, FieldLabel, FieldType, Home, Word};
 use schema_names::{Named, Scopes};
 
 /// The type of a field, or of a map's value.
@@ -74,17 +75,24 @@ fn scalar_of(name: &[u8]) -> Option<Kind>
     }
 }
 
-/// What a type's name in a field means: a scalar's name is that scalar, whatever is declared.
-pub fn type_of<'a>(scopes: &Scopes<'a>, message: usize, word: &'a Word) -> Option<TypeOf>
-    requires { message < length scopes.now.messages }
-    ensures { (scope : List (List ℕ)) → IsScope scopes.now (Some message) scope
-        → MatchOption result (IsNoScalar word.now.name × IsUnknown (scopes.now ∷ []) scope word.now.name)
-        (IsType scopes.now scope word.now.name) }
+/// What a type's name in a field of a message means, as a file sees it: a scalar's name is that scalar, whatever is
+/// declared.
+pub fn type_of<'a>(
+    scopes: &Scopes<'a>,
+    file: usize,
+    message: usize,
+    word: &'a Word,
+) -> Option<TypeOf>
+    requires file { file < length scopes.now.heads }
+    requires message { message < length scopes.now.messages }
+    ensures { (scope : List (List ℕ)) → IsScope scopes.now (home.Message message) scope
+        → MatchOption result (IsNoScalar word.now.name × IsUnknown scopes.now file scope word.now.name)
+        (IsType scopes.now file scope word.now.name) }
 {
     let name = word.name.as_slice();
     match scalar_of(name) {
         Some(kind) => Some(TypeOf::Scalar(kind)),
-        None => Some(TypeOf::Named(scopes.find(Some(message), name)?)),
+        None => Some(TypeOf::Named(scopes.find(file, Home::Message(message), name)?)),
     }
 }
 
@@ -151,19 +159,25 @@ fn key_of(word: &Word) -> Option<Kind>
 }
 
 /// The form of a field in a table; none where its types are at fault, or where no map may stand.
-pub fn form_of<'a>(scopes: &Scopes<'a>, message: usize, field: &'a FieldDecl) -> Option<Form>
-    requires { message < length scopes.now.messages }
-    ensures { (scope : List (List ℕ)) → IsScope scopes.now (Some message) scope
+pub fn form_of<'a>(
+    scopes: &Scopes<'a>,
+    file: usize,
+    message: usize,
+    field: &'a FieldDecl,
+) -> Option<Form>
+    requires file { file < length scopes.now.heads }
+    requires message { message < length scopes.now.messages }
+    ensures { (scope : List (List ℕ)) → IsScope scopes.now (home.Message message) scope
         → MatchOption result
-        ((label : Label) (word : List ℕ) → HasForm (scopes.now ∷ []) scope field.now label word → ⊥)
-        (IsForm scopes.now scope field.now) }
+        ((label : Label) (word : List ℕ) → HasForm scopes.now file scope field.now label word → ⊥)
+        (IsForm scopes.now file scope field.now) }
 {
     if is_misplaced_map(field) {
         return None;
     }
     match &field.kind {
         FieldType::Named(word) => {
-            let type_of = type_of(scopes, message, word)?;
+            let type_of = type_of(scopes, file, message, word)?;
             Some(Form {
                 label: single_label(field, type_of),
                 oneof: field.oneof,
@@ -172,7 +186,7 @@ pub fn form_of<'a>(scopes: &Scopes<'a>, message: usize, field: &'a FieldDecl) ->
         }
         FieldType::Map { key, value } => {
             let key = key_of(key)?;
-            let type_of = type_of(scopes, message, value)?;
+            let type_of = type_of(scopes, file, message, value)?;
             Some(Form {
                 label: Label::Map(key),
                 oneof: None,

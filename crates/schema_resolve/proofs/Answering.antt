@@ -1,31 +1,36 @@
 -- What resolving answers.
-use Rattle.std.proofs.Common.{◌≡◌, length, refl}
-use Rattle.std.specs.Prelude.{Result, Ok, Err, IfOk, IfErr, MatchResult}
+use Rattle.std.proofs.Common.{◌≡◌, ◌∙◌, List, length, ap}
 use Rattle.std.proofs.lemmas.List.Elements.{All-contains}
-use Rattle.mrpc_table.specs.declared.table.Table.{Table}
-use Rattle.proto_file.specs.Order.{IsFormed, IsPlaceBelow}
+use Rattle.proto_file.specs.Order.{IsPlaceBelow}
+use Rattle.proto_file.specs.Together.{IsFormed}
+use Rattle.proto_file.specs.declared.file.MessageDecl.{MessageDecl}
 use Rattle.proto_file.specs.declared.file.EnumDecl.{EnumDecl}
+use Rattle.proto_file.specs.declared.file.ServiceDecl.{ServiceDecl}
+use Rattle.proto_file.specs.declared.joined.Head.{Head}
 use Rattle.proto_file.specs.declared.file.File.{File}
+use Rattle.proto_file.specs.Joined.{Joined, alone}
 use Rattle.schema_names.specs.Numbers.{StandBehind}
-use Rattle.schema_resolve.specs.Resolving.{Resolves, IsFaultOf}
-use Rattle.schema_resolve.specs.declared.fault.ResolveFault.{ResolveFault}
-use Rattle.schema_resolve.specs.declared.fault.ResolveFault.TheVariants as faults
 use Rattle.schema_resolve.proofs.CleanFiles.{parent_below}
 
-pub stands_behind : (F : File) → IsFormed F → StandBehind F
+pub stands_behind : (F : Joined) → IsFormed F → StandBehind F
 stands_behind F formed = record {
   messages = λ i p m at e. parent_below i p m.parent e (formed.parents i m at);
   enums = λ x p c e. parent_below (length F.messages) p x.parent e
       (All-contains (λ (y : EnumDecl). IsPlaceBelow (length F.messages) y.parent) F.enums x formed.enum_parents c);
+  message_files = formed.message_files;
+  enum_files = formed.enum_files;
 }
 
-fault_is_memory : (F : File) (t : Table) (e : ResolveFault) → Resolves F t → IsFaultOf F e → e ≡ faults.Memory
-fault_is_memory F t (faults.At q start end line) r h = absurd (r.clean q _ h.offence)
-fault_is_memory F t faults.Memory r h = refl
+-- ---- a file alone
 
--- a file that has a table gives it, unless memory runs out
-pub only_this : (F : File) (result : Result Table ResolveFault)
-    → ((t u : Table) → Resolves F t → Resolves F u → t ≡ u) → IfOk result (Resolves F) → IfErr result (IsFaultOf F)
-    → (t : Table) → Resolves F t → MatchResult result (λ u. u ≡ t) (λ e. e ≡ faults.Memory)
-only_this F (Ok u) one resolves fault t r = one u t resolves r
-only_this F (Err e) one resolves fault t r = fault_is_memory F t e r fault
+abbrev joined : List Head → List MessageDecl → List EnumDecl → List ServiceDecl → Joined
+joined heads messages enums services =
+    record { heads = heads; messages = messages; enums = enums; services = services }
+
+pub is_alone : (F : File) (J : Joined) (hs : List Head) (ms : List MessageDecl) (es : List EnumDecl)
+    (ss : List ServiceDecl) → J ≡ record { heads = hs; messages = ms; enums = es; services = ss }
+    → hs ≡ (alone F).heads → ms ≡ F.messages → es ≡ F.enums → ss ≡ F.services → J ≡ alone F
+is_alone F J hs ms es ss is h m e s =
+    is ∙ ap (λ (x : List Head). joined x ms es ss) h ∙ ap (λ (x : List MessageDecl). joined (alone F).heads x es ss) m
+    ∙ ap (λ (x : List EnumDecl). joined (alone F).heads F.messages x ss) e
+    ∙ ap (λ (x : List ServiceDecl). joined (alone F).heads F.messages F.enums x) s

@@ -23,20 +23,22 @@ use Rattle.mrpc_table.specs.Valid.{AreDistinct, IsValueBelow}
 use Rattle.mrpc_table.specs.declared.limits.TheConstants.{MAX_VALUES, MAX_NAME, MAX_FULL_NAME}
 use Rattle.mrpc_table.specs.declared.table.Choices.{Choices}
 use Rattle.proto_file.specs.Order
-use Rattle.proto_file.specs.Order.{IsFormed, IsFormedEnum, IsOrdered, HasName, StandsAt, value_decl, its_name}
+use Rattle.proto_file.specs.Order.{HasName, IsFormedEnum, its_name}
+use Rattle.proto_file.specs.Together.{IsFormed, IsOrdered, StandsAt, value_decl}
 use Rattle.proto_file.specs.declared.file.Span.{Span}
 use Rattle.proto_file.specs.declared.file.Word.{Word}
 use Rattle.proto_file.specs.declared.file.ValueDecl.{ValueDecl}
 use Rattle.proto_file.specs.declared.file.EnumDecl.{EnumDecl}
-use Rattle.proto_file.specs.declared.file.File.{File}
+use Rattle.proto_file.specs.Joined.{Joined, enum_home_of, package_parts, package_in}
+use Rattle.proto_file.specs.Together
+use Rattle.proto_file.specs.declared.joined.Head.{Head}
+use Rattle.proto_file.specs.declared.joined.Home.{Home}
 use Rattle.schema_names.specs.Scopes
-use Rattle.schema_names.specs.Scopes.{Sort, is_type, no_type, an_enum, Declares, text_of, package_parts, package_of, IsScope, of_file, of_message}
-use Rattle.schema_offences.specs.Sources.{alone}
+use Rattle.schema_names.specs.Scopes.{Sort, is_type, no_type, an_enum, Declares, text_of, IsScope, of_file, of_message}
 use Rattle.schema_offences.specs.Types.{value_of}
 use Rattle.schema_offences.specs.Members
 use Rattle.schema_offences.specs.Members.{IsLong, of_value, of_value_name, value_out_of_range, first_not_zero, name_too_many, name_long, long_message}
 use Rattle.schema_offences.specs.Offences
-use Rattle.schema_offences.specs.Offences.{offends}
 use Rattle.schema_offences.specs.declared.reason.ResolveReason.TheVariants.{NumberRange, FirstEnum, Limit}
 use Rattle.schema_resolve.specs.Tables.{IsEnumOf}
 use Rattle.schema_resolve.specs.Resolving.{IsClean}
@@ -169,26 +171,26 @@ zero_at (pos zero) h = refl
 zero_at (pos (suc n)) h = absurd (h (λ e. cc))
 zero_at (negsuc n) h = absurd (h (λ e. cc))
 
-pub enum_formed : (F : File) (i : ℕ) (e : EnumDecl) → IsFormed F → slice_get F.enums i ≡ Some e → IsFormedEnum e
+pub enum_formed : (F : Joined) (i : ℕ) (e : EnumDecl) → IsFormed F → slice_get F.enums i ≡ Some e → IsFormedEnum e
 enum_formed F i e formed at = All-contains IsFormedEnum F.enums e formed.enums (in_list F.enums i e at)
 
-pub values_fit : (F : File) (i : ℕ) (e : EnumDecl) → IsClean F → slice_get F.enums i ≡ Some e
+pub values_fit : (F : Joined) (i : ℕ) (e : EnumDecl) → IsClean F → slice_get F.enums i ≡ Some e
     → All (λ (v : ValueDecl). FitsSigned w32 (value_of v.number)) e.values
 values_fit F i e clean at k d l =
     fits_at (value_of (get_or e.values k d).number)
-    (λ not. clean NumberRange (get_or e.values k d).number.span (offends (Offences.of_enum i e at
-    (of_value k (value_out_of_range (get_or e.values k d) (slice_get-get_or e.values k d l) not (refl, refl))))))
+    (λ not. clean NumberRange (get_or e.values k d).number.span (Offences.of_enum i e at
+    (of_value k (value_out_of_range (get_or e.values k d) (slice_get-get_or e.values k d l) not (refl, refl)))))
 
 same_value : (i j k : ℕ) → value_decl i j ≡ value_decl i k → j ≡ k
 same_value i j k e = cc
 
-pub values_distinct : (F : File) (i : ℕ) (e : EnumDecl) → IsFormed F → IsOrdered F → IsClean F
+pub values_distinct : (F : Joined) (i : ℕ) (e : EnumDecl) → IsFormed F → IsOrdered F → IsClean F
     → slice_get F.enums i ≡ Some e → AreDistinct (map (λ (v : ValueDecl). v.name.name) e.values)
 values_distinct F i e formed ordered clean at =
     let name : ValueDecl → List ℕ = λ v. v.name.name in
     let here = here_enum F i formed (slice_get_within F.enums i e at) in
     let same : here.decl ≡ e = same_Some here.decl e (sym here.at ∙ at) in
-    let up : IsScope F e.parent here.outer = subst (λ (x : EnumDecl). IsScope F x.parent here.outer) same here.up in
+    let up : IsScope F (enum_home_of e) here.outer = subst (λ (x : EnumDecl). IsScope F (enum_home_of x) here.outer) same here.up in
     let enum : Contains F.enums e = in_list F.enums i e at in
     apart_distinct (map name e.values)
     (λ j k d a b s.
@@ -206,8 +208,8 @@ values_distinct F i e formed ordered clean at =
     same_value i j k
     (one_declaration F (value_decl i j) (value_decl i k) no_type no_type (here.outer ++ x.0.name.name ∷ [])
     (here.outer ++ y.0.name.name ∷ []) x.0.name.span y.0.name.span ordered clean (Scopes.value e x.0 enum xs up)
-    (Scopes.value e y.0 enum ys up) (Order.value i j e x.0 at x.1 (Order.value_name refl))
-    (Order.value i k e y.0 at y.1 (Order.value_name refl))
+    (Scopes.value e y.0 enum ys up) (Together.value i j e x.0 at x.1 (Order.value_name refl))
+    (Together.value i k e y.0 at y.1 (Order.value_name refl))
     (names_more here.outer x.0.name.name (scope_names formed up)
     (All-contains (λ (v : ValueDecl). HasName v.name) e.values x.0 formed_values xs))
     (names_more here.outer y.0.name.name (scope_names formed up)
@@ -220,34 +222,34 @@ short_from name h = elim (cases_Bool (is_short name)) [
   | inr f ↦ absurd (h f)
 ]
 
-pub value_named : (F : File) (i : ℕ) (e : EnumDecl) (v : ValueDecl) → IsFormed F → IsClean F
+pub value_named : (F : Joined) (i : ℕ) (e : EnumDecl) (v : ValueDecl) → IsFormed F → IsClean F
     → slice_get F.enums i ≡ Some e → Contains e.values v → IsName v.name.name
 value_named F i e v formed clean at c = record {
   form = All-contains (λ (x : ValueDecl). HasName x.name) e.values v (enum_formed F i e formed at).values c;
   short = short_from v.name.name
-      (λ f. clean Limit v.name.span (offends (Offences.of_enum i e at
-      (of_value_name c.0 v (at_in e.values v c) (name_long (f, (refl, refl)))))));
+      (λ f. clean Limit v.name.span (Offences.of_enum i e at
+      (of_value_name c.0 v (at_in e.values v c) (name_long (f, (refl, refl))))));
 }
 
-pub few_values : (F : File) (i : ℕ) (e : EnumDecl) → IsClean F → slice_get F.enums i ≡ Some e
+pub few_values : (F : Joined) (i : ℕ) (e : EnumDecl) → IsClean F → slice_get F.enums i ≡ Some e
     → length e.values ≤ MAX_VALUES
 few_values F i e clean at = elim (cases_lt MAX_VALUES (length e.values)) [
   | inl more ↦
       let v = some_at e.values MAX_VALUES more in
-      absurd (clean Limit v.0.name.span (offends (Offences.of_enum i e at
-      (of_value_name MAX_VALUES v.0 v.1 (name_too_many (omega arith) (refl, refl))))))
+      absurd (clean Limit v.0.name.span (Offences.of_enum i e at
+      (of_value_name MAX_VALUES v.0 v.1 (name_too_many (omega arith) (refl, refl)))))
   | inr few ↦ few
 ]
 
-pub first_zero : (F : File) (i : ℕ) (e : EnumDecl) → IsFormed F → IsClean F → slice_get F.enums i ≡ Some e
+pub first_zero : (F : Joined) (i : ℕ) (e : EnumDecl) → IsFormed F → IsClean F → slice_get F.enums i ≡ Some e
     → (v : ValueDecl) × Contains e.values v × (value_of v.number ≡ pos 0)
 first_zero F i e formed clean at =
     let v = some_at e.values 0 (enum_formed F i e formed at).filled in (
       v.0,
       in_list e.values 0 v.0 v.1,
       zero_at (value_of v.0.number)
-          (λ not. clean FirstEnum v.0.number.span (offends (Offences.of_enum i e at
-          (of_value 0 (first_not_zero v.0 v.1 refl not (refl, refl)))))),
+          (λ not. clean FirstEnum v.0.number.span (Offences.of_enum i e at
+          (of_value 0 (first_not_zero v.0 v.1 refl not (refl, refl))))),
     )
 
 -- ---- full names
@@ -256,12 +258,12 @@ pub true_from : (b : Bool) → (b ≡ false → ⊥) → b ≡ true
 true_from true h = refl
 true_from false h = absurd (h refl)
 
-package_short_at : (F : File) (word : Option Word) → F.package ≡ word → IsClean F
-    → list_all is_short (package_parts word) ≡ true
-package_short_at F None e clean = refl
-package_short_at F (Some w) e clean =
+package_short_at : (F : Joined) (k : ℕ) (h : Head) (word : Option Word) → slice_get F.heads k ≡ Some h → h.package ≡ word
+    → IsClean F → list_all is_short (package_parts word) ≡ true
+package_short_at F k h None at e clean = refl
+package_short_at F k h (Some w) at e clean =
     let t : is_short_full w.name ≡ true = true_from (is_short_full w.name)
-    (λ f. clean Limit w.span (offends (Offences.of_package w e f (refl, refl)))) in
+    (λ f. clean Limit w.span (Offences.of_package k h w at e f (refl, refl))) in
     (and_parts (list_all is_short (parts_of w.name)) (nat_le (length w.name) MAX_FULL_NAME) t).0
 
 pub short_more : (outer : List (List ℕ)) (name : List ℕ) → list_all is_short outer ≡ true → is_short name ≡ true
@@ -270,13 +272,18 @@ short_more outer name h n =
     list_all-append is_short outer (name ∷ [])
     ∙ and_from (list_all is_short outer) (list_all is_short (name ∷ [])) h (and_from (is_short name) true n refl)
 
-pub scope_short : {F : File} {place : Option ℕ} {scope : List (List ℕ)} → IsClean F → IsScope F place scope
+package_short : (F : Joined) (k : ℕ) (head : Option Head) → slice_get F.heads k ≡ head → IsClean F
+    → list_all is_short (package_in head) ≡ true
+package_short F k None at clean = refl
+package_short F k (Some h) at clean = package_short_at F k h h.package at refl clean
+
+pub scope_short : {F : Joined} {place : Home} {scope : List (List ℕ)} → IsClean F → IsScope F place scope
     → list_all is_short scope ≡ true
-scope_short {F} clean of_file = package_short_at F F.package refl clean
+scope_short {F} clean (of_file k) = package_short F k (slice_get F.heads k) refl clean
 scope_short {F} clean (of_message i m {outer} at up) =
     short_more outer m.name.name (scope_short clean up)
     (true_from (is_short m.name.name)
-    (λ f. clean Limit m.name.span (offends (Offences.of_message i m at (of_message i m at up) (long_message (f, (refl, refl)))))))
+    (λ f. clean Limit m.name.span (Offences.of_message i m at (of_message i m at up) (long_message (f, (refl, refl))))))
 
 parts_at : (full : List (List ℕ)) → 0 < length full → AreNames full → parts_of (text_of full) ≡ full
 parts_at [] l h = absurd (omega arith)
@@ -295,34 +302,34 @@ full_valid full some names short not_long =
           ]);
     }
 
-pub type_valid : (F : File) (sort : Sort) (outer : List (List ℕ)) (name : List ℕ) (span : Span) → IsClean F
-    → Declares F sort (outer ++ name ∷ []) span → is_type sort ≡ true → AreNames (outer ++ name ∷ [])
+pub type_valid : (F : Joined) {k : ℕ} (sort : Sort) (outer : List (List ℕ)) (name : List ℕ) (span : Span) → IsClean F
+    → Declares F k sort (outer ++ name ∷ []) span → is_type sort ≡ true → AreNames (outer ++ name ∷ [])
     → list_all is_short (outer ++ name ∷ []) ≡ true → IsFullName (text_of (outer ++ name ∷ []))
-type_valid F sort outer name span clean d typ names short =
+type_valid F {k} sort outer name span clean d typ names short =
     full_valid (outer ++ name ∷ []) (omega (arith, length-append outer (name ∷ []))) names short
-    (λ l. clean Limit span (offends (Offences.long_in_full span
-    (Offences.a_type sort (outer ++ name ∷ []) d typ l) (refl, refl))))
+    (λ l. clean Limit span (Offences.long_in_full span
+    (Offences.a_type k sort (outer ++ name ∷ []) d typ l) (refl, refl)))
 
 -- ---- the enum
 
-pub enum_at : (F : File) (p : Plan) (i : ℕ) (e : EnumDecl) (c : Choices) → IsFormed F → IsOrdered F → IsClean F
+pub enum_at : (F : Joined) (p : Plan) (i : ℕ) (e : EnumDecl) (c : Choices) → IsFormed F → IsOrdered F → IsClean F
     → IsPlan F p → slice_get F.enums i ≡ Some e → c.name ≡ name_at p.enums.names.items i
     → AreValues e.values c.values → IsEnumAt F p i c
 enum_at F p i e c formed ordered clean plan at name values =
     let here = here_enum F i formed (slice_get_within F.enums i e at) in
     let same : here.decl ≡ e = same_Some here.decl e (sym here.at ∙ at) in
-    let up : IsScope F e.parent here.outer = subst (λ (x : EnumDecl). IsScope F x.parent here.outer) same here.up in
+    let up : IsScope F (enum_home_of e) here.outer = subst (λ (x : EnumDecl). IsScope F (enum_home_of x) here.outer) same here.up in
     let text : c.name ≡ text_of (here.outer ++ here.decl.name.name ∷ []) =
     name ∙ enum_text F p.enums.names.items i here plan.enums
     (omega (arith, plan.all_enums, slice_get_within F.enums i e at)) [] in
     let text2 : c.name ≡ text_of (here.outer ++ e.name.name ∷ []) =
     text ∙ ap (λ (x : EnumDecl). text_of (here.outer ++ x.name.name ∷ [])) same in
     let short : is_short here.decl.name.name ≡ true = true_from (is_short here.decl.name.name)
-    (λ f. clean Limit here.decl.name.span (offends (Offences.of_enum i here.decl here.at (Members.long_enum (f, (refl, refl)))))) in
+    (λ f. clean Limit here.decl.name.span (Offences.of_enum i here.decl here.at (Members.long_enum (f, (refl, refl))))) in
     record {
       is = λ d there.
           let one : e ≡ d = same_Some e d (sym at ∙ there) in
-          subst (λ (x : EnumDecl). IsEnumOf (alone F, x) c) one
+          subst (λ (x : EnumDecl). IsEnumOf F x c) one
           (record { outer = here.outer; stands = up; name = text2; values = values.those });
       valid = record {
         name = subst IsFullName (sym text)

@@ -1,4 +1,4 @@
--- The fields of a clean file have forms, and numbers that differ.
+-- The fields of clean files have forms, and numbers that differ.
 use Rattle.std.proofs.Common.{◌≡◌, ◌≢◌, ℕ, suc, ◌+◌, ◌<◌, ◌≤◌, inl, inr, Bool, true, false, List, [], ◌∷◌, ◌++◌, length, get_or, map, take, Option, Some, None, refl, sym, ap, ◌∙◌, subst, arith}
 use Rattle.std.specs.Prelude.{Contains, slice_get, pos, IsTrue}
 use Rattle.mrpc_table.specs.Names.{is_name_form}
@@ -13,7 +13,8 @@ use Rattle.mrpc_table.specs.Words.{is_key, is_numeric}
 use Rattle.mrpc_table.specs.declared.table.Kind.{Kind}
 use Rattle.mrpc_table.specs.declared.table.Label.{Label}
 use Rattle.proto_file.specs.Order
-use Rattle.proto_file.specs.Order.{IsFormed, IsFormedField, IsOrdered, HasName, field_decl, its_name}
+use Rattle.proto_file.specs.Order.{HasName, IsFormedField, its_name}
+use Rattle.proto_file.specs.Together.{IsFormed, IsOrdered, field_decl}
 use Rattle.proto_file.specs.declared.file.Span.{Span}
 use Rattle.proto_file.specs.declared.file.Word.{Word}
 use Rattle.proto_file.specs.declared.file.FieldLabel.{FieldLabel}
@@ -22,13 +23,14 @@ use Rattle.proto_file.specs.declared.file.FieldType.{FieldType}
 use Rattle.proto_file.specs.declared.file.FieldType.TheVariants.{Named, Map, NestedMap}
 use Rattle.proto_file.specs.declared.file.FieldDecl.{FieldDecl}
 use Rattle.proto_file.specs.declared.file.MessageDecl.{MessageDecl}
-use Rattle.proto_file.specs.declared.file.File.{File}
+use Rattle.proto_file.specs.Joined.{Joined, home_of}
+use Rattle.proto_file.specs.declared.joined.Home.TheVariants as home
+use Rattle.proto_file.specs.Together
 use Rattle.schema_names.specs.Scopes
-use Rattle.schema_names.specs.Scopes.{Sort, a_message, an_enum, no_type, is_type, Names, Finds, in_this, in_others, text_of, IsScope, of_message}
+use Rattle.schema_names.specs.Scopes.{Sort, a_message, an_enum, no_type, is_type, Names, Finds, text_of, IsScope, of_message}
 use Rattle.schema_offences.specs.Types.{value_of, IsScalar, IsNoScalar, HasType, scalar, message, enum, HasForm, single, a_map}
 use Rattle.schema_offences.specs.Members.{IsUnknown, unknown_key, scalar_key, type_key, nested, labelled, in_oneof, TypeOffends, unknown_type, bad_key, unknown_value, misplaced, IsFieldNumberOf, of_type, of_number, number_out_of_range, number_met_before}
 use Rattle.schema_offences.specs.Offences
-use Rattle.schema_offences.specs.Offences.{offends}
 use Rattle.schema_offences.specs.declared.reason.ResolveReason.{ResolveReason}
 use Rattle.schema_offences.specs.declared.reason.ResolveReason.TheVariants.{UnknownName, NumberRange, DuplicateNumber, MapKey, MapPlace}
 use Rattle.schema_resolve.specs.Resolving.{IsClean}
@@ -41,9 +43,8 @@ use Rattle.schema_resolve.proofs.EnumTables.{contains_map, map_contains, map_twi
 
 -- ---- forms
 
-found_type : {F : File} {full : List (List ℕ)} → Finds (F ∷ []) no_type full → ⊥
-found_type (in_this h) = absurd (false≢true h.names_type)
-found_type (in_others none rest) = elim rest [ ]
+found_type : {F : Joined} {file : ℕ} {full : List (List ℕ)} → Finds F file no_type full → ⊥
+found_type h = absurd (false≢true h.names_type)
 
 -- the names of what stands in a message
 pub field_names : (outer : List (List ℕ)) (name inner : List ℕ) → AreNames (outer ++ name ∷ [])
@@ -52,29 +53,29 @@ field_names outer name inner h n =
     subst (λ (l : List (List ℕ)). AreNames l) (append_assoc outer (name ∷ []) (inner ∷ []))
     (names_more (outer ++ name ∷ []) inner h n)
 
-module _ (F : File) (i : ℕ) (m : MessageDecl) (scope : List (List ℕ)) (f : FieldDecl) (clean : IsClean F)
-    (at : slice_get F.messages i ≡ Some m) (up : IsScope F (Some i) scope) (field : Contains m.fields f) where
-  well_typed : (q : ResolveReason) (s : Span) → TypeOffends (F ∷ []) scope f q s → ⊥
+module _ (F : Joined) (i : ℕ) (m : MessageDecl) (scope : List (List ℕ)) (f : FieldDecl) (clean : IsClean F)
+    (at : slice_get F.messages i ≡ Some m) (up : IsScope F (home.Message i) scope) (field : Contains m.fields f) where
+  well_typed : (q : ResolveReason) (s : Span) → TypeOffends F m.file scope f q s → ⊥
   well_typed q s o =
-      clean q s (offends (Offences.of_message i m at up (of_type field.0 f (at_in m.fields f field) o)))
+      clean q s (Offences.of_message i m at up (of_type field.0 f (at_in m.fields f field) o))
 
   -- names name types
   no_sort : (w : Word) (sort : Sort) (full : List (List ℕ)) → IsNoScalar w.name
-      → ((word : List ℕ) (is_message packable : Bool) → HasType (F ∷ []) scope w word is_message packable → ⊥)
-      → Names (F ∷ []) scope w.name sort full → ⊥
+      → ((word : List ℕ) (is_message packable : Bool) → HasType F m.file scope w word is_message packable → ⊥)
+      → Names F m.file scope w.name sort full → ⊥
   no_sort w a_message full plain none names = none _ _ _ (message full plain names)
   no_sort w an_enum full plain none names = none _ _ _ (enum full plain names)
   no_sort w no_type full plain none names = found_type names.finds
 
   has_type : (w : Word)
-      → ((word : List ℕ) (is_message packable : Bool) → HasType (F ∷ []) scope w word is_message packable → ⊥)
-      → IsNoScalar w.name × IsUnknown (F ∷ []) scope w.name
+      → ((word : List ℕ) (is_message packable : Bool) → HasType F m.file scope w word is_message packable → ⊥)
+      → IsNoScalar w.name × IsUnknown F m.file scope w.name
   has_type w none =
       let plain : IsNoScalar w.name = λ k s. none w.name false (is_numeric k) (scalar k s) in
       (plain, λ sort full names. no_sort w sort full plain none names)
 
   named_form : (w : Word) → f.kind ≡ Named w
-      → ((label : Label) (word : List ℕ) → HasForm (F ∷ []) scope f label word → ⊥) → ⊥
+      → ((label : Label) (word : List ℕ) → HasForm F m.file scope f label word → ⊥) → ⊥
   named_form w is none =
       let t = has_type w (λ word is_message packable h. none _ _ (single w word is_message packable is h)) in
       well_typed UnknownName w.span (unknown_type w is (record { no_scalar = t.0; unknown = t.1; is = (refl, refl) }))
@@ -85,7 +86,7 @@ module _ (F : File) (i : ℕ) (m : MessageDecl) (scope : List (List ℕ)) (f : F
       (misplaced (labelled key value is (λ (p : f.label ≡ Plain). not (sym e ∙ p))) (refl, refl))
 
   map_form : (key value : Word) → f.kind ≡ Map key value → f.label ≡ Plain → f.oneof ≡ None
-      → ((label : Label) (word : List ℕ) → HasForm (F ∷ []) scope f label word → ⊥) → ⊥
+      → ((label : Label) (word : List ℕ) → HasForm F m.file scope f label word → ⊥) → ⊥
   map_form key value is label oneof none =
       let key_scalar : (k : Kind) → IsScalar key.name k → is_key k ≡ true → ⊥ =
       λ k s keyed.
@@ -98,7 +99,7 @@ module _ (F : File) (i : ℕ) (m : MessageDecl) (scope : List (List ℕ)) (f : F
         | inl t ↦ key_scalar k s t
         | inr t ↦ well_typed MapKey key.span (bad_key key value is (scalar_key k s t (refl, refl)))
       ] in
-      let no_names : IsUnknown (F ∷ []) scope key.name =
+      let no_names : IsUnknown F m.file scope key.name =
       λ sort full names. well_typed MapKey key.span (bad_key key value is (type_key sort full no_key names (refl, refl))) in
       well_typed UnknownName key.span
       (bad_key key value is (unknown_key (record { no_scalar = no_key; unknown = no_names; is = (refl, refl) })))
@@ -114,45 +115,45 @@ module _ (F : File) (i : ℕ) (m : MessageDecl) (scope : List (List ℕ)) (f : F
       absurd (well_typed MapPlace f.name.span (misplaced (in_oneof key value o is e) (refl, refl)))
 
   form_at : (kind : FieldType) → f.kind ≡ kind
-      → ((label : Label) (word : List ℕ) → HasForm (F ∷ []) scope f label word → ⊥) → ⊥
+      → ((label : Label) (word : List ℕ) → HasForm F m.file scope f label word → ⊥) → ⊥
   form_at (Named w) is none = named_form w is none
   form_at (Map key value) is none =
       map_form key value is (map_label key value f.label is refl) (map_oneof key value f.oneof is refl) none
   form_at NestedMap is none = well_typed MapPlace f.name.span (misplaced (nested is) (refl, refl))
 
-  pub has_form : ((label : Label) (word : List ℕ) → HasForm (F ∷ []) scope f label word → ⊥) → ⊥
+  pub has_form : ((label : Label) (word : List ℕ) → HasForm F m.file scope f label word → ⊥) → ⊥
   has_form none = form_at f.kind refl none
 
   pub has_number : (IsFieldNumberOf (value_of f.number) → ⊥) → ⊥
   has_number none =
-      clean NumberRange f.number.span (offends (Offences.of_message i m at up
-      (of_number field.0 (number_out_of_range f (at_in m.fields f field) none (refl, refl)))))
+      clean NumberRange f.number.span (Offences.of_message i m at up
+      (of_number field.0 (number_out_of_range f (at_in m.fields f field) none (refl, refl))))
 
 -- ---- fields in the order of the text
 
-pub judged_none : (F : File) (place : ℕ) (js : List Judged) → js ≡ [] → AreJudgedInOrder F place [] js
-judged_none F place js e = subst (AreJudgedInOrder F place []) (sym e) (record {
+pub judged_none : (F : Joined) (file place : ℕ) (js : List Judged) → js ≡ [] → AreJudgedInOrder F file place [] js
+judged_none F file place js e = subst (AreJudgedInOrder F file place []) (sym e) (record {
   decls = refl;
   each = λ j c. absurd (omega (arith, c.1));
 })
 
-pub judged_more : (F : File) (place i : ℕ) (fs : List FieldDecl) (f : FieldDecl) (js more : List Judged) (j : Judged)
-    → slice_get fs i ≡ Some f → IsJudged F place f j → more ≡ js ++ j ∷ [] → AreJudgedInOrder F place (take i fs) js
-    → AreJudgedInOrder F place (take (i + 1) fs) more
-judged_more F place i fs f js more j at is e h =
+pub judged_more : (F : Joined) (file place i : ℕ) (fs : List FieldDecl) (f : FieldDecl) (js more : List Judged) (j : Judged)
+    → slice_get fs i ≡ Some f → IsJudged F file place f j → more ≡ js ++ j ∷ [] → AreJudgedInOrder F file place (take i fs) js
+    → AreJudgedInOrder F file place (take (i + 1) fs) more
+judged_more F file place i fs f js more j at is e h =
     let decl : Judged → FieldDecl = λ x. x.decl.now in
     let grown : take (i + 1) fs ≡ take i fs ++ f ∷ [] =
     take_more fs i f (slice_get_within fs i f at)
     ∙ ap (λ (x : FieldDecl). take i fs ++ x ∷ []) (get_or_from_slice_get fs i f f at) in
-    subst (λ (l : List FieldDecl). AreJudgedInOrder F place l more) (sym grown)
-    (subst (AreJudgedInOrder F place (take i fs ++ f ∷ [])) (sym e) (record {
+    subst (λ (l : List FieldDecl). AreJudgedInOrder F file place l more) (sym grown)
+    (subst (AreJudgedInOrder F file place (take i fs ++ f ∷ [])) (sym e) (record {
       decls = map-append decl js (j ∷ []) ∙ ap (λ (l : List FieldDecl). l ++ decl j ∷ []) h.decls
           ∙ ap (λ (x : FieldDecl). take i fs ++ x ∷ []) is.decl_is;
       each = λ x c. elim (Contains-push_cases js j x c) [
         | inl old ↦ h.each x old
         | inr new ↦
-            subst (λ (y : Judged). IsJudged F place y.decl.now y) new
-            (subst (λ (g : FieldDecl). IsJudged F place g j) (sym is.decl_is) is)
+            subst (λ (y : Judged). IsJudged F file place y.decl.now y) new
+            (subst (λ (g : FieldDecl). IsJudged F file place g j) (sym is.decl_is) is)
       ];
     }))
 
@@ -164,15 +165,15 @@ same_field i j k e = cc
 same_pos : (m n : ℕ) → pos m ≡ pos n → m ≡ n
 same_pos m n e = cc
 
-met_twice : (F : File) (place : ℕ) (m : MessageDecl) (scope : List (List ℕ)) (j k : ℕ) (f g : FieldDecl) → IsClean F
-    → slice_get F.messages place ≡ Some m → IsScope F (Some place) scope → slice_get m.fields j ≡ Some f
+met_twice : (F : Joined) (place : ℕ) (m : MessageDecl) (scope : List (List ℕ)) (j k : ℕ) (f g : FieldDecl) → IsClean F
+    → slice_get F.messages place ≡ Some m → IsScope F (home.Message place) scope → slice_get m.fields j ≡ Some f
     → slice_get m.fields k ≡ Some g → value_of f.number ≡ value_of g.number → j < k → ⊥
 met_twice F place m scope j k f g clean at up fs gs e l =
-    clean DuplicateNumber g.number.span (offends (Offences.of_message place m at up
-    (of_number k (number_met_before g f j gs l fs e (refl, refl)))))
+    clean DuplicateNumber g.number.span (Offences.of_message place m at up
+    (of_number k (number_met_before g f j gs l fs e (refl, refl))))
 
-judged_at : (F : File) (place : ℕ) (m : MessageDecl) (js : List Judged) (k : ℕ) → AreJudgedInOrder F place m.fields js
-    → k < length js → (j : Judged) × (slice_get js k ≡ Some j) × IsJudged F place j.decl.now j
+judged_at : (F : Joined) (place : ℕ) (m : MessageDecl) (js : List Judged) (k : ℕ) → AreJudgedInOrder F m.file place m.fields js
+    → k < length js → (j : Judged) × (slice_get js k ≡ Some j) × IsJudged F m.file place j.decl.now j
     × (slice_get m.fields k ≡ Some j.decl.now)
 judged_at F place m js k h l =
     let decl : Judged → FieldDecl = λ x. x.decl.now in
@@ -183,13 +184,13 @@ judged_at F place m js k h l =
       ap (λ (fs : List FieldDecl). slice_get fs k) (sym h.decls) ∙ slice_get-map decl js k ∙ ap (option_map decl) j.1,
     )
 
-numbers_apart : (F : File) (place : ℕ) (m : MessageDecl) (js : List Judged) → IsFormed F → IsClean F
-    → slice_get F.messages place ≡ Some m → AreJudgedInOrder F place m.fields js
+numbers_apart : (F : Joined) (place : ℕ) (m : MessageDecl) (js : List Judged) → IsFormed F → IsClean F
+    → slice_get F.messages place ≡ Some m → AreJudgedInOrder F m.file place m.fields js
     → AreApart (map (λ (j : Judged). j.number) js)
 numbers_apart F place m js formed clean at h i k d a b e =
     let number : Judged → ℕ = λ j. j.number in
     let here = here_message F place formed (slice_get_within F.messages place m at) in
-    let up : IsScope F (Some place) (here.outer ++ here.decl.name.name ∷ []) = of_message place here.decl here.at here.up in
+    let up : IsScope F (home.Message place) (here.outer ++ here.decl.name.name ∷ []) = of_message place here.decl here.at here.up in
     let scope : List (List ℕ) = here.outer ++ here.decl.name.name ∷ [] in
     let x = judged_at F place m js i h (omega (arith, length-map js number)) in
     let y = judged_at F place m js k h (omega (arith, length-map js number)) in
@@ -209,14 +210,14 @@ numbers_apart F place m js formed clean at h i k d a b e =
       ]
     ]
 
-names_apart : (F : File) (place : ℕ) (m : MessageDecl) → IsFormed F → IsOrdered F → IsClean F
+names_apart : (F : Joined) (place : ℕ) (m : MessageDecl) → IsFormed F → IsOrdered F → IsClean F
     → slice_get F.messages place ≡ Some m → AreApart (map (λ (f : FieldDecl). f.name.name) m.fields)
 names_apart F place m formed ordered clean at j k d a b s =
     let name : FieldDecl → List ℕ = λ f. f.name.name in
     let here = here_message F place formed (slice_get_within F.messages place m at) in
     let same : here.decl ≡ m = same_Some here.decl m (sym here.at ∙ at) in
-    let up : IsScope F m.parent here.outer = subst (λ (x : MessageDecl). IsScope F x.parent here.outer) same here.up in
-    let scope : IsScope F (Some place) (here.outer ++ m.name.name ∷ []) = of_message place m at up in
+    let up : IsScope F (home_of m) here.outer = subst (λ (x : MessageDecl). IsScope F (home_of x) here.outer) same here.up in
+    let scope : IsScope F (home.Message place) (here.outer ++ m.name.name ∷ []) = of_message place m at up in
     let its : Contains F.messages m = in_list F.messages place m at in
     let x = some_at m.fields j (omega (arith, length-map m.fields name)) in
     let y = some_at m.fields k (omega (arith, length-map m.fields name)) in
@@ -233,7 +234,7 @@ names_apart F place m formed ordered clean at j k d a b s =
     same_field place j k
     (one_declaration F (field_decl place j) (field_decl place k) no_type no_type (full x.0) (full y.0) x.0.name.span
     y.0.name.span ordered clean (Scopes.field m x.0 its xs up) (Scopes.field m y.0 its ys up)
-    (Order.field place j m x.0 at x.1 (Order.field_name refl)) (Order.field place k m y.0 at y.1 (Order.field_name refl))
+    (Together.field place j m x.0 at x.1 (Order.field_name refl)) (Together.field place k m y.0 at y.1 (Order.field_name refl))
     (field_names here.outer m.name.name x.0.name.name (scope_names formed scope)
     (All-contains (IsFormedField (length m.oneofs)) m.fields x.0 fs xs).name)
     (field_names here.outer m.name.name y.0.name.name (scope_names formed scope)
@@ -255,8 +256,8 @@ number_step sorted apart ascends k d l =
     omega arith in
     omega arith
 
-pub judged_of : (F : File) (place : ℕ) (m : MessageDecl) (js sorted : List Judged) → IsFormed F → IsOrdered F
-    → IsClean F → slice_get F.messages place ≡ Some m → AreJudgedInOrder F place m.fields js → IsPermutation js sorted
+pub judged_of : (F : Joined) (place : ℕ) (m : MessageDecl) (js sorted : List Judged) → IsFormed F → IsOrdered F
+    → IsClean F → slice_get F.messages place ≡ Some m → AreJudgedInOrder F m.file place m.fields js → IsPermutation js sorted
     → IsNonDecreasingBy (λ (j : Judged). j.number) sorted → AreJudged F place m sorted
 judged_of F place m js sorted formed ordered clean at h moved ascends =
     let decl : Judged → FieldDecl = λ j. j.decl.now in

@@ -10,11 +10,14 @@ use Rattle.std.proofs.lemmas.List.Splits.{join_with_byte-slice_split}
 use Rattle.std.proofs.lemmas.Option.{slice_get_within, get_or_from_slice_get}
 use Rattle.mrpc_table.specs.Names.{is_name_start, is_name_byte, is_name_form, parts_of}
 use Rattle.proto_file.specs.Dot.{dot}
-use Rattle.proto_file.specs.Order.{IsFormed, IsFormedMessage, HasFullName}
+use Rattle.proto_file.specs.Order.{HasFullName, IsFormedMessage}
+use Rattle.proto_file.specs.Together.{IsFormed}
 use Rattle.proto_file.specs.declared.file.Word.{Word}
 use Rattle.proto_file.specs.declared.file.MessageDecl.{MessageDecl}
-use Rattle.proto_file.specs.declared.file.File.{File}
-use Rattle.schema_names.specs.Scopes.{text_of, package_parts, package_of, IsScope, of_file, of_message}
+use Rattle.proto_file.specs.Joined.{Joined, package_parts, package_in, package_at}
+use Rattle.proto_file.specs.declared.joined.Head.{Head}
+use Rattle.proto_file.specs.declared.joined.Home.{Home}
+use Rattle.schema_names.specs.Scopes.{text_of, IsScope, of_file, of_message}
 use Rattle.schema_resolve.specs.Placing.{behind}
 
 -- ---- names without dots
@@ -120,30 +123,34 @@ package_names_at : (word : Option Word) → IfSome word HasFullName → AreNames
 package_names_at None h = refl
 package_names_at (Some w) h = h
 
-pub package_names : (F : File) → IsFormed F → AreNames (package_of F)
-package_names F formed = package_names_at F.package formed.package_name
+package_names_in : (F : Joined) (k : ℕ) (head : Option Head) → IsFormed F → slice_get F.heads k ≡ head
+    → AreNames (package_in head)
+package_names_in F k None formed e = refl
+package_names_in F k (Some h) formed e = package_names_at h.package (formed.heads k h e).package_name
 
-pub message_formed : (F : File) (i : ℕ) (m : MessageDecl) → IsFormed F → slice_get F.messages i ≡ Some m
+pub package_names : (F : Joined) (k : ℕ) → IsFormed F → AreNames (package_at F k)
+package_names F k formed = package_names_in F k (slice_get F.heads k) formed refl
+
+pub message_formed : (F : Joined) (i : ℕ) (m : MessageDecl) → IsFormed F → slice_get F.messages i ≡ Some m
     → IsFormedMessage m
 message_formed F i m formed at =
     All-contains IsFormedMessage F.messages m formed.messages
     (i, slice_get_within F.messages i m at, get_or_from_slice_get F.messages i m m at)
 
-pub scope_names : {F : File} {place : Option ℕ} {scope : List (List ℕ)} → IsFormed F → IsScope F place scope
+pub scope_names : {F : Joined} {place : Home} {scope : List (List ℕ)} → IsFormed F → IsScope F place scope
     → AreNames scope
-scope_names {F} formed of_file = package_names F formed
+scope_names {F} formed (of_file k) = package_names F k formed
 scope_names {F} formed (of_message i m {outer} at up) =
     names_more outer m.name.name (scope_names formed up) (message_formed F i m formed at).name
 
-package_text_at : (word : Option Word) (name : List ℕ) → word ≡ None → name ≡ [] → name ≡ text_of (package_parts word)
-package_text_at None name e f = f
-package_text_at (Some w) name e f = absurd cc
+-- ---- the names of packages
 
-pub no_package : (F : File) (name : List ℕ) → F.package ≡ None → name ≡ [] → name ≡ text_of (package_of F)
-no_package F name e f = package_text_at F.package name e f
+pub no_package : (word : Option Word) (name : List ℕ) → word ≡ None → name ≡ [] → name ≡ text_of (package_parts word)
+no_package None name e f = f
+no_package (Some w) name e f = absurd cc
 
-pub a_package : (F : File) (w : Word) (name : List ℕ) → F.package ≡ Some w → name ≡ w.name
-    → name ≡ text_of (package_of F)
-a_package F w name e f =
+pub a_package : (word : Option Word) (w : Word) (name : List ℕ) → word ≡ Some w → name ≡ w.name
+    → name ≡ text_of (package_parts word)
+a_package word w name e f =
     subst (λ (p : Option Word). name ≡ text_of (package_parts p)) (sym e)
     (f ∙ sym (join_with_byte-slice_split dot w.name))

@@ -14,15 +14,16 @@ use Rattle.mrpc_table.specs.declared.table.Label.TheVariants as labels
 use Rattle.mrpc_table.specs.declared.table.Choices.{Choices}
 use Rattle.mrpc_table.specs.declared.table.Table.{Table}
 use Rattle.std.proofs.lemmas.List.Elements.{All-contains}
-use Rattle.proto_file.specs.Order.{IsFormed, IsFormedEnum}
+use Rattle.proto_file.specs.Order.{IsFormedEnum}
+use Rattle.proto_file.specs.Together.{IsFormed}
 use Rattle.proto_file.specs.declared.file.Span.{Span}
 use Rattle.proto_file.specs.declared.file.Word.{Word}
 use Rattle.proto_file.specs.declared.file.FieldLabel.{FieldLabel}
 use Rattle.proto_file.specs.declared.file.FieldLabel.TheVariants.{Plain, Optional, Repeated}
 use Rattle.proto_file.specs.declared.file.FieldDecl.{FieldDecl}
-use Rattle.proto_file.specs.declared.file.File.{File}
+use Rattle.proto_file.specs.Joined.{Joined}
 use Rattle.schema_names.specs.Scopes
-use Rattle.schema_names.specs.Scopes.{Sort, a_message, an_enum, is_type, Declares, Names, Finds, in_this, in_others, text_of, IsScope}
+use Rattle.schema_names.specs.Scopes.{Sort, a_message, an_enum, is_type, Declares, Names, Finds, text_of, IsScope}
 use Rattle.schema_names.specs.Numbers
 use Rattle.schema_names.specs.Numbers.{StandsAt}
 use Rattle.schema_names.specs.declared.named.Named.TheVariants as named
@@ -39,7 +40,7 @@ use Rattle.schema_resolve.proofs.MethodTables.{placed_at, name_read, message_nam
 
 -- ---- scalars
 
-scalar_known : (k : Kind) → is_scalar k ≡ true → scalar_of (kind_text no_table k) ≡ Some k
+pub scalar_known : (k : Kind) → is_scalar k ≡ true → scalar_of (kind_text no_table k) ≡ Some k
 scalar_known Int32 e = refl
 scalar_known Int64 e = refl
 scalar_known Uint32 e = refl
@@ -173,22 +174,22 @@ numeric_enum T k text (a_message_kind i q) e =
     absurd (message_not_enum (message_name T i) text (ap (kind_text T) (sym q) ∙ e))
 numeric_enum T k text (an_enum_kind i q) e = ap is_numeric q
 
-no_message_kind : (T : Table) (k : Kind) (files : List File) (scope : List (List ℕ)) (w : Word) (word : List ℕ)
-    (im pk : Bool) → Sorted k → HasType files scope w word im pk → im ≡ false → kind_text T k ≡ word
+no_message_kind : (T : Table) (k : Kind) (F : Joined) (file : ℕ) (scope : List (List ℕ)) (w : Word) (word : List ℕ)
+    (im pk : Bool) → Sorted k → HasType F file scope w word im pk → im ≡ false → kind_text T k ≡ word
     → IsMessageKind k → ⊥
-no_message_kind T k files scope w word im pk (a_scalar t) typ m e h = scalar_no_message k t h
-no_message_kind T k files scope w word im pk (an_enum_kind i q) typ m e h = subst IsMessageKind q h
-no_message_kind T k files scope w word im pk (a_message_kind i q) (scalar l s) m e h =
+no_message_kind T k F file scope w word im pk (a_scalar t) typ m e h = scalar_no_message k t h
+no_message_kind T k F file scope w word im pk (an_enum_kind i q) typ m e h = subst IsMessageKind q h
+no_message_kind T k F file scope w word im pk (a_message_kind i q) (scalar l s) m e h =
     not_message_word l (message_name T i) s.is_one (s.named ∙ sym e ∙ ap (kind_text T) q)
-no_message_kind T k files scope w word im pk (a_message_kind i q) (message full plain names) m e h = true≢false m
-no_message_kind T k files scope w word im pk (a_message_kind i q) (enum full plain names) m e h =
+no_message_kind T k F file scope w word im pk (a_message_kind i q) (message full plain names) m e h = true≢false m
+no_message_kind T k F file scope w word im pk (a_message_kind i q) (enum full plain names) m e h =
     message_not_enum (message_name T i) (text_of full) (ap (kind_text T) (sym q) ∙ e)
 
-numeric : (T : Table) (k : Kind) (files : List File) (scope : List (List ℕ)) (w : Word) (word : List ℕ)
-    (im pk : Bool) → HasType files scope w word im pk → pk ≡ true → kind_text T k ≡ word → is_numeric k ≡ true
-numeric T k files scope w word im pk (scalar l s) n e = numeric_scalar T k l w.name (sorted k) s n e
-numeric T k files scope w word im pk (message full plain names) n e = absurd (false≢true n)
-numeric T k files scope w word im pk (enum full plain names) n e = numeric_enum T k (text_of full) (sorted k) e
+numeric : (T : Table) (k : Kind) (F : Joined) (file : ℕ) (scope : List (List ℕ)) (w : Word) (word : List ℕ)
+    (im pk : Bool) → HasType F file scope w word im pk → pk ≡ true → kind_text T k ≡ word → is_numeric k ≡ true
+numeric T k F file scope w word im pk (scalar l s) n e = numeric_scalar T k l w.name (sorted k) s n e
+numeric T k F file scope w word im pk (message full plain names) n e = absurd (false≢true n)
+numeric T k F file scope w word im pk (enum full plain names) n e = numeric_enum T k (text_of full) (sorted k) e
 
 -- ---- labels
 
@@ -211,16 +212,16 @@ repeated_goes : (n : ℕ) (k : Kind) (b : Bool) → (b ≡ true → is_numeric k
 repeated_goes n k true h = h refl
 repeated_goes n k false h = tt
 
-single_goes : (T : Table) (n : ℕ) (k : Kind) (files : List File) (scope : List (List ℕ)) (w : Word) (word : List ℕ)
-    (l : FieldLabel) (packed : Option Bool) (im pk : Bool) → HasType files scope w word im pk → kind_text T k ≡ word
+single_goes : (T : Table) (n : ℕ) (k : Kind) (F : Joined) (file : ℕ) (scope : List (List ℕ)) (w : Word) (word : List ℕ)
+    (l : FieldLabel) (packed : Option Bool) (im pk : Bool) → HasType F file scope w word im pk → kind_text T k ≡ word
     → GoesWith n (single_label l packed im pk) k
-single_goes T n k files scope w word Plain packed im pk typ e = tt
-single_goes T n k files scope w word Optional packed true pk typ e = tt
-single_goes T n k files scope w word Optional packed false pk typ e =
-    no_message_kind T k files scope w word false pk (sorted k) typ refl e
-single_goes T n k files scope w word Repeated packed im pk typ e =
+single_goes T n k F file scope w word Plain packed im pk typ e = tt
+single_goes T n k F file scope w word Optional packed true pk typ e = tt
+single_goes T n k F file scope w word Optional packed false pk typ e =
+    no_message_kind T k F file scope w word false pk (sorted k) typ refl e
+single_goes T n k F file scope w word Repeated packed im pk typ e =
     repeated_goes n k (pk && isnt_false packed)
-    (λ h. numeric T k files scope w word im pk typ (and_parts pk (isnt_false packed) h).0 e)
+    (λ h. numeric T k F file scope w word im pk typ (and_parts pk (isnt_false packed) h).0 e)
 
 -- what the label of a form is: that of its oneof, or one that goes with its kind
 pub record LabelParts (T : Table) (n : ℕ) (k : Kind) (oneof : Option ℕ) (label : Label) : Type 0 where
@@ -235,13 +236,13 @@ parts_at T n k (Some i) label h g = record {
   some = λ o e. ap labels.Member (same_Some i o e);
 }
 
-pub label_parts : (T : Table) (n : ℕ) (k : Kind) (files : List File) (scope : List (List ℕ)) (f : FieldDecl)
-    (label : Label) (word : List ℕ) → HasForm files scope f label word → kind_text T k ≡ word
+pub label_parts : (T : Table) (n : ℕ) (k : Kind) (F : Joined) (file : ℕ) (scope : List (List ℕ)) (f : FieldDecl)
+    (label : Label) (word : List ℕ) → HasForm F file scope f label word → kind_text T k ≡ word
     → LabelParts T n k f.oneof label
-label_parts T n k files scope f label word (single w text im pk is typ) e =
+label_parts T n k F file scope f label word (single w text im pk is typ) e =
     parts_at T n k f.oneof (single_label f.label f.packed im pk) (single_no_member f.label f.packed im pk)
-    (single_goes T n k files scope w text f.label f.packed im pk typ e)
-label_parts T n k files scope f label word (a_map key value l text im pk is plain none s keyed typ) e = record {
+    (single_goes T n k F file scope w text f.label f.packed im pk typ e)
+label_parts T n k F file scope f label word (a_map key value l text im pk is plain none s keyed typ) e = record {
   none = λ d. (tt, keyed);
   some = λ o d. absurd (none-some o (sym none ∙ d));
 }
@@ -268,7 +269,7 @@ text_some_at (x ∷ xs) l h e =
     let f : s.0 ∷ s.1 ≡ [] = sym s.2 ∙ e in
     cc
 
-declared_some : {F : File} {sort : Sort} {full : List (List ℕ)} {span : Span} → IsFormed F → Declares F sort full span
+declared_some : {F : Joined} {k : ℕ} {sort : Sort} {full : List (List ℕ)} {span : Span} → IsFormed F → Declares F k sort full span
     → is_type sort ≡ true → text_of full ≡ [] → ⊥
 declared_some {F} formed (Scopes.message m {outer} c up) typ e =
     text_some_at (outer ++ m.name.name ∷ []) (omega (arith, length-append outer (m.name.name ∷ [])))
@@ -284,37 +285,36 @@ declared_some formed (Scopes.field m f c d up) typ e = false≢true typ
 declared_some formed (Scopes.oneof m o c d up) typ e = false≢true typ
 declared_some formed (Scopes.rpc s r c d) typ e = false≢true typ
 
-found_some : {F : File} {sort : Sort} {full : List (List ℕ)} → IsFormed F → Finds (F ∷ []) sort full
+found_some : {F : Joined} {file : ℕ} {sort : Sort} {full : List (List ℕ)} → IsFormed F → Finds F file sort full
     → text_of full ≡ [] → ⊥
-found_some formed (in_this h) e = declared_some formed h.declared h.names_type e
-found_some formed (in_others none rest) e = elim rest [ ]
+found_some formed h e = declared_some formed h.declared h.names_type e
 
-scalar_word : (F : File) (scope : List (List ℕ)) (w : Word) (word : List ℕ) (im pk : Bool) (k : Kind) → IsFormed F
-    → Sorted k → HasType (F ∷ []) scope w word im pk → word ≡ kind_text no_table k → is_scalar k ≡ true
-scalar_word F scope w word im pk k formed (a_scalar t) typ e = t
-scalar_word F scope w word im pk k formed (a_message_kind i q) (scalar l s) e =
+scalar_word : (F : Joined) (file : ℕ) (scope : List (List ℕ)) (w : Word) (word : List ℕ) (im pk : Bool) (k : Kind) → IsFormed F
+    → Sorted k → HasType F file scope w word im pk → word ≡ kind_text no_table k → is_scalar k ≡ true
+scalar_word F file scope w word im pk k formed (a_scalar t) typ e = t
+scalar_word F file scope w word im pk k formed (a_message_kind i q) (scalar l s) e =
     absurd (not_message_word l [] s.is_one (s.named ∙ e ∙ ap (kind_text no_table) q))
-scalar_word F scope w word im pk k formed (a_message_kind i q) (message full plain names) e =
+scalar_word F file scope w word im pk k formed (a_message_kind i q) (message full plain names) e =
     absurd (found_some formed names.finds
     (append_cancel_left (codes "message:") (text_of full) [] (e ∙ ap (kind_text no_table) q)))
-scalar_word F scope w word im pk k formed (a_message_kind i q) (enum full plain names) e =
+scalar_word F file scope w word im pk k formed (a_message_kind i q) (enum full plain names) e =
     absurd (message_not_enum [] (text_of full) (sym (e ∙ ap (kind_text no_table) q)))
-scalar_word F scope w word im pk k formed (an_enum_kind i q) (scalar l s) e =
+scalar_word F file scope w word im pk k formed (an_enum_kind i q) (scalar l s) e =
     absurd (not_enum_word l [] s.is_one (s.named ∙ e ∙ ap (kind_text no_table) q))
-scalar_word F scope w word im pk k formed (an_enum_kind i q) (message full plain names) e =
+scalar_word F file scope w word im pk k formed (an_enum_kind i q) (message full plain names) e =
     absurd (message_not_enum (text_of full) [] (e ∙ ap (kind_text no_table) q))
-scalar_word F scope w word im pk k formed (an_enum_kind i q) (enum full plain names) e =
+scalar_word F file scope w word im pk k formed (an_enum_kind i q) (enum full plain names) e =
     absurd (found_some formed names.finds
     (append_cancel_left (codes "enum:") (text_of full) [] (e ∙ ap (kind_text no_table) q)))
 
-scalar_form : (F : File) (scope : List (List ℕ)) (f : FieldDecl) (label : Label) (word : List ℕ) (k : Kind)
-    → IsFormed F → HasForm (F ∷ []) scope f label word → word ≡ kind_text no_table k → is_scalar k ≡ true
-scalar_form F scope f label word k formed (single w text im pk is typ) e =
-    scalar_word F scope w text im pk k formed (sorted k) typ e
-scalar_form F scope f label word k formed (a_map key value l text im pk is plain none s keyed typ) e =
-    scalar_word F scope value text im pk k formed (sorted k) typ e
+scalar_form : (F : Joined) (file : ℕ) (scope : List (List ℕ)) (f : FieldDecl) (label : Label) (word : List ℕ) (k : Kind)
+    → IsFormed F → HasForm F file scope f label word → word ≡ kind_text no_table k → is_scalar k ≡ true
+scalar_form F file scope f label word k formed (single w text im pk is typ) e =
+    scalar_word F file scope w text im pk k formed (sorted k) typ e
+scalar_form F file scope f label word k formed (a_map key value l text im pk is plain none s keyed typ) e =
+    scalar_word F file scope value text im pk k formed (sorted k) typ e
 
-message_kind : (F : File) (p : Plan) (T : Table) (i : ℕ) (full : List (List ℕ)) (span : Span) → IsPlan F p
+message_kind : (F : Joined) (p : Plan) (T : Table) (i : ℕ) (full : List (List ℕ)) (span : Span) → IsPlan F p
     → HasNames p T → StandsAt F (named.Message i) full span
     → (kind_text T (kind_in p (Named (named.Message i))) ≡ codes "message:" ++ text_of full)
     × IsKnown T (kind_in p (Named (named.Message i)))
@@ -327,7 +327,7 @@ message_kind F p T i full span plan has stands =
       subst (λ (j : ℕ). j < length T.messages) (sym place) r.1,
     )
 
-enum_kind : (F : File) (p : Plan) (T : Table) (i : ℕ) (full : List (List ℕ)) (span : Span) → IsPlan F p
+enum_kind : (F : Joined) (p : Plan) (T : Table) (i : ℕ) (full : List (List ℕ)) (span : Span) → IsPlan F p
     → HasNames p T → StandsAt F (named.Enum i) full span
     → (kind_text T (kind_in p (Named (named.Enum i))) ≡ codes "enum:" ++ text_of full)
     × IsKnown T (kind_in p (Named (named.Enum i)))
@@ -346,24 +346,24 @@ enum_kind F p T i full span plan has (Numbers.enum j x {outer} there up) =
     )
 
 -- the kind of a form in a table
-pub kind_word : (F : File) (p : Plan) (T : Table) (scope : List (List ℕ)) (f : FieldDecl) (label : Label)
+pub kind_word : (F : Joined) (file : ℕ) (p : Plan) (T : Table) (scope : List (List ℕ)) (f : FieldDecl) (label : Label)
     (type_of : TypeOf) (word : List ℕ) → IsFormed F → IsPlan F p → HasNames p T → IsWordOf F type_of word
-    → HasForm (F ∷ []) scope f label word → (kind_text T (kind_in p type_of) ≡ word) × IsKnown T (kind_in p type_of)
-kind_word F p T scope f label (Scalar k) word formed plan has is form =
-    let t = scalar_form F scope f label word k formed form is in
+    → HasForm F file scope f label word → (kind_text T (kind_in p type_of) ≡ word) × IsKnown T (kind_in p type_of)
+kind_word F file p T scope f label (Scalar k) word formed plan has is form =
+    let t = scalar_form F file scope f label word k formed form is in
     (scalar_text T k t ∙ sym is, scalar_kind T k t)
-kind_word F p T scope f label (Named (named.Message i)) word formed plan has is form =
+kind_word F file p T scope f label (Named (named.Message i)) word formed plan has is form =
     let r = message_kind F p T i is.0 is.1 plan has is.2 in
     (r.0 ∙ sym is.3, r.1)
-kind_word F p T scope f label (Named (named.Enum i)) word formed plan has is form =
+kind_word F file p T scope f label (Named (named.Enum i)) word formed plan has is form =
     let r = enum_kind F p T i is.0 is.1 plan has is.2 in
     (r.0 ∙ sym is.3, r.1)
 
-enum_within : {F : File} {i : ℕ} {full : List (List ℕ)} {span : Span} → StandsAt F (named.Enum i) full span
+enum_within : {F : Joined} {i : ℕ} {full : List (List ℕ)} {span : Span} → StandsAt F (named.Enum i) full span
     → i < length F.enums
 enum_within {F} (Numbers.enum j x there up) = slice_get_within F.enums j x there
 
-pub in_plan : (F : File) (p : Plan) (type_of : TypeOf) (word : List ℕ) → IsPlan F p → IsWordOf F type_of word
+pub in_plan : (F : Joined) (p : Plan) (type_of : TypeOf) (word : List ℕ) → IsPlan F p → IsWordOf F type_of word
     → IsInPlan p type_of
 in_plan F p (Scalar k) word plan is = tt
 in_plan F p (Named (named.Message i)) word plan is =

@@ -9,10 +9,12 @@ mod MessageExists
 mod MessageTables
 mod MethodTables
 mod NotRefuted
+mod OneOffence
 mod OneTable
 mod OneofTables
 mod Orders
 mod PlanExists
+mod Rows
 mod Sorting
 mod TableExists
 mod TableParts

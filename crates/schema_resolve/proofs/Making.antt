@@ -2,7 +2,7 @@
 use Rattle.std.proofs.Common.{◌≡◌, ℕ, ◌+◌, ◌<◌, ◌≤◌, List, [], ◌∷◌, ◌++◌, length, get_or, take, sym, ap, subst, arith}
 use Rattle.std.proofs.lemmas.List.{take_more, take_all}
 use Rattle.std.proofs.lemmas.List.Elements.{All-get_or}
-use Rattle.proto_file.specs.declared.file.File.{File}
+use Rattle.proto_file.specs.Joined.{Joined}
 use Rattle.schema_offences.specs.Those.{AreThoseInOrder, none}
 use Rattle.schema_resolve.specs.Placing.{IsPlan}
 use Rattle.schema_resolve.specs.declared.plan.Plan.{Plan}
@@ -24,7 +24,7 @@ in_order_end R xs zs i ys e l h =
     subst (λ (us : List ℕ). AreThoseInOrder R us ys) e
     (subst (λ (us : List ℕ). AreThoseInOrder R us ys) (take_all i xs l) h)
 
-pub within_messages : (F : File) (p : Plan) (xs : List ℕ) (i : ℕ) → IsPlan F p → xs ≡ p.messages.order.items
+pub within_messages : (F : Joined) (p : Plan) (xs : List ℕ) (i : ℕ) → IsPlan F p → xs ≡ p.messages.order.items
     → i < length xs → get_or xs i 0 < length F.messages
 within_messages F p xs i plan e l =
     let h : get_or p.messages.order.items i 0 < length p.messages.names.items =
@@ -32,7 +32,7 @@ within_messages F p xs i plan e l =
     plan.message_places.order.within in
     omega (arith, plan.all_messages, ap (λ (zs : List ℕ). get_or zs i 0) e)
 
-pub within_enums : (F : File) (p : Plan) (xs : List ℕ) (i : ℕ) → IsPlan F p → xs ≡ p.enums.order.items
+pub within_enums : (F : Joined) (p : Plan) (xs : List ℕ) (i : ℕ) → IsPlan F p → xs ≡ p.enums.order.items
     → i < length xs → get_or xs i 0 < length F.enums
 within_enums F p xs i plan e l =
     let h : get_or p.enums.order.items i 0 < length p.enums.names.items =

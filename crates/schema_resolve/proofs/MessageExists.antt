@@ -1,4 +1,4 @@
--- Each message of a file against which nothing stands is one of a table.
+-- Each message of files against which nothing stands is one of a table.
 use Rattle.std.proofs.Common.{◌≡◌, ◌⊎◌, inl, inr, ℕ, zero, suc, ◌<◌, ◌≤◌, ◌^◌, Bool, List, [], ◌∷◌, ◌++◌, length, get_or, take, Option, Some, None, refl, sym, ap, ◌∙◌, subst, arith, add-one}
 use Rattle.std.specs.Prelude.{Contains, slice_get}
 use Rattle.std.specs.List.{remove}
@@ -12,16 +12,17 @@ use Rattle.mrpc_table.specs.declared.table.Label.{Label}
 use Rattle.mrpc_table.specs.declared.table.Label.TheVariants.{Member}
 use Rattle.mrpc_table.specs.declared.table.Field.{Field}
 use Rattle.mrpc_table.specs.declared.table.Message.{Message}
-use Rattle.proto_file.specs.Order.{IsFormed, IsOrdered, IsPlaceBelow}
+use Rattle.proto_file.specs.Order.{IsPlaceBelow}
+use Rattle.proto_file.specs.Together.{IsFormed, IsOrdered}
 use Rattle.proto_file.specs.declared.file.Word.{Word}
 use Rattle.proto_file.specs.declared.file.FieldDecl.{FieldDecl}
 use Rattle.proto_file.specs.declared.file.MessageDecl.{MessageDecl}
-use Rattle.proto_file.specs.declared.file.File.{File}
+use Rattle.proto_file.specs.Joined.{Joined}
 use Rattle.proto_file.specs.declared.file.Span.{Span}
 use Rattle.schema_names.specs.Scopes
-use Rattle.schema_names.specs.Scopes.{IsScope, Declares, Finds, in_this, in_others, a_message, an_enum}
+use Rattle.schema_names.specs.Scopes.{IsScope, Declares, Finds, a_message, an_enum}
 use Rattle.schema_names.specs.Numbers
-use Rattle.schema_names.specs.Numbers.{StandsAt}
+use Rattle.schema_names.specs.Numbers.{StandsAt, IsOfFile}
 use Rattle.schema_names.specs.declared.named.Named.TheVariants as named
 use Rattle.schema_offences.specs.Those.{AreThoseInOrder}
 use Rattle.schema_offences.specs.Types.{HasType, scalar, message, enum, HasForm, single, a_map}
@@ -47,45 +48,45 @@ use Rattle.schema_resolve.proofs.PlanExists.{vec_of, ref_of}
 
 -- ---- types and forms
 
-pub message_stands : {F : File} {full : List (List ℕ)} {span : Span} → Declares F a_message full span
-    → (i : ℕ) × StandsAt F (named.Message i) full span
-message_stands {F} (Scopes.message m c up) = (c.0, Numbers.message c.0 m (at_in F.messages m c) up)
+pub message_stands : {F : Joined} {file : ℕ} {full : List (List ℕ)} {span : Span} → Declares F file a_message full span
+    → (i : ℕ) × StandsAt F (named.Message i) full span × IsOfFile F (named.Message i) file
+message_stands {F} (Scopes.message m c up) =
+    let at = at_in F.messages m c in
+    (c.0, Numbers.message c.0 m at up, Numbers.message_of c.0 m at)
 
-enum_stands : {F : File} {full : List (List ℕ)} {span : Span} → Declares F an_enum full span
+enum_stands : {F : Joined} {file : ℕ} {full : List (List ℕ)} {span : Span} → Declares F file an_enum full span
     → (i : ℕ) × StandsAt F (named.Enum i) full span
 enum_stands {F} (Scopes.enum e c up) = (c.0, Numbers.enum c.0 e (at_in F.enums e c) up)
 
-found_message : {F : File} {full : List (List ℕ)} → Finds (F ∷ []) a_message full
+found_message : {F : Joined} {file : ℕ} {full : List (List ℕ)} → Finds F file a_message full
     → (i : ℕ) × (span : Span) × StandsAt F (named.Message i) full span
-found_message (in_this h) = let s = message_stands h.declared in (s.0, h.span, s.1)
-found_message (in_others none rest) = elim rest [ ]
+found_message h = let s = message_stands h.declared in (s.0, h.span, s.1)
 
-found_enum : {F : File} {full : List (List ℕ)} → Finds (F ∷ []) an_enum full
+found_enum : {F : Joined} {file : ℕ} {full : List (List ℕ)} → Finds F file an_enum full
     → (i : ℕ) × (span : Span) × StandsAt F (named.Enum i) full span
-found_enum (in_this h) = let s = enum_stands h.declared in (s.0, h.span, s.1)
-found_enum (in_others none rest) = elim rest [ ]
+found_enum h = let s = enum_stands h.declared in (s.0, h.span, s.1)
 
 -- what a type's word is of: a scalar, or a message or an enum by its place
-type_kept : (F : File) (scope : List (List ℕ)) (w : Word) (word : List ℕ) (is_message packable : Bool)
-    → HasType (F ∷ []) scope w word is_message packable → (type_of : TypeOf) × IsWordOf F type_of word
-type_kept F scope w word im pk (scalar k s) = (Scalar k, sym s.named)
-type_kept F scope w word im pk (message full plain names) =
+type_kept : (F : Joined) (file : ℕ) (scope : List (List ℕ)) (w : Word) (word : List ℕ) (is_message packable : Bool)
+    → HasType F file scope w word is_message packable → (type_of : TypeOf) × IsWordOf F type_of word
+type_kept F file scope w word im pk (scalar k s) = (Scalar k, sym s.named)
+type_kept F file scope w word im pk (message full plain names) =
     let s = found_message names.finds in
     (Named (named.Message s.0), (full, s.1, s.2, refl))
-type_kept F scope w word im pk (enum full plain names) =
+type_kept F file scope w word im pk (enum full plain names) =
     let s = found_enum names.finds in
     (Named (named.Enum s.0), (full, s.1, s.2, refl))
 
-form_type : (F : File) (scope : List (List ℕ)) (f : FieldDecl) (label : Label) (word : List ℕ)
-    → HasForm (F ∷ []) scope f label word → (type_of : TypeOf) × IsWordOf F type_of word
-form_type F scope f label word (single w text im pk is typ) = type_kept F scope w text im pk typ
-form_type F scope f label word (a_map key value k text im pk is plain alone s keyed typ) =
-    type_kept F scope value text im pk typ
+form_type : (F : Joined) (file : ℕ) (scope : List (List ℕ)) (f : FieldDecl) (label : Label) (word : List ℕ)
+    → HasForm F file scope f label word → (type_of : TypeOf) × IsWordOf F type_of word
+form_type F file scope f label word (single w text im pk is typ) = type_kept F file scope w text im pk typ
+form_type F file scope f label word (a_map key value k text im pk is plain alone s keyed typ) =
+    type_kept F file scope value text im pk typ
 
-form_kept : (F : File) (scope : List (List ℕ)) (f : FieldDecl) (label : Label) (word : List ℕ)
-    → HasForm (F ∷ []) scope f label word → (form : Form) × IsForm F scope f form
-form_kept F scope f label word has =
-    let t = form_type F scope f label word has in (
+form_kept : (F : Joined) (file : ℕ) (scope : List (List ℕ)) (f : FieldDecl) (label : Label) (word : List ℕ)
+    → HasForm F file scope f label word → (form : Form) × IsForm F file scope f form
+form_kept F file scope f label word has =
+    let t = form_type F file scope f label word has in (
       record { label = label; oneof = None; type_of = t.0 },
       record { word = word; of_type = t.1; has = has },
     )
@@ -93,32 +94,33 @@ form_kept F scope f label word has =
 -- ---- fields
 
 -- the field of a clean message, with its number and its form
-judged_exists : (F : File) (place : ℕ) (m : MessageDecl) (f : FieldDecl) → IsFormed F → IsClean F
-    → slice_get F.messages place ≡ Some m → Contains m.fields f → IsNotRefuted ((j : Judged) × IsJudged F place f j)
+judged_exists : (F : Joined) (place : ℕ) (m : MessageDecl) (f : FieldDecl) → IsFormed F → IsClean F
+    → slice_get F.messages place ≡ Some m → Contains m.fields f
+    → IsNotRefuted ((j : Judged) × IsJudged F m.file place f j)
 judged_exists F place m f formed clean at field never =
     let scope = scope_at formed place (slice_get_within F.messages place m at) in
     has_number F place m scope.0 f clean at scope.1 field
     (λ n. has_form F place m scope.0 f clean at scope.1 field
     (λ label word has.
-    let form = form_kept F scope.0 f label word has in
+    let form = form_kept F m.file scope.0 f label word has in
     never (
       record { number = n.0; form = form.0; decl = ref_of f },
       record {
         decl_is = refl;
         number_is = n.1;
         in_range = n.2;
-        form_is = λ s up. subst (λ (t : List (List ℕ)). IsForm F t f form.0) (one_scope scope.1 up) form.1;
+        form_is = λ s up. subst (λ (t : List (List ℕ)). IsForm F m.file t f form.0) (one_scope scope.1 up) form.1;
       },
     )))
 
-judged_in_order : (F : File) (place : ℕ) (fs : List FieldDecl) (js : List Judged)
-    → AreThoseInOrder (IsJudged F place) fs js → AreJudgedInOrder F place fs js
-judged_in_order F place fs js all = record {
-  decls = sym (in_order_map (IsJudged F place) (λ (f : FieldDecl). f) (λ (j : Judged). j.decl.now)
+judged_in_order : (F : Joined) (file place : ℕ) (fs : List FieldDecl) (js : List Judged)
+    → AreThoseInOrder (IsJudged F file place) fs js → AreJudgedInOrder F file place fs js
+judged_in_order F file place fs js all = record {
+  decls = sym (in_order_map (IsJudged F file place) (λ (f : FieldDecl). f) (λ (j : Judged). j.decl.now)
       (λ f j h. sym h.decl_is) all) ∙ map-id fs;
   each = λ j c.
-      let f = in_order_back (IsJudged F place) all c.0 j (at_in js j c) in
-      subst (λ (g : FieldDecl). IsJudged F place g j) (sym f.2.decl_is) f.2;
+      let f = in_order_back (IsJudged F file place) all c.0 j (at_in js j c) in
+      subst (λ (g : FieldDecl). IsJudged F file place g j) (sym f.2.decl_is) f.2;
 }
 
 either_number : (j k : Judged) → (j.number ≤ k.number) ⊎ (k.number ≤ j.number)
@@ -127,13 +129,13 @@ either_number j k = elim (cases_lt j.number k.number) [
   | inr g ↦ inr g
 ]
 
-judged_sorted : (F : File) (place : ℕ) (m : MessageDecl) (js : List Judged) → IsFormed F → IsOrdered F → IsClean F
-    → slice_get F.messages place ≡ Some m → AreThoseInOrder (IsJudged F place) m.fields js
+judged_sorted : (F : Joined) (place : ℕ) (m : MessageDecl) (js : List Judged) → IsFormed F → IsOrdered F → IsClean F
+    → slice_get F.messages place ≡ Some m → AreThoseInOrder (IsJudged F m.file place) m.fields js
     → (sorted : List Judged) × AreJudged F place m sorted
 judged_sorted F place m js formed ordered clean at all =
     let s = in_order (λ (j k : Judged). j.number ≤ k.number) either_number js in (
       s.list,
-      judged_of F place m js s.list formed ordered clean at (judged_in_order F place m.fields js all) s.moved
+      judged_of F place m js s.list formed ordered clean at (judged_in_order F m.file place m.fields js all) s.moved
           (ascends_not_decreasing (λ (j : Judged). j.number) s.list s.ascends),
     )
 
@@ -164,7 +166,7 @@ no_more_oneofs (suc n) fs h =
     ]) in
     omega (arith, length_permutation fs (f.0 ∷ rest) moved)
 
-few_oneofs : (F : File) (place : ℕ) (m : MessageDecl) → IsFormed F → IsClean F → slice_get F.messages place ≡ Some m
+few_oneofs : (F : Joined) (place : ℕ) (m : MessageDecl) → IsFormed F → IsClean F → slice_get F.messages place ≡ Some m
     → length m.oneofs ≤ MAX_FIELDS
 few_oneofs F place m formed clean at =
     omega (
@@ -262,7 +264,7 @@ record FieldsMade (p : Plan) (words : List Word) (js : List Judged) (i : ℕ) : 
   made : AreMade p words (take i js) oneofs fields
   few : length oneofs.names ≤ i
 
-module _ (F : File) (p : Plan) (place : ℕ) (m : MessageDecl) (js : List Judged) (formed : IsFormed F)
+module _ (F : Joined) (p : Plan) (place : ℕ) (m : MessageDecl) (js : List Judged) (formed : IsFormed F)
     (clean : IsClean F) (at : slice_get F.messages place ≡ Some m) (judged : AreJudged F place m js) where
   fields_made : (i : ℕ) → i ≤ length js → FieldsMade p m.oneofs js i
   fields_made zero l =
@@ -277,7 +279,8 @@ module _ (F : File) (p : Plan) (place : ℕ) (m : MessageDecl) (js : List Judged
       (judged_oneof F place m j.0.decl.now formed at is.1) in
       let more : List Field = rest.fields ++ next.field ∷ [] in
       let h = made_more p m.oneofs js i j.0 rest.oneofs next.new next.field rest.fields more j.1
-      (judged_plain F place j.0 formed (slice_get_within F.messages place m at) is.0) next.is refl rest.made rest.few in
+      (judged_plain F m.file place j.0 formed (slice_get_within F.messages place m at) is.0) next.is refl rest.made
+      rest.few in
       record {
         oneofs = next.new;
         fields = more;
@@ -285,7 +288,7 @@ module _ (F : File) (p : Plan) (place : ℕ) (m : MessageDecl) (js : List Judged
         few = omega (arith, h.1);
       }
 
-message_of : (F : File) (p : Plan) (place : ℕ) (m : MessageDecl) (js : List Judged) → IsFormed F → IsOrdered F
+message_of : (F : Joined) (p : Plan) (place : ℕ) (m : MessageDecl) (js : List Judged) → IsFormed F → IsOrdered F
     → IsClean F → IsPlan F p → slice_get F.messages place ≡ Some m → AreJudged F place m js
     → (t : Message) × IsMessageAt F p place t
 message_of F p place m js formed ordered clean plan at judged =
@@ -298,11 +301,11 @@ message_of F p place m js formed ordered clean plan at judged =
       message_at F p place m js all.oneofs all.fields name formed ordered clean plan at judged made refl,
     )
 
-pub message_exists : (F : File) (p : Plan) (place : ℕ) → IsFormed F → IsOrdered F → IsClean F → IsPlan F p
+pub message_exists : (F : Joined) (p : Plan) (place : ℕ) → IsFormed F → IsOrdered F → IsClean F → IsPlan F p
     → place < length F.messages → IsNotRefuted ((t : Message) × IsMessageAt F p place t)
 message_exists F p place formed ordered clean plan l never =
     let m = some_at F.messages place l in
-    all_chosen (IsJudged F place) m.0.fields (λ f c. judged_exists F place m.0 f formed clean m.1 c)
+    all_chosen (IsJudged F m.0.file place) m.0.fields (λ f c. judged_exists F place m.0 f formed clean m.1 c)
     (λ js.
     let sorted = judged_sorted F place m.0 js.0 formed ordered clean m.1 js.1 in
     never (message_of F p place m.0 sorted.0 formed ordered clean plan m.1 sorted.1))

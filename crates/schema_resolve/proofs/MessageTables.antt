@@ -16,20 +16,20 @@ use Rattle.mrpc_table.specs.declared.table.Label.TheVariants.{Plain, Optional, R
 use Rattle.mrpc_table.specs.declared.table.Field.{Field}
 use Rattle.mrpc_table.specs.declared.table.Message.{Message}
 use Rattle.mrpc_table.specs.declared.table.Table.{Table}
-use Rattle.proto_file.specs.Order
-use Rattle.proto_file.specs.Order.{IsFormed, IsFormedMessage, IsFormedField, IsOrdered, IsPlaceBelow, HasName, oneof_decl}
+use Rattle.proto_file.specs.Order.{HasName, IsFormedField, IsPlaceBelow}
+use Rattle.proto_file.specs.Together.{IsFormed, IsOrdered, oneof_decl}
 use Rattle.proto_file.specs.declared.file.Word.{Word}
 use Rattle.proto_file.specs.declared.file.FieldDecl.{FieldDecl}
 use Rattle.proto_file.specs.declared.file.MessageDecl.{MessageDecl}
-use Rattle.proto_file.specs.declared.file.File.{File}
+use Rattle.proto_file.specs.Joined.{Joined, home_of}
+use Rattle.proto_file.specs.declared.joined.Home.TheVariants as home
+use Rattle.proto_file.specs.Together
 use Rattle.schema_names.specs.Scopes
 use Rattle.schema_names.specs.Scopes.{a_message, no_type, text_of, IsScope, of_message}
-use Rattle.schema_offences.specs.Sources.{alone}
 use Rattle.schema_offences.specs.Those.{AreThoseInOrder, none, next}
 use Rattle.schema_offences.specs.Types.{single_label, label_in, HasForm, single, a_map}
 use Rattle.schema_offences.specs.Members.{long_message, of_name, of_oneof, name_long, name_too_many}
 use Rattle.schema_offences.specs.Offences
-use Rattle.schema_offences.specs.Offences.{offends}
 use Rattle.schema_offences.specs.declared.reason.ResolveReason.TheVariants.{Limit}
 use Rattle.schema_resolve.specs.Tables.{IsFieldOf, IsMessageOf}
 use Rattle.schema_resolve.specs.Resolving.{IsClean}
@@ -243,21 +243,21 @@ labelled_at T words names (Some i) form_oneof form label k parts is =
           (slice_get_within names is.0 is.2.word.name is.2.named);
     }
 
-record FieldParts (F : File) (T : Table) (scope : List (List ℕ)) (m : MessageDecl) (t : Message) (f : FieldDecl)
+record FieldParts (F : Joined) (T : Table) (scope : List (List ℕ)) (m : MessageDecl) (t : Message) (f : FieldDecl)
     (g : Field) : Type 0 where
-  of_field : IsFieldOf T (alone F) scope m t f g
+  of_field : IsFieldOf T F scope m t f g
   goes : GoesWith (length t.oneofs) g.label g.kind
   known : IsKnown T g.kind
 
-field_of : (F : File) (p : Plan) (T : Table) (place : ℕ) (m : MessageDecl) (scope : List (List ℕ)) (j : Judged)
-    (g : Field) (t : Message) → IsFormed F → IsPlan F p → HasNames p T → IsScope F (Some place) scope
-    → IsJudged F place j.decl.now j → IsMade p m.oneofs t.oneofs j g → FieldParts F T scope m t j.decl.now g
+field_of : (F : Joined) (p : Plan) (T : Table) (place : ℕ) (m : MessageDecl) (scope : List (List ℕ)) (j : Judged)
+    (g : Field) (t : Message) → IsFormed F → IsPlan F p → HasNames p T → IsScope F (home.Message place) scope
+    → IsJudged F m.file place j.decl.now j → IsMade p m.oneofs t.oneofs j g → FieldParts F T scope m t j.decl.now g
 field_of F p T place m scope j g t formed plan has up is made =
     let f = is.form_is scope up in
     let L : Label = label_in j.form.oneof j.form.label in
     let K : Kind = kind_in p j.form.type_of in
-    let kw = kind_word F p T scope j.decl.now L j.form.type_of f.word formed plan has f.of_type f.has in
-    let parts = label_parts T (length t.oneofs) K (F ∷ []) scope j.decl.now L f.word f.has kw.0 in
+    let kw = kind_word F m.file p T scope j.decl.now L j.form.type_of f.word formed plan has f.of_type f.has in
+    let parts = label_parts T (length t.oneofs) K F m.file scope j.decl.now L f.word f.has kw.0 in
     let l = labelled_at T m.oneofs t.oneofs j.decl.now.oneof j.form.oneof j.form.label g.label K parts made.label_is in
     let known : IsKnown T g.kind = subst (IsKnown T) (sym made.kind_is) kw.1 in record {
       of_field = record {
@@ -280,75 +280,75 @@ plain_at : (o : Option ℕ) (l : Label) → IsNoMember l → o ≡ None → IsNo
 plain_at None l h e = h
 plain_at (Some i) l h e = absurd (none-some i (sym e))
 
-form_plain : (files : List File) (scope : List (List ℕ)) (f : FieldDecl) (label : Label) (word : List ℕ)
-    → HasForm files scope f label word → f.oneof ≡ None → IsNoMember label
-form_plain files scope f label word (single w text im pk is typ) e =
+form_plain : (F : Joined) (file : ℕ) (scope : List (List ℕ)) (f : FieldDecl) (label : Label) (word : List ℕ)
+    → HasForm F file scope f label word → f.oneof ≡ None → IsNoMember label
+form_plain F file scope f label word (single w text im pk is typ) e =
     plain_at f.oneof (single_label f.label f.packed im pk) (single_no_member f.label f.packed im pk) e
-form_plain files scope f label word (a_map key value l text im pk is plain alone_here s keyed typ) e = tt
+form_plain F file scope f label word (a_map key value l text im pk is plain alone_here s keyed typ) e = tt
 
-pub judged_plain : (F : File) (place : ℕ) (j : Judged) → IsFormed F → place < length F.messages
-    → IsJudged F place j.decl.now j → j.decl.now.oneof ≡ None → IsNoMember j.form.label
-judged_plain F place j formed l is e =
+pub judged_plain : (F : Joined) (file place : ℕ) (j : Judged) → IsFormed F → place < length F.messages
+    → IsJudged F file place j.decl.now j → j.decl.now.oneof ≡ None → IsNoMember j.form.label
+judged_plain F file place j formed l is e =
     let scope = scope_at formed place l in
     let f = is.form_is scope.0 scope.1 in
     no_member_label j.form.oneof j.form.label
-    (form_plain (F ∷ []) scope.0 j.decl.now (label_in j.form.oneof j.form.label) f.word f.has e)
+    (form_plain F file scope.0 j.decl.now (label_in j.form.oneof j.form.label) f.word f.has e)
 
-pub judged_known : (F : File) (p : Plan) (place : ℕ) (j : Judged) → IsFormed F → IsPlan F p
-    → place < length F.messages → IsJudged F place j.decl.now j → IsInPlan p j.form.type_of
-judged_known F p place j formed plan l is =
+pub judged_known : (F : Joined) (p : Plan) (file place : ℕ) (j : Judged) → IsFormed F → IsPlan F p
+    → place < length F.messages → IsJudged F file place j.decl.now j → IsInPlan p j.form.type_of
+judged_known F p file place j formed plan l is =
     let scope = scope_at formed place l in
     let f = is.form_is scope.0 scope.1 in
     in_plan F p j.form.type_of f.word plan f.of_type
 
-pub judged_oneof : (F : File) (place : ℕ) (m : MessageDecl) (f : FieldDecl) → IsFormed F
+pub judged_oneof : (F : Joined) (place : ℕ) (m : MessageDecl) (f : FieldDecl) → IsFormed F
     → slice_get F.messages place ≡ Some m → Contains m.fields f → IsPlaceBelow (length m.oneofs) f.oneof
 judged_oneof F place m f formed at c =
     (All-contains (IsFormedField (length m.oneofs)) m.fields f (message_formed F place m formed at).fields c).oneof
 
-pub few_fields : (F : File) (place : ℕ) (m : MessageDecl) → IsFormed F → IsClean F → slice_get F.messages place ≡ Some m
+pub few_fields : (F : Joined) (place : ℕ) (m : MessageDecl) → IsFormed F → IsClean F → slice_get F.messages place ≡ Some m
     → length m.fields ≤ MAX_FIELDS
 few_fields F place m formed clean at = elim (cases_lt MAX_FIELDS (length m.fields)) [
   | inl more ↦
       let f = some_at m.fields MAX_FIELDS more in
       let scope = scope_at formed place (slice_get_within F.messages place m at) in
-      absurd (clean Limit f.0.name.span (offends (Offences.of_message place m at scope.1
-      (of_name MAX_FIELDS f.0 f.1 (name_too_many (omega arith) (refl, refl))))))
+      absurd (clean Limit f.0.name.span (Offences.of_message place m at scope.1
+      (of_name MAX_FIELDS f.0 f.1 (name_too_many (omega arith) (refl, refl)))))
   | inr few ↦ few
 ]
 
-field_named : (F : File) (place : ℕ) (m : MessageDecl) (f : FieldDecl) → IsFormed F → IsClean F
+field_named : (F : Joined) (place : ℕ) (m : MessageDecl) (f : FieldDecl) → IsFormed F → IsClean F
     → slice_get F.messages place ≡ Some m → Contains m.fields f → IsName f.name.name
 field_named F place m f formed clean at c =
     let scope = scope_at formed place (slice_get_within F.messages place m at) in record {
       form = (All-contains (IsFormedField (length m.oneofs)) m.fields f (message_formed F place m formed at).fields c).name;
       short = short_from f.name.name
-          (λ no. clean Limit f.name.span (offends (Offences.of_message place m at scope.1
-          (of_name c.0 f (at_in m.fields f c) (name_long (no, (refl, refl)))))));
+          (λ no. clean Limit f.name.span (Offences.of_message place m at scope.1
+          (of_name c.0 f (at_in m.fields f c) (name_long (no, (refl, refl))))));
     }
 
-oneof_named : (F : File) (place : ℕ) (m : MessageDecl) (k : ℕ) (w : Word) → IsFormed F → IsClean F
+oneof_named : (F : Joined) (place : ℕ) (m : MessageDecl) (k : ℕ) (w : Word) → IsFormed F → IsClean F
     → slice_get F.messages place ≡ Some m → slice_get m.oneofs k ≡ Some w → IsName w.name
 oneof_named F place m k w formed clean at here =
     let scope = scope_at formed place (slice_get_within F.messages place m at) in record {
       form = All-contains HasName m.oneofs w (message_formed F place m formed at).oneofs (in_list m.oneofs k w here);
       short = short_from w.name
-          (λ no. clean Limit w.span (offends (Offences.of_message place m at scope.1
-          (of_oneof k w here (no, (refl, refl))))));
+          (λ no. clean Limit w.span (Offences.of_message place m at scope.1
+          (of_oneof k w here (no, (refl, refl)))));
     }
 
 same_oneof : (i j k : ℕ) → oneof_decl i j ≡ oneof_decl i k → j ≡ k
 same_oneof i j k e = cc
 
 -- oneofs of one name are one
-one_oneof : (F : File) (place : ℕ) (m : MessageDecl) (j k : ℕ) (x y : Word) → IsFormed F → IsOrdered F → IsClean F
+one_oneof : (F : Joined) (place : ℕ) (m : MessageDecl) (j k : ℕ) (x y : Word) → IsFormed F → IsOrdered F → IsClean F
     → slice_get F.messages place ≡ Some m → slice_get m.oneofs j ≡ Some x → slice_get m.oneofs k ≡ Some y
     → x.name ≡ y.name → j ≡ k
 one_oneof F place m j k x y formed ordered clean at xs ys same =
     let here = here_message F place formed (slice_get_within F.messages place m at) in
     let e : here.decl ≡ m = same_Some here.decl m (sym here.at ∙ at) in
-    let up : IsScope F m.parent here.outer = subst (λ (d : MessageDecl). IsScope F d.parent here.outer) e here.up in
-    let scope : IsScope F (Some place) (here.outer ++ m.name.name ∷ []) = of_message place m at up in
+    let up : IsScope F (home_of m) here.outer = subst (λ (d : MessageDecl). IsScope F (home_of d) here.outer) e here.up in
+    let scope : IsScope F (home.Message place) (here.outer ++ m.name.name ∷ []) = of_message place m at up in
     let its : Contains F.messages m = in_list F.messages place m at in
     let a : Contains m.oneofs x = in_list m.oneofs j x xs in
     let b : Contains m.oneofs y = in_list m.oneofs k y ys in
@@ -356,8 +356,8 @@ one_oneof F place m j k x y formed ordered clean at xs ys same =
     let full : Word → List (List ℕ) = λ w. here.outer ++ m.name.name ∷ w.name ∷ [] in
     same_oneof place j k
     (one_declaration F (oneof_decl place j) (oneof_decl place k) no_type no_type (full x) (full y) x.span y.span ordered
-    clean (Scopes.oneof m x its a up) (Scopes.oneof m y its b up) (Order.oneof place j m x at xs refl)
-    (Order.oneof place k m y at ys refl)
+    clean (Scopes.oneof m x its a up) (Scopes.oneof m y its b up) (Together.oneof place j m x at xs refl)
+    (Together.oneof place k m y at ys refl)
     (field_names here.outer m.name.name x.name (scope_names formed scope) (All-contains HasName m.oneofs x words a))
     (field_names here.outer m.name.name y.name (scope_names formed scope) (All-contains HasName m.oneofs y words b))
     (ap (λ (n : List ℕ). text_of (here.outer ++ m.name.name ∷ n ∷ [])) same))
@@ -378,7 +378,7 @@ met_oneof words o p keeps l =
 same_place : (p q : ℕ) → Some (Some p) ≡ Some (Some q) → p ≡ q
 same_place p q e = cc
 
-oneofs_distinct : (F : File) (place : ℕ) (m : MessageDecl) (o : Oneofs) → IsFormed F → IsOrdered F → IsClean F
+oneofs_distinct : (F : Joined) (place : ℕ) (m : MessageDecl) (o : Oneofs) → IsFormed F → IsOrdered F → IsClean F
     → slice_get F.messages place ≡ Some m → KeepsOneofs m.oneofs o → AreDistinct o.names
 oneofs_distinct F place m o formed ordered clean at keeps =
     apart_distinct o.names
@@ -399,7 +399,7 @@ label_placed words names (Some i) form label k e h =
 
 -- ---- the message
 
-pub message_at : (F : File) (p : Plan) (place : ℕ) (m : MessageDecl) (js : List Judged) (o : Oneofs) (gs : List Field)
+pub message_at : (F : Joined) (p : Plan) (place : ℕ) (m : MessageDecl) (js : List Judged) (o : Oneofs) (gs : List Field)
     (name : List ℕ) → IsFormed F → IsOrdered F → IsClean F → IsPlan F p → slice_get F.messages place ≡ Some m
     → AreJudged F place m js → AreMade p m.oneofs js o gs → name ≡ name_at p.messages.names.items place
     → IsMessageAt F p place (record { name = name; fields = gs; oneofs = o.names })
@@ -407,17 +407,17 @@ message_at F p place m js o gs name formed ordered clean plan at judged made nam
     let t : Message = record { name = name; fields = gs; oneofs = o.names } in
     let here = here_message F place formed (slice_get_within F.messages place m at) in
     let same : here.decl ≡ m = same_Some here.decl m (sym here.at ∙ at) in
-    let up : IsScope F m.parent here.outer = subst (λ (d : MessageDecl). IsScope F d.parent here.outer) same here.up in
+    let up : IsScope F (home_of m) here.outer = subst (λ (d : MessageDecl). IsScope F (home_of d) here.outer) same here.up in
     let scope : List (List ℕ) = here.outer ++ m.name.name ∷ [] in
-    let its : IsScope F (Some place) scope = of_message place m at up in
+    let its : IsScope F (home.Message place) scope = of_message place m at up in
     let text : name ≡ text_of (here.outer ++ here.decl.name.name ∷ []) =
     named ∙ message_text F p.messages.names.items place here plan.messages
     (omega (arith, plan.all_messages, slice_get_within F.messages place m at)) [] in
     let text2 : name ≡ text_of scope =
     text ∙ ap (λ (d : MessageDecl). text_of (here.outer ++ d.name.name ∷ [])) same in
     let short : is_short here.decl.name.name ≡ true = true_from (is_short here.decl.name.name)
-    (λ no. clean Limit here.decl.name.span (offends (Offences.of_message place here.decl here.at
-    (of_message place here.decl here.at here.up) (long_message (no, (refl, refl)))))) in
+    (λ no. clean Limit here.decl.name.span (Offences.of_message place here.decl here.at
+    (of_message place here.decl here.at here.up) (long_message (no, (refl, refl))))) in
     let R : Judged → Field → Type 0 = IsMade p m.oneofs o.names in
     let back : (k : ℕ) (g : Field) → slice_get gs k ≡ Some g
     → (j : Judged) × (slice_get js k ≡ Some j) × IsMade p m.oneofs o.names j g =
@@ -428,7 +428,7 @@ message_at F p place m js o gs name formed ordered clean plan at judged made nam
     record {
       is = λ T has d there.
           let one : m ≡ d = same_Some m d (sym at ∙ there) in
-          let of_m : IsMessageOf T (alone F, m) t = record {
+          let of_m : IsMessageOf T F m t = record {
             outer = here.outer;
             stands = up;
             name = text2;
@@ -439,7 +439,7 @@ message_at F p place m js o gs name formed ordered clean plan at judged made nam
                   let g = in_order_get R made.made j.1.0 j.0 e in (
                     g.0,
                     in_list gs j.1.0 g.0 g.1,
-                    subst (λ (x : FieldDecl). IsFieldOf T (alone F) scope m t x g.0) j.2
+                    subst (λ (x : FieldDecl). IsFieldOf T F scope m t x g.0) j.2
                         (parts T has j.1.0 j.0 g.0 e g.2).of_field,
                   );
               alone = λ g c.
@@ -467,7 +467,7 @@ message_at F p place m js o gs name formed ordered clean plan at judged made nam
                   );
             };
           } in
-          subst (λ (x : MessageDecl). IsMessageOf T (alone F, x) t) one of_m;
+          subst (λ (x : MessageDecl). IsMessageOf T F x t) one of_m;
       valid = λ T has. record {
         name = subst IsFullName (sym text)
             (type_valid F a_message here.outer here.decl.name.name here.decl.name.span clean here.declares refl here.names

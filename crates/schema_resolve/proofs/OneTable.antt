@@ -1,4 +1,4 @@
--- A file has one table at most: two of them have one text.
+-- Files have one table at most: two of them have one text.
 use Rattle.std.proofs.Common.{◌≡◌, ℕ, zero, suc, ◌+◌, ◌<◌, ◌⊎◌, inl, inr, Bool, List, [], ◌∷◌, ◌++◌, length, get_or, map, refl, sym, ap, ◌∙◌, subst, arith}
 use Rattle.std.specs.Prelude.{Contains, codes, ℤ, pos}
 use Rattle.std.specs.List.{flat_map, enumerate_from}
@@ -6,7 +6,6 @@ use Rattle.std.specs.Fmt.{decimal}
 use Rattle.std.specs.Ordering.{int_cmp}
 use Rattle.std.specs.declared.cmp.Ordering.TheVariants.{Less, Equal}
 use Rattle.std.proofs.lemmas.Cmp.{int_cmp_total, tied_itself}
-use Rattle.std.proofs.lemmas.List.{append-nil}
 use Rattle.std.proofs.lemmas.List.Elements.{All-contains}
 use Rattle.mrpc_table.specs.Text.{line, value_line, enum_lines, field_line, message_lines, method_line, table_text, message_name, label_text, kind_text}
 use Rattle.mrpc_table.specs.Valid.{Ascends, IsBelow, IsValueBelow, IsEnum, IsMessage}
@@ -18,8 +17,8 @@ use Rattle.mrpc_table.specs.declared.table.Message.{Message}
 use Rattle.mrpc_table.specs.declared.table.Choices.{Choices}
 use Rattle.mrpc_table.specs.declared.table.Method.{Method}
 use Rattle.mrpc_table.specs.declared.table.Table.{Table}
-use Rattle.proto_file.specs.Order
-use Rattle.proto_file.specs.Order.{IsOrdered, message_decl, enum_decl, its_name}
+use Rattle.proto_file.specs.Order.{its_name}
+use Rattle.proto_file.specs.Together.{IsOrdered, enum_decl, message_decl}
 use Rattle.proto_file.specs.declared.file.Span.{Span}
 use Rattle.proto_file.specs.declared.file.Word.{Word}
 use Rattle.proto_file.specs.declared.file.FieldType.TheVariants.{Named, Map}
@@ -28,13 +27,14 @@ use Rattle.proto_file.specs.declared.file.MessageDecl.{MessageDecl}
 use Rattle.proto_file.specs.declared.file.EnumDecl.{EnumDecl}
 use Rattle.proto_file.specs.declared.file.RpcDecl.{RpcDecl}
 use Rattle.proto_file.specs.declared.file.ServiceDecl.{ServiceDecl}
-use Rattle.proto_file.specs.declared.file.File.{File}
-use Rattle.schema_names.specs.Scopes.{Sort, a_message, an_enum, text_of, package_of, Names}
+use Rattle.proto_file.specs.Joined.{Joined, package_at}
+use Rattle.proto_file.specs.Together
+use Rattle.schema_names.specs.Scopes.{Sort, a_message, an_enum, text_of, Names}
 use Rattle.schema_names.specs.Numbers
 use Rattle.schema_names.specs.Numbers.{StandsAt, StartApart}
 use Rattle.schema_names.specs.declared.named.Named as names
 use Rattle.schema_names.specs.declared.named.Named.TheVariants as named
-use Rattle.schema_offences.specs.Sources.{Source, alone, messages_of, enums_of, methods_of, rpcs_of}
+use Rattle.schema_offences.specs.Methods.{rpcs_of}
 use Rattle.schema_offences.specs.Those.{AreThoseInOrder, none, next}
 use Rattle.schema_offences.specs.Types.{no_table, single_label, label_in, HasType, scalar, message, enum, HasForm, single, a_map}
 use Rattle.schema_resolve.specs.Tables.{IsFieldOf, IsMessageOf, IsEnumOf, IsMethodOf, IsTableOf}
@@ -149,9 +149,9 @@ value_strict x (inr a) = below_strict x.1 a.1
 value_same : (x y : ℤ × List ℕ) → x.0 ≡ y.0 → x.1 ≡ y.1 → x ≡ y
 value_same (a, b) (c, d) e f = cc
 
-same_enum : (e : EnumDecl) (S : Source) (c d : Choices) → IsEnum c → IsEnum d → IsEnumOf (S, e) c → IsEnumOf (S, e) d
+same_enum : (F : Joined) (e : EnumDecl) (c d : Choices) → IsEnum c → IsEnum d → IsEnumOf F e c → IsEnumOf F e d
     → (c.name ≡ d.name) × (enum_lines c ≡ enum_lines d)
-same_enum e S c d cv dv a b =
+same_enum F e c d cv dv a b =
     let name : c.name ≡ d.name =
     a.name ∙ ap (λ (o : List (List ℕ)). text_of (o ++ e.name.name ∷ [])) (one_scope a.stands b.stands) ∙ sym b.name in
     let values : c.values ≡ d.values =
@@ -171,9 +171,9 @@ same_enum e S c d cv dv a b =
 
 -- ---- forms
 
-abbrev pub NamesOne : File → Type 0
-NamesOne F = (scope : List (List ℕ)) (name : List ℕ) (a b : Sort) (f g : List (List ℕ))
-    → Names (F ∷ []) scope name a f → Names (F ∷ []) scope name b g → (a ≡ b) × (f ≡ g)
+abbrev pub NamesOne : Joined → Type 0
+NamesOne F = (file : ℕ) (scope : List (List ℕ)) (name : List ℕ) (a b : Sort) (f g : List (List ℕ))
+    → Names F file scope name a f → Names F file scope name b g → (a ≡ b) × (f ≡ g)
 
 not_both_sorts : a_message ≡ an_enum → ⊥
 not_both_sorts e = cc
@@ -183,31 +183,31 @@ record SameType (word other : List ℕ) (im jm pk qk : Bool) : Type 0 where
   messages : im ≡ jm
   packables : pk ≡ qk
 
-same_type : (F : File) (scope : List (List ℕ)) (w : Word) (word other : List ℕ) (im jm pk qk : Bool) → NamesOne F
-    → HasType (F ∷ []) scope w word im pk → HasType (F ∷ []) scope w other jm qk → SameType word other im jm pk qk
-same_type F scope w word other im jm pk qk one (scalar k s) (scalar l t) = record {
+same_type : (F : Joined) (file : ℕ) (scope : List (List ℕ)) (w : Word) (word other : List ℕ) (im jm pk qk : Bool) → NamesOne F
+    → HasType F file scope w word im pk → HasType F file scope w other jm qk → SameType word other im jm pk qk
+same_type F file scope w word other im jm pk qk one (scalar k s) (scalar l t) = record {
   words = refl;
   messages = refl;
   packables = ap is_numeric (same_scalar k l s.is_one t.is_one (s.named ∙ sym t.named));
 }
-same_type F scope w word other im jm pk qk one (scalar k s) (message full plain n) = absurd (plain k s)
-same_type F scope w word other im jm pk qk one (scalar k s) (enum full plain n) = absurd (plain k s)
-same_type F scope w word other im jm pk qk one (message full plain n) (scalar k s) = absurd (plain k s)
-same_type F scope w word other im jm pk qk one (enum full plain n) (scalar k s) = absurd (plain k s)
-same_type F scope w word other im jm pk qk one (message f plain n) (message g plain2 m) = record {
-  words = ap (λ (x : List (List ℕ)). codes "message:" ++ text_of x) (one scope w.name a_message a_message f g n m).1;
+same_type F file scope w word other im jm pk qk one (scalar k s) (message full plain n) = absurd (plain k s)
+same_type F file scope w word other im jm pk qk one (scalar k s) (enum full plain n) = absurd (plain k s)
+same_type F file scope w word other im jm pk qk one (message full plain n) (scalar k s) = absurd (plain k s)
+same_type F file scope w word other im jm pk qk one (enum full plain n) (scalar k s) = absurd (plain k s)
+same_type F file scope w word other im jm pk qk one (message f plain n) (message g plain2 m) = record {
+  words = ap (λ (x : List (List ℕ)). codes "message:" ++ text_of x) (one file scope w.name a_message a_message f g n m).1;
   messages = refl;
   packables = refl;
 }
-same_type F scope w word other im jm pk qk one (enum f plain n) (enum g plain2 m) = record {
-  words = ap (λ (x : List (List ℕ)). codes "enum:" ++ text_of x) (one scope w.name an_enum an_enum f g n m).1;
+same_type F file scope w word other im jm pk qk one (enum f plain n) (enum g plain2 m) = record {
+  words = ap (λ (x : List (List ℕ)). codes "enum:" ++ text_of x) (one file scope w.name an_enum an_enum f g n m).1;
   messages = refl;
   packables = refl;
 }
-same_type F scope w word other im jm pk qk one (message f plain n) (enum g plain2 m) =
-    absurd (not_both_sorts (one scope w.name a_message an_enum f g n m).0)
-same_type F scope w word other im jm pk qk one (enum f plain n) (message g plain2 m) =
-    absurd (not_both_sorts (sym (one scope w.name an_enum a_message f g n m).0))
+same_type F file scope w word other im jm pk qk one (message f plain n) (enum g plain2 m) =
+    absurd (not_both_sorts (one file scope w.name a_message an_enum f g n m).0)
+same_type F file scope w word other im jm pk qk one (enum f plain n) (message g plain2 m) =
+    absurd (not_both_sorts (sym (one file scope w.name an_enum a_message f g n m).0))
 
 same_named : (v w : Word) → Named v ≡ Named w → v ≡ w
 same_named v w e = cc
@@ -218,25 +218,25 @@ same_map k v l w e = (cc, cc)
 named_map : (w k v : Word) → Named w ≡ Map k v → ⊥
 named_map w k v e = cc
 
-same_form : (F : File) (scope : List (List ℕ)) (f : FieldDecl) (a b : Label) (word other : List ℕ) → NamesOne F
-    → HasForm (F ∷ []) scope f a word → HasForm (F ∷ []) scope f b other → (a ≡ b) × (word ≡ other)
-same_form F scope f a b word other one (single w x im pk is typ) (single v y jm qk is2 typ2) =
+same_form : (F : Joined) (file : ℕ) (scope : List (List ℕ)) (f : FieldDecl) (a b : Label) (word other : List ℕ) → NamesOne F
+    → HasForm F file scope f a word → HasForm F file scope f b other → (a ≡ b) × (word ≡ other)
+same_form F file scope f a b word other one (single w x im pk is typ) (single v y jm qk is2 typ2) =
     let s : w ≡ v = same_named w v (sym is ∙ is2) in
-    let t = same_type F scope v x y im jm pk qk one
-    (subst (λ (u : Word). HasType (F ∷ []) scope u x im pk) s typ) typ2 in (
+    let t = same_type F file scope v x y im jm pk qk one
+    (subst (λ (u : Word). HasType F file scope u x im pk) s typ) typ2 in (
       ap (λ (m : Bool). label_in f.oneof (single_label f.label f.packed m pk)) t.messages
           ∙ ap (λ (p : Bool). label_in f.oneof (single_label f.label f.packed jm p)) t.packables,
       t.words,
     )
-same_form F scope f a b word other one (single w x im pk is typ) (a_map k v l y jm qk is2 plain o s keyed typ2) =
+same_form F file scope f a b word other one (single w x im pk is typ) (a_map k v l y jm qk is2 plain o s keyed typ2) =
     absurd (named_map w k v (sym is ∙ is2))
-same_form F scope f a b word other one (a_map k v l y jm qk is2 plain o s keyed typ2) (single w x im pk is typ) =
+same_form F file scope f a b word other one (a_map k v l y jm qk is2 plain o s keyed typ2) (single w x im pk is typ) =
     absurd (named_map w k v (sym is ∙ is2))
-same_form F scope f a b word other one (a_map k v l x im pk is plain o s keyed typ)
+same_form F file scope f a b word other one (a_map k v l x im pk is plain o s keyed typ)
     (a_map i w n y jm qk is2 plain2 o2 t keyed2 typ2) =
     let e = same_map k v i w (sym is ∙ is2) in
-    let u = same_type F scope w x y im jm pk qk one
-    (subst (λ (z : Word). HasType (F ∷ []) scope z x im pk) e.1 typ) typ2 in (
+    let u = same_type F file scope w x y im jm pk qk one
+    (subst (λ (z : Word). HasType F file scope z x im pk) e.1 typ) typ2 in (
       ap labels.Map (same_scalar l n s.is_one t.is_one (s.named ∙ ap (λ (z : Word). z.name) e.0 ∙ sym t.named)),
       u.words,
     )
@@ -246,20 +246,20 @@ same_form F scope f a b word other one (a_map k v l x im pk is plain o s keyed t
 same_pos : (m n : ℕ) → pos m ≡ pos n → m ≡ n
 same_pos m n e = cc
 
-same_field : (F : File) (T U : Table) (scope other : List (List ℕ)) (m : MessageDecl) (t u : Message) (f : FieldDecl)
-    (g h : Field) → NamesOne F → scope ≡ other → IsFieldOf T (alone F) scope m t f g
-    → IsFieldOf U (alone F) other m u f h
+same_field : (F : Joined) (T U : Table) (scope other : List (List ℕ)) (m : MessageDecl) (t u : Message) (f : FieldDecl)
+    (g h : Field) → NamesOne F → scope ≡ other → IsFieldOf T F scope m t f g
+    → IsFieldOf U F other m u f h
     → (g.number ≡ h.number) × (field_line T t.oneofs g ≡ field_line U u.oneofs h)
 same_field F T U scope other m t u f g h one same a b =
     let ns : List (List ℕ) = map (λ o. o.name) m.oneofs in
-    let form : HasForm (F ∷ []) other f a.label a.word =
-    subst (λ (s : List (List ℕ)). HasForm (F ∷ []) s f a.label a.word) same a.form in
-    let e = same_form F other f a.label b.label a.word b.word one form b.form in
+    let form : HasForm F m.file other f a.label a.word =
+    subst (λ (s : List (List ℕ)). HasForm F m.file s f a.label a.word) same a.form in
+    let e = same_form F m.file other f a.label b.label a.word b.word one form b.form in
     let number : g.number ≡ h.number = same_pos g.number h.number (a.number ∙ sym b.number) in
     let name : g.name ≡ h.name = a.name ∙ sym b.name in
     let label : label_text T t.oneofs g.label ≡ label_text U u.oneofs h.label =
-    a.same ∙ form_alike T ns (F ∷ []) other f a.label a.word form ∙ ap (label_text no_table ns) e.0
-    ∙ sym (form_alike U ns (F ∷ []) other f b.label b.word b.form) ∙ sym b.same in
+    a.same ∙ form_alike T ns F m.file other f a.label a.word form ∙ ap (label_text no_table ns) e.0
+    ∙ sym (form_alike U ns F m.file other f b.label b.word b.form) ∙ sym b.same in
     let kind : kind_text T g.kind ≡ kind_text U h.kind = a.kind ∙ e.1 ∙ sym b.kind in
     let L : ℕ → List ℕ → List ℕ → List ℕ → List ℕ =
     λ n x y z. line (codes "field" ∷ decimal n ∷ x ∷ y ∷ z ∷ []) in (
@@ -276,8 +276,8 @@ less_trans x y z a b = omega arith
 less_strict : (x : ℕ) → x < x → ⊥
 less_strict x a = omega arith
 
-same_message : (F : File) (T U : Table) (m : MessageDecl) (t u : Message) → NamesOne F → IsMessage T t → IsMessage U u
-    → IsMessageOf T (alone F, m) t → IsMessageOf U (alone F, m) u
+same_message : (F : Joined) (T U : Table) (m : MessageDecl) (t u : Message) → NamesOne F → IsMessage T t → IsMessage U u
+    → IsMessageOf T F m t → IsMessageOf U F m u
     → (t.name ≡ u.name) × (message_lines T t ≡ message_lines U u)
 same_message F T U m t u one tv uv a b =
     let outer = one_scope a.stands b.stands in
@@ -305,13 +305,14 @@ same_message F T U m t u one tv uv a b =
 
 -- ---- methods
 
-same_method : (F : File) (T U : Table) (q : ServiceDecl × RpcDecl) (m n : Method) (i : ℕ) → NamesOne F
-    → IsMethodOf T (alone F, q) m → IsMethodOf U (alone F, q) n → method_line T (i, m) ≡ method_line U (i, n)
+same_method : (F : Joined) (T U : Table) (q : ServiceDecl × RpcDecl) (m n : Method) (i : ℕ) → NamesOne F
+    → IsMethodOf T F q m → IsMethodOf U F q n → method_line T (i, m) ≡ method_line U (i, n)
 same_method F T U q m n i one a b =
+    let file : ℕ = q.0.file in
     let input : a.input ≡ b.input =
-    (one (package_of F) q.1.input.name a_message a_message a.input b.input a.takes b.takes).1 in
+    (one file (package_at F file) q.1.input.name a_message a_message a.input b.input a.takes b.takes).1 in
     let output : a.output ≡ b.output =
-    (one (package_of F) q.1.output.name a_message a_message a.output b.output a.gives b.gives).1 in
+    (one file (package_at F file) q.1.output.name a_message a_message a.output b.output a.gives b.gives).1 in
     let L : List ℕ → List ℕ → List ℕ → List ℕ → List ℕ =
     λ x y z w. line (codes "method" ∷ decimal i ∷ x ∷ y ∷ z ∷ w ∷ []) in
     ap (λ (x : List ℕ). L x m.name (message_name T m.input) (message_name T m.output)) (a.service ∙ sym b.service)
@@ -319,53 +320,38 @@ same_method F T U q m n i one a b =
     ∙ ap (λ (z : List ℕ). L n.service n.name z (message_name T m.output)) (a.input_place ∙ ap text_of input ∙ sym b.input_place)
     ∙ ap (λ (w : List ℕ). L n.service n.name (message_name U n.input) w) (a.output_place ∙ ap text_of output ∙ sym b.output_place)
 
-same_methods : (F : File) (T U : Table) (qs : List (Source × (ServiceDecl × RpcDecl))) (ms ns : List Method) (i : ℕ)
-    → NamesOne F → AreThoseInOrder (IsMethodOf T) qs ms → AreThoseInOrder (IsMethodOf U) qs ns
-    → ((q : Source × (ServiceDecl × RpcDecl)) → Contains qs q → (r : ServiceDecl × RpcDecl) × (q ≡ (alone F, r)))
+same_methods : (F : Joined) (T U : Table) (qs : List (ServiceDecl × RpcDecl)) (ms ns : List Method) (i : ℕ) → NamesOne F
+    → AreThoseInOrder (IsMethodOf T F) qs ms → AreThoseInOrder (IsMethodOf U F) qs ns
     → flat_map (method_line T) (enumerate_from i ms) ≡ flat_map (method_line U) (enumerate_from i ns)
-same_methods F T U qs ms ns i one none none known = refl
-same_methods F T U qs ms ns i one (next {x = q} {y = m} {xs} {ys} r rest) (next {y = n} {ys = zs} s more) known =
-    let p = known q (0, omega arith, refl) in
-    let e = same_method F T U p.0 m n i one
-    (subst (λ (z : Source × (ServiceDecl × RpcDecl)). IsMethodOf T z m) p.1 r)
-    (subst (λ (z : Source × (ServiceDecl × RpcDecl)). IsMethodOf U z n) p.1 s) in
-    let later = same_methods F T U xs ys zs (i + 1) one rest more (λ z c. known z (shifted q xs z c)) in
+same_methods F T U qs ms ns i one none none = refl
+same_methods F T U qs ms ns i one (next {x = q} {y = m} {xs} {ys} r rest) (next {y = n} {ys = zs} s more) =
+    let e = same_method F T U q m n i one r s in
+    let later = same_methods F T U xs ys zs (i + 1) one rest more in
     ap (λ (t : List ℕ). t ++ flat_map (method_line T) (enumerate_from (i + 1) ys)) e
     ∙ ap (λ (t : List ℕ). method_line U (i, n) ++ t) later
 
 -- ---- tables
 
--- two tables of a file have one text
-pub one_text_of : (F : File) (T U : Table) → NamesOne F → IsTableOf (alone F ∷ []) T → IsTableOf (alone F ∷ []) U
-    → table_text T ≡ table_text U
+-- two tables of files have one text
+pub one_text_of : (F : Joined) (T U : Table) → NamesOne F → IsTableOf F T → IsTableOf F U → table_text T ≡ table_text U
 one_text_of F T U one a b =
-    let S : Source = alone F in
-    let mp : MessageDecl → Source × MessageDecl = λ m. (S, m) in
-    let ep : EnumDecl → Source × EnumDecl = λ e. (S, e) in
-    let rp : ServiceDecl × RpcDecl → Source × (ServiceDecl × RpcDecl) = λ r. (S, r) in
-    let ms : messages_of (S ∷ []) ≡ map mp F.messages = append-nil (map mp F.messages) in
-    let es : enums_of (S ∷ []) ≡ map ep F.enums = append-nil (map ep F.enums) in
-    let rs : methods_of (S ∷ []) ≡ map rp (rpcs_of F) = append-nil (map rp (rpcs_of F)) in
     let en : Choices → List ℕ = λ c. c.name in
     let mn : Message → List ℕ = λ m. m.name in
-    let enum_of : (V W : Table) → IsTableOf (S ∷ []) V → IsTableOf (S ∷ []) W → (c : Choices) → Contains V.enums c
+    let enum_of : (V W : Table) → IsTableOf F V → IsTableOf F W → (c : Choices) → Contains V.enums c
     → Match en en enum_lines enum_lines c W.enums =
     λ V W v w c k.
     let q = v.enums.alone c k in
     let d = w.enums.each q.0 q.1 in
-    let e = same_enum q.0.1 q.0.0 c d.0 (All-contains IsEnum V.enums c v.valid.enums k)
+    let e = same_enum F q.0 c d.0 (All-contains IsEnum V.enums c v.valid.enums k)
     (All-contains IsEnum W.enums d.0 w.valid.enums d.1) q.2 d.2 in
     record { other = d.0; inside = d.1; key = e.0; text = e.1 } in
-    let message_of : (V W : Table) → IsTableOf (S ∷ []) V → IsTableOf (S ∷ []) W → (t : Message) → Contains V.messages t
+    let message_of : (V W : Table) → IsTableOf F V → IsTableOf F W → (t : Message) → Contains V.messages t
     → Match mn mn (message_lines V) (message_lines W) t W.messages =
     λ V W v w t k.
     let q = v.messages.alone t k in
     let d = w.messages.each q.0 q.1 in
-    let m = map_contains mp F.messages q.0 (subst (λ (l : List (Source × MessageDecl)). Contains l q.0) ms q.1) in
-    let e = same_message F V W m.0 t d.0 one (All-contains (IsMessage V) V.messages t v.valid.messages k)
-    (All-contains (IsMessage W) W.messages d.0 w.valid.messages d.1)
-    (subst (λ (z : Source × MessageDecl). IsMessageOf V z t) (sym m.2) q.2)
-    (subst (λ (z : Source × MessageDecl). IsMessageOf W z d.0) (sym m.2) d.2) in
+    let e = same_message F V W q.0 t d.0 one (All-contains (IsMessage V) V.messages t v.valid.messages k)
+    (All-contains (IsMessage W) W.messages d.0 w.valid.messages d.1) q.2 d.2 in
     record { other = d.0; inside = d.1; key = e.0; text = e.1 } in
     let enums : flat_map enum_lines T.enums ≡ flat_map enum_lines U.enums =
     same_texts IsBelow en en enum_lines enum_lines T.enums U.enums below_trans below_strict a.valid.enums_ascend
@@ -374,11 +360,7 @@ one_text_of F T U one a b =
     same_texts IsBelow mn mn (message_lines T) (message_lines U) T.messages U.messages below_trans below_strict
     a.valid.messages_ascend b.valid.messages_ascend (message_of T U a b) (message_of U T b a) in
     let methods : flat_map (method_line T) (enumerate_from 0 T.methods) ≡ flat_map (method_line U) (enumerate_from 0 U.methods) =
-    same_methods F T U (methods_of (S ∷ [])) T.methods U.methods 0 one a.methods b.methods
-    (λ q c.
-    let r = map_contains rp (rpcs_of F) q
-    (subst (λ (l : List (Source × (ServiceDecl × RpcDecl))). Contains l q) rs c) in
-    (r.0, sym r.2)) in
+    same_methods F T U (rpcs_of F) T.methods U.methods 0 one a.methods b.methods in
     ap (λ (x : List ℕ). (x ++ flat_map (message_lines T) T.messages) ++ flat_map (method_line T) (enumerate_from 0 T.methods)) enums
     ∙ ap (λ (x : List ℕ). (flat_map enum_lines U.enums ++ x) ++ flat_map (method_line T) (enumerate_from 0 T.methods)) messages
     ∙ ap (λ (x : List ℕ). (flat_map enum_lines U.enums ++ flat_map (message_lines U) U.messages) ++ x) methods
@@ -389,23 +371,23 @@ same_named_message i j e = cc
 same_named_enum : (i j : ℕ) → enum_decl i ≡ enum_decl j → i ≡ j
 same_named_enum i j e = cc
 
-apart_types : (F : File) → IsOrdered F → (a b : names.Named) (f g : List (List ℕ)) (s t : Span) → StandsAt F a f s
+apart_types : (F : Joined) → IsOrdered F → (a b : names.Named) (f g : List (List ℕ)) (s t : Span) → StandsAt F a f s
     → StandsAt F b g t → s.start ≡ t.start → a ≡ b
 apart_types F ordered a b f g s t (Numbers.message i m at up) (Numbers.message j n at2 up2) e =
     ap named.Message (same_named_message i j
-    (ordered.apart (message_decl i) (message_decl j) its_name its_name m.name.span n.name.span (Order.message i m at refl)
-    (Order.message j n at2 refl) e).0)
+    (ordered.apart (message_decl i) (message_decl j) its_name its_name m.name.span n.name.span (Together.message i m at refl)
+    (Together.message j n at2 refl) e).0)
 apart_types F ordered a b f g s t (Numbers.enum i m at up) (Numbers.enum j n at2 up2) e =
     ap named.Enum (same_named_enum i j
-    (ordered.apart (enum_decl i) (enum_decl j) its_name its_name m.name.span n.name.span (Order.enum i m at refl)
-    (Order.enum j n at2 refl) e).0)
+    (ordered.apart (enum_decl i) (enum_decl j) its_name its_name m.name.span n.name.span (Together.enum i m at refl)
+    (Together.enum j n at2 refl) e).0)
 apart_types F ordered a b f g s t (Numbers.message i m at up) (Numbers.enum j n at2 up2) e =
     absurd (let d = (ordered.apart (message_decl i) (enum_decl j) its_name its_name m.name.span n.name.span
-    (Order.message i m at refl) (Order.enum j n at2 refl) e).0 in cc)
+    (Together.message i m at refl) (Together.enum j n at2 refl) e).0 in cc)
 apart_types F ordered a b f g s t (Numbers.enum i m at up) (Numbers.message j n at2 up2) e =
     absurd (let d = (ordered.apart (enum_decl i) (message_decl j) its_name its_name m.name.span n.name.span
-    (Order.enum i m at refl) (Order.message j n at2 refl) e).0 in cc)
+    (Together.enum i m at refl) (Together.message j n at2 refl) e).0 in cc)
 
 -- no two types start at one place
-pub starts_apart : (F : File) → IsOrdered F → StartApart F
+pub starts_apart : (F : Joined) → IsOrdered F → StartApart F
 starts_apart F ordered = record { apart = apart_types F ordered }

@@ -1,4 +1,4 @@
--- Each file against which nothing stands has a plan.
+-- Files against which nothing stands have a plan.
 use Rattle.std.proofs.Common.{◌≡◌, ℕ, zero, suc, ◌<◌, ◌≤◌, ◌^◌, List, [], ◌∷◌, ◌++◌, length, map, set, refl, sym, ap, ◌∙◌, subst, arith, add-one}
 use Rattle.std.specs.Borrow.{Bor}
 use Rattle.std.specs.Global.{Vec}
@@ -7,15 +7,15 @@ use Rattle.std.specs.Ordering.{nat_cmp}
 use Rattle.std.proofs.lemmas.Cmp.{nat_cmp_total, nat_list_cmp_total}
 use Rattle.std.proofs.lemmas.List.{get_or_default, length-append}
 use Rattle.mrpc_table.specs.Valid.{AreDistinct}
-use Rattle.proto_file.specs.Order.{IsFormed, IsOrdered}
-use Rattle.proto_file.specs.declared.file.File.{File}
-use Rattle.schema_names.specs.Scopes.{text_of, package_of}
+use Rattle.proto_file.specs.Together.{IsFormed, IsOrdered}
+use Rattle.proto_file.specs.Joined.{Joined, home_of, enum_home_of, package_parts}
+use Rattle.schema_names.specs.Scopes.{text_of}
 use Rattle.schema_resolve.specs.Resolving.{IsClean}
-use Rattle.schema_resolve.specs.Placing.{behind, front_of, name_at, IsOrder, AreAll, IsPlaced, AreMessageNames, AreEnumNames, IsPlan}
+use Rattle.schema_resolve.specs.Placing.{behind, front_of, name_at, AreFronts, IsOrder, AreAll, IsPlaced, AreMessageNames, AreEnumNames, IsPlan}
 use Rattle.schema_resolve.specs.declared.placed.Placed.{Placed}
 use Rattle.schema_resolve.specs.declared.plan.Plan.{Plan}
 use Rattle.schema_resolve.proofs.Orders.{AreKnown, known_none, known_more, number_of, pair_cmp, order_of, order_all, ArePut, put_more, places_of}
-use Rattle.schema_resolve.proofs.CleanFiles.{some_at, messages_more, enums_more, messages_distinct, enums_distinct, few_messages, few_enums}
+use Rattle.schema_resolve.proofs.CleanFiles.{some_at, AreFirstFronts, fronts_none, fronts_more, fronts_all, messages_more, enums_more, messages_distinct, enums_distinct, few_messages, few_enums}
 use Rattle.schema_resolve.proofs.Sorting.{in_order, IsNotAbove, ascends_sorted, either_way}
 use denote.RawPtr.{null_ptr}
 
@@ -88,41 +88,61 @@ placed_made names few distinct =
 
 -- ---- the plan
 
-message_names : (F : File) → IsFormed F → (n : ℕ) → n ≤ length F.messages
-    → (names : List (List ℕ)) × (length names ≡ n) × AreMessageNames F names
-message_names F formed zero l = ([], refl, record { each = λ i full below scope. absurd (omega arith) })
-message_names F formed (suc n) l =
-    let rest = message_names F formed n (omega arith) in
+first_fronts : (F : Joined) (n : ℕ) → n ≤ length F.heads → (fronts : List (List ℕ)) × AreFirstFronts F n fronts
+first_fronts F zero l = ([], fronts_none F [] refl)
+first_fronts F (suc n) l =
+    let rest = first_fronts F n (omega arith) in
+    let h = some_at F.heads n (omega arith) in
+    let name : List ℕ = text_of (package_parts h.0.package) in
+    let more : List (List ℕ) = rest.0 ++ name ∷ [] in (
+      more,
+      subst (λ (k : ℕ). AreFirstFronts F k more) (add-one n)
+          (fronts_more F n h.0 name rest.0 more h.1 refl refl rest.1),
+    )
+
+-- the names of the files' packages
+fronts_made : (F : Joined) → (fronts : List (List ℕ)) × AreFronts F fronts
+fronts_made F =
+    let all = first_fronts F (length F.heads) (omega arith) in
+    (all.0, fronts_all F (length F.heads) all.0 refl all.1)
+
+message_names : (F : Joined) (fronts : List (List ℕ)) → IsFormed F → AreFronts F fronts → (n : ℕ)
+    → n ≤ length F.messages → (names : List (List ℕ)) × (length names ≡ n) × AreMessageNames F names
+message_names F fronts formed fronts_are zero l =
+    ([], refl, record { each = λ i full below scope. absurd (omega arith) })
+message_names F fronts formed fronts_are (suc n) l =
+    let rest = message_names F fronts formed fronts_are n (omega arith) in
     let m = some_at F.messages n (omega arith) in
-    let front : List ℕ = text_of (package_of F) in
-    let name : List ℕ = behind (front_of front rest.0 m.0.parent) m.0.name.name in
+    let name : List ℕ = behind (front_of fronts rest.0 (home_of m.0)) m.0.name.name in
     let more : List (List ℕ) = rest.0 ++ name ∷ [] in (
       more,
       omega (arith, length-append rest.0 (name ∷ []), rest.1),
-      messages_more rest.0 more front name n m.0 formed refl rest.1 m.1 refl refl rest.2,
+      messages_more fronts rest.0 more name n m.0 formed fronts_are rest.1 m.1 refl refl rest.2,
     )
 
-enum_names : (F : File) (messages : List (List ℕ)) → IsFormed F → length messages ≡ length F.messages
-    → AreMessageNames F messages → (n : ℕ) → n ≤ length F.enums
+enum_names : (F : Joined) (fronts messages : List (List ℕ)) → IsFormed F → AreFronts F fronts
+    → length messages ≡ length F.messages → AreMessageNames F messages → (n : ℕ) → n ≤ length F.enums
     → (names : List (List ℕ)) × (length names ≡ n) × AreEnumNames F names
-enum_names F messages formed count known zero l =
+enum_names F fronts messages formed fronts_are count known zero l =
     ([], refl, record { each = λ i e outer below at up. absurd (omega arith) })
-enum_names F messages formed count known (suc n) l =
-    let rest = enum_names F messages formed count known n (omega arith) in
+enum_names F fronts messages formed fronts_are count known (suc n) l =
+    let rest = enum_names F fronts messages formed fronts_are count known n (omega arith) in
     let e = some_at F.enums n (omega arith) in
-    let front : List ℕ = text_of (package_of F) in
-    let name : List ℕ = behind (front_of front messages e.0.parent) e.0.name.name in
+    let name : List ℕ = behind (front_of fronts messages (enum_home_of e.0)) e.0.name.name in
     let more : List (List ℕ) = rest.0 ++ name ∷ [] in (
       more,
       omega (arith, length-append rest.0 (name ∷ []), rest.1),
-      enums_more messages rest.0 more front name n e.0 formed refl count known rest.1 e.1 refl refl rest.2,
+      enums_more fronts messages rest.0 more name n e.0 formed fronts_are count known rest.1 e.1 refl refl rest.2,
     )
 
-plan_from : (F : File) (messages enums : List (List ℕ)) (mp ep : Placed) → length messages ≡ length F.messages
+-- what is said of a plan's places says nothing of its names of packages
+abbrev plan_with : Placed → Placed → Plan
+plan_with messages enums = record { fronts = vec_of [] (omega arith); messages = messages; enums = enums }
+
+plan_from : (F : Joined) (messages enums : List (List ℕ)) (mp ep : Placed) → length messages ≡ length F.messages
     → length enums ≡ length F.enums → AreMessageNames F messages → AreEnumNames F enums → IsPlaced messages mp
-    → IsPlaced enums ep → IsPlan F (record { front = text_of (package_of F); messages = mp; enums = ep })
+    → IsPlaced enums ep → IsPlan F (plan_with mp ep)
 plan_from F messages enums mp ep all_messages all_enums message_names enum_names placed also = record {
-  front = refl;
   all_messages = ap length placed.kept ∙ all_messages;
   all_enums = ap length also.kept ∙ all_enums;
   messages = subst (AreMessageNames F) (sym placed.kept) message_names;
@@ -131,14 +151,15 @@ plan_from F messages enums mp ep all_messages all_enums message_names enum_names
   enum_places = subst (λ (names : List (List ℕ)). IsPlaced names ep) (sym also.kept) also;
 }
 
-pub plan_made : (F : File) → IsFormed F → IsOrdered F → IsClean F → (p : Plan) × IsPlan F p
+pub plan_made : (F : Joined) → IsFormed F → IsOrdered F → IsClean F → (p : Plan) × IsPlan F p
 plan_made F formed ordered clean =
-    let messages = message_names F formed (length F.messages) (omega arith) in
-    let enums = enum_names F messages.0 formed messages.1 messages.2 (length F.enums) (omega arith) in
+    let fronts = fronts_made F in
+    let messages = message_names F fronts.0 formed fronts.1 (length F.messages) (omega arith) in
+    let enums = enum_names F fronts.0 messages.0 formed fronts.1 messages.1 messages.2 (length F.enums) (omega arith) in
     let mp = placed_made messages.0 (omega (arith, messages.1, few_messages F formed clean))
     (messages_distinct F messages.0 formed ordered clean messages.1 messages.2) in
     let ep = placed_made enums.0 (omega (arith, enums.1, few_enums F clean))
     (enums_distinct F enums.0 formed ordered clean enums.1 enums.2) in (
-      record { front = text_of (package_of F); messages = mp.0; enums = ep.0 },
+      plan_with mp.0 ep.0,
       plan_from F messages.0 enums.0 mp.0 ep.0 messages.1 enums.1 messages.2 enums.2 mp.1 ep.1,
     )

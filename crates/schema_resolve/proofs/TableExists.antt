@@ -1,42 +1,45 @@
--- Each file against which nothing stands has a table, and each other one has a first offence.
-use Rattle.std.proofs.Common.{◌≡◌, ◌⊎◌, inl, inr, ℕ, zero, suc, ◌+◌, ◌*◌, ◌<◌, ◌≤◌, true, List, [], ◌∷◌, length, map, refl, arith}
+-- Files against which nothing stands have a table, and all others have a first offence.
+use Rattle.std.proofs.Common.{◌≡◌, ◌⊎◌, inl, inr, ℕ, zero, suc, ◌+◌, ◌*◌, ◌<◌, ◌≤◌, true, List, [], ◌∷◌, ◌++◌, length, map, refl, sym, ◌∙◌, subst, arith}
 use Rattle.std.specs.Prelude.{Contains, slice_get, ℤ, Some}
 use Rattle.std.specs.Borrow.{Bor}
 use Rattle.std.specs.Cmp.Lexicographic.{slice_cmp}
 use Rattle.std.specs.Ordering.{nat_cmp, int_cmp}
 use Rattle.std.proofs.lemmas.Bool.{cases_lt}
+use Rattle.std.proofs.lemmas.Option.{same_Some}
 use Rattle.std.proofs.lemmas.Cmp.{nat_list_cmp_total, int_cmp_total}
 use Rattle.std.proofs.lemmas.List.Elements.{All-contains}
 use Rattle.mrpc_table.specs.declared.table.Choices.{Choices}
 use Rattle.mrpc_table.specs.declared.table.Method.{Method}
 use Rattle.mrpc_table.specs.declared.table.Table.{Table}
-use Rattle.proto_file.specs.Order.{IsFormed, IsOrdered}
+use Rattle.proto_file.specs.Together.{IsFormed, IsOrdered}
+use Rattle.proto_file.specs.Joined.{Joined, package_at}
 use Rattle.proto_file.specs.declared.file.Span.{Span}
+use Rattle.proto_file.specs.declared.file.MessageDecl.{MessageDecl}
 use Rattle.proto_file.specs.declared.file.ValueDecl.{ValueDecl}
 use Rattle.proto_file.specs.declared.file.EnumDecl.{EnumDecl}
 use Rattle.proto_file.specs.declared.file.RpcDecl.{RpcDecl}
 use Rattle.proto_file.specs.declared.file.ServiceDecl.{ServiceDecl}
 use Rattle.proto_file.specs.declared.file.File.{File}
 use Rattle.schema_names.specs.Scopes
-use Rattle.schema_names.specs.Scopes.{Declares, Finds, in_this, in_others, IsFirst, Names, a_message, is_type, package_of}
+use Rattle.schema_names.specs.Scopes.{Declares, Finds, Names, a_message, an_enum, is_type, text_of}
 use Rattle.schema_names.specs.Numbers
-use Rattle.schema_names.specs.Numbers.{StandsAt, IsFirstAt, sort_of}
+use Rattle.schema_names.specs.Numbers.{StandsAt, IsOfFile, IsFirstAt, sort_of}
 use Rattle.schema_names.specs.declared.named.Named.{Named}
 use Rattle.schema_names.specs.declared.named.Named.TheVariants as named
-use Rattle.schema_offences.specs.Sources.{rpcs_of}
+use Rattle.schema_offences.specs.Methods.{rpcs_of}
 use Rattle.schema_offences.specs.Types.{value_of}
-use Rattle.schema_offences.specs.Offences.{IsOffence, HasOffence, rank_of}
+use Rattle.schema_offences.specs.Offences.{Offends, HasFirst, IsOffence, HasOffence, ComesFirst, rank_of}
 use Rattle.schema_offences.specs.declared.reason.ResolveReason.{ResolveReason}
 use Rattle.schema_offences.specs.declared.reason.ResolveReason.TheVariants.{UnknownName, NumberRange, DuplicateNumber, DuplicateName, Reserved, FirstEnum, MapKey, MapPlace, Limit, Import}
-use Rattle.schema_resolve.specs.Resolving.{IsClean, Resolves}
-use Rattle.schema_resolve.specs.Placing.{behind, name_at, IsPlan, HasNames}
+use Rattle.schema_resolve.specs.Resolving.{IsClean, ResolvesTogether}
+use Rattle.schema_resolve.specs.Placing.{name_at, IsPlan, HasNames}
 use Rattle.schema_resolve.specs.InOrder.{value_pair, AreValues, IsPlaceNamed, IsMethodIn, IsEnumAt}
 use Rattle.schema_resolve.specs.Joining.{IsMessageAt}
 use Rattle.schema_resolve.specs.Making.{IsMadeTable}
 use Rattle.schema_resolve.specs.declared.plan.Plan.{Plan}
 use Rattle.schema_resolve.proofs.CleanFiles.{in_list, at_in, some_at}
 use Rattle.schema_resolve.proofs.EnumTables.{value_cmp, map_twice, values_of, values_distinct, enum_at}
-use Rattle.schema_resolve.proofs.MethodTables.{placed_at, message_standing, place_named, has_input, has_output, service_text, method_of}
+use Rattle.schema_resolve.proofs.MethodTables.{placed_at, message_standing, place_named, has_input, has_output, method_of}
 use Rattle.schema_resolve.proofs.MessageTables.{in_order_weaker}
 use Rattle.schema_resolve.proofs.TableParts.{rpc_here, made_is_table}
 use Rattle.schema_resolve.proofs.TextParts.{text_short}
@@ -50,7 +53,7 @@ use Rattle.schema_resolve.proofs.MessageExists.{message_stands, message_exists}
 abbrev value_read : ValueDecl → ℤ × Bor (List ℕ)
 value_read v = (value_of v.number, ref_of v.name.name)
 
-values_made : (F : File) (i : ℕ) (e : EnumDecl) → IsFormed F → IsOrdered F → IsClean F → slice_get F.enums i ≡ Some e
+values_made : (F : Joined) (i : ℕ) (e : EnumDecl) → IsFormed F → IsOrdered F → IsClean F → slice_get F.enums i ≡ Some e
     → (values : List (ℤ × List ℕ)) × AreValues e.values values
 values_made F i e formed ordered clean at =
     let read : List (ℤ × Bor (List ℕ)) = map value_read e.values in
@@ -62,7 +65,7 @@ values_made F i e formed ordered clean at =
           (map_twice value_read value_pair e.values) sorted.moved (ascends_sorted value_cmp sorted.list sorted.ascends),
     )
 
-enum_made : (F : File) (p : Plan) (i : ℕ) → IsFormed F → IsOrdered F → IsClean F → IsPlan F p → i < length F.enums
+enum_made : (F : Joined) (p : Plan) (i : ℕ) → IsFormed F → IsOrdered F → IsClean F → IsPlan F p → i < length F.enums
     → (c : Choices) × IsEnumAt F p i c
 enum_made F p i formed ordered clean plan l =
     let e = some_at F.enums i l in
@@ -72,61 +75,66 @@ enum_made F p i formed ordered clean plan l =
 
 -- ---- methods
 
-stands_declared : {F : File} {n : Named} {full : List (List ℕ)} {span : Span} → StandsAt F n full span
-    → Declares F (sort_of n) full span
-stands_declared {F} (Numbers.message i m at up) = Scopes.message m (in_list F.messages i m at) up
-stands_declared {F} (Numbers.enum i e at up) = Scopes.enum e (in_list F.enums i e at) up
+stands_declared : {F : Joined} {n : Named} {file : ℕ} {full : List (List ℕ)} {span : Span} → StandsAt F n full span
+    → IsOfFile F n file → Declares F file (sort_of n) full span
+stands_declared {F} (Numbers.message i m {outer} at up) (Numbers.message_of j n also) =
+    subst (λ (x : MessageDecl). Declares F x.file a_message (outer ++ m.name.name ∷ []) m.name.span)
+    (same_Some m n (sym at ∙ also)) (Scopes.message m (in_list F.messages i m at) up)
+stands_declared {F} (Numbers.enum i e {outer} at up) (Numbers.enum_of j d also) =
+    subst (λ (x : EnumDecl). Declares F x.file an_enum (outer ++ e.name.name ∷ []) e.name.span)
+    (same_Some e d (sym at ∙ also)) (Scopes.enum e (in_list F.enums i e at) up)
 
 is_a_type : (n : Named) → is_type (sort_of n) ≡ true
 is_a_type (named.Message i) = refl
 is_a_type (named.Enum i) = refl
 
-first_message : (F : File) (full : List (List ℕ)) → Finds (F ∷ []) a_message full
-    → (i : ℕ) × IsFirstAt F (named.Message i) full
-first_message F full (in_this h) =
+first_message : (F : Joined) (file : ℕ) (full : List (List ℕ)) → Finds F file a_message full
+    → (i : ℕ) × IsFirstAt F file (named.Message i) full
+first_message F file full h =
     let s = message_stands h.declared in (
       s.0,
       record {
         span = h.span;
         stands = s.1;
-        first = λ n t other. h.first (sort_of n) t (stands_declared other) (is_a_type n);
+        seen = record { other = h.other; stands_in = s.2; seen = h.seen };
+        first = λ n t seen other.
+            h.first seen.other (sort_of n) t seen.seen (stands_declared other seen.stands_in) (is_a_type n);
       },
     )
-first_message F full (in_others none rest) = elim rest [ ]
 
--- the place of the message that an rpc's type names
-record Located (F : File) (p : Plan) (name : List ℕ) : Type 0 where
+-- the place of the message that the type of a file's rpc names
+record Located (F : Joined) (file : ℕ) (p : Plan) (name : List ℕ) : Type 0 where
   place : ℕ
-  located : (T : Table) → HasNames p T → IsPlaceNamed F T name place
+  located : (T : Table) → HasNames p T → IsPlaceNamed F file T name place
 
-located_at : (F : File) (p : Plan) (name : List ℕ) (full : List (List ℕ)) → IsPlan F p
-    → Names (F ∷ []) (package_of F) name a_message full → Located F p name
-located_at F p name full plan names =
-    let first = first_message F full names.finds in
+located_at : (F : Joined) (file : ℕ) (p : Plan) (name : List ℕ) (full : List (List ℕ)) → IsPlan F p
+    → Names F file (package_at F file) name a_message full → Located F file p name
+located_at F file p name full plan names =
+    let first = first_message F file full names.finds in
     let l : first.0 < length F.messages = (message_standing first.1.stands).1 in
     let at = placed_at p.messages.names.items p.messages first.0 plan.message_places
     (omega (arith, plan.all_messages)) in
-    record { place = at.0; located = place_named F p name first.0 at.0 full plan names first.1 at.1.back }
+    record { place = at.0; located = place_named F file p name first.0 at.0 full plan names first.1 at.1.back }
 
-abbrev IsMethodOfPlan : File → Plan → ServiceDecl × RpcDecl → Method → Type 0
+abbrev IsMethodOfPlan : Joined → Plan → ServiceDecl × RpcDecl → Method → Type 0
 IsMethodOfPlan F p x m = (T : Table) → HasNames p T → IsMethodIn F T x m
 
-method_made : (F : File) (p : Plan) (s : ServiceDecl) (r : RpcDecl) → IsFormed F → IsClean F → IsPlan F p
-    → Contains F.services s → Contains s.rpcs r → Located F p r.input.name → Located F p r.output.name
+method_made : (F : Joined) (p : Plan) (s : ServiceDecl) (r : RpcDecl) → IsFormed F → IsClean F → IsPlan F p
+    → Contains F.services s → Contains s.rpcs r → Located F s.file p r.input.name → Located F s.file p r.output.name
     → (m : Method) × IsMethodOfPlan F p (s, r) m
 method_made F p s r formed clean plan c d input output =
     let m : Method = record {
-      service = behind p.front s.name.name;
+      service = text_of (package_at F s.file ++ s.name.name ∷ []);
       name = r.name.name;
       input = input.place;
       output = output.place;
     } in (
       m,
-      λ T has. method_of F p T s r m formed clean c d (service_text F s p.front formed plan.front) refl
-          (input.located T has) (output.located T has),
+      λ T has. method_of F p T s r m formed clean c d refl refl (input.located T has)
+          (output.located T has),
     )
 
-method_exists : (F : File) (p : Plan) (x : ServiceDecl × RpcDecl) → IsFormed F → IsClean F → IsPlan F p
+method_exists : (F : Joined) (p : Plan) (x : ServiceDecl × RpcDecl) → IsFormed F → IsClean F → IsPlan F p
     → Contains (rpcs_of F) x → IsNotRefuted ((m : Method) × IsMethodOfPlan F p x m)
 method_exists F p x formed clean plan at never =
     let h = rpc_here F.services at.0 x.0 x.1 (at_in (rpcs_of F) x at) in
@@ -135,24 +143,26 @@ method_exists F p x formed clean plan at never =
     has_input F x.0 x.1 clean c d
     (λ input names. has_output F x.0 x.1 clean c d
     (λ output others. never (method_made F p x.0 x.1 formed clean plan c d
-    (located_at F p x.1.input.name input plan names) (located_at F p x.1.output.name output plan others))))
+    (located_at F x.0.file p x.1.input.name input plan names)
+    (located_at F x.0.file p x.1.output.name output plan others))))
 
 -- ---- the table
 
-message_within : (F : File) (p : Plan) → IsPlan F p → (i : ℕ) → Contains p.messages.order.items i
+message_within : (F : Joined) (p : Plan) → IsPlan F p → (i : ℕ) → Contains p.messages.order.items i
     → i < length F.messages
 message_within F p plan i c =
     let n = length p.messages.names.items in
     let l : i < n = All-contains (λ (k : ℕ). k < n) p.messages.order.items i plan.message_places.order.within c in
     omega (arith, plan.all_messages)
 
-enum_within : (F : File) (p : Plan) → IsPlan F p → (i : ℕ) → Contains p.enums.order.items i → i < length F.enums
+enum_within : (F : Joined) (p : Plan) → IsPlan F p → (i : ℕ) → Contains p.enums.order.items i → i < length F.enums
 enum_within F p plan i c =
     let n = length p.enums.names.items in
     let l : i < n = All-contains (λ (k : ℕ). k < n) p.enums.order.items i plan.enum_places.order.within c in
     omega (arith, plan.all_enums)
 
-pub table_exists : (F : File) → IsFormed F → IsOrdered F → IsClean F → IsNotRefuted ((T : Table) × Resolves F T)
+pub table_exists : (F : Joined) → IsFormed F → IsOrdered F → IsClean F
+    → IsNotRefuted ((T : Table) × ResolvesTogether F T)
 table_exists F formed ordered clean never =
     let plan = plan_made F formed ordered clean in
     let p : Plan = plan.0 in
@@ -204,18 +214,25 @@ in_turn a b m n few also h = elim (cases_lt a b) [
   | inr g ↦ inr (omega arith, omega arith)
 ]
 
--- where no offence is the first, there is none up to any turn
-none_before : (F : File) → ((q : ResolveReason) (s : Span) → HasOffence F q s → ⊥) → (n : ℕ) (q : ResolveReason)
-    (s : Span) → turn q s < n → IsOffence F q s → ⊥
-none_before F never zero q s l is = omega arith
-none_before F never (suc n) q s l is =
-    never q s (record {
-      offence = is;
-      first = λ r t other. elim (cases_lt (turn r t) (turn q s)) [
-        | inl sooner ↦ absurd (none_before F never n r t (omega arith) other)
-        | inr later ↦ in_turn s.start t.start (rank_of q) (rank_of r) (few_ranks q) (few_ranks r) later
-      ];
-    })
+-- where none is the first, there is none up to any turn
+none_before : (O : ResolveReason → Span → Type 0)
+    → ((q : ResolveReason) (s : Span) → O q s → ((r : ResolveReason) (t : Span) → O r t → ComesFirst q s r t) → ⊥)
+    → (n : ℕ) (q : ResolveReason) (s : Span) → turn q s < n → O q s → ⊥
+none_before O never zero q s l is = omega arith
+none_before O never (suc n) q s l is =
+    never q s is
+    (λ r t other. elim (cases_lt (turn r t) (turn q s)) [
+      | inl sooner ↦ absurd (none_before O never n r t (omega arith) other)
+      | inr later ↦ in_turn s.start t.start (rank_of q) (rank_of r) (few_ranks q) (few_ranks r) later
+    ])
 
-pub no_offence : (F : File) → ((q : ResolveReason) (s : Span) → HasOffence F q s → ⊥) → IsClean F
-no_offence F never q s is = none_before F never (suc (turn q s)) q s (omega arith) is
+pub none_of_all : (F : Joined) → ((q : ResolveReason) (s : Span) → HasFirst F q s → ⊥) → IsClean F
+none_of_all F never q s is =
+    none_before (Offends F) (λ r t here first. never r t (record { offence = here; first = first })) (suc (turn q s))
+    q s (omega arith) is
+
+pub no_offence : (F : File) → ((q : ResolveReason) (s : Span) → HasOffence F q s → ⊥) → (q : ResolveReason) (s : Span)
+    → IsOffence F q s → ⊥
+no_offence F never q s is =
+    none_before (IsOffence F) (λ r t here first. never r t (record { offence = here; first = first })) (suc (turn q s))
+    q s (omega arith) is

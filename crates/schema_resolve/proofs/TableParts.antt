@@ -1,10 +1,10 @@
--- A table that was made of a file says what the file says.
+-- A table that was made of files says what the files say.
 use Rattle.std.proofs.Common.{◌≡◌, ℕ, zero, suc, ◌+◌, ◌<◌, ◌≤◌, ◌⊎◌, inl, inr, List, [], ◌∷◌, ◌++◌, length, get_or, map, take, Some, refl, sym, ap, ◌∙◌, subst, arith, zero-add}
 use Rattle.std.specs.Prelude.{Contains, slice_get}
 use Rattle.std.specs.List.{flat_map}
 use Rattle.std.proofs.lemmas.Bool.{cases_lt}
 use Rattle.std.proofs.lemmas.Option.{slice_get_within, get_or_from_slice_get, slice_get-get_or, same_Some, none-some}
-use Rattle.std.proofs.lemmas.List.{get_or-map, length-map, length-append, append-nil}
+use Rattle.std.proofs.lemmas.List.{get_or-map, length-map, length-append, append_assoc}
 use Rattle.std.proofs.lemmas.List.Elements.{Contains-append_cases, All-contains}
 use Rattle.mrpc_table.specs.Text.{table_text}
 use Rattle.mrpc_table.specs.Valid.{Ascends, AreDistinct, IsBelow, IsValid}
@@ -14,21 +14,20 @@ use Rattle.mrpc_table.specs.declared.table.Choices.{Choices}
 use Rattle.mrpc_table.specs.declared.table.Method.{Method}
 use Rattle.mrpc_table.specs.declared.table.Table.{Table}
 use Rattle.proto_file.specs.Order
-use Rattle.proto_file.specs.Order.{IsFormed, IsFormedService, IsFormedRpc, IsOrdered, message_decl, enum_decl, rpc_decl}
-use Rattle.proto_file.specs.declared.file.MessageDecl.{MessageDecl}
-use Rattle.proto_file.specs.declared.file.EnumDecl.{EnumDecl}
+use Rattle.proto_file.specs.Order.{IsFormedRpc, IsFormedService}
+use Rattle.proto_file.specs.Together.{IsFormed, IsOrdered, enum_decl, message_decl, rpc_decl}
 use Rattle.proto_file.specs.declared.file.RpcDecl.{RpcDecl}
 use Rattle.proto_file.specs.declared.file.ServiceDecl.{ServiceDecl}
-use Rattle.proto_file.specs.declared.file.File.{File}
+use Rattle.proto_file.specs.Joined.{Joined, package_at}
+use Rattle.proto_file.specs.Together
 use Rattle.schema_names.specs.Scopes
-use Rattle.schema_names.specs.Scopes.{a_message, an_enum, no_type, text_of, package_of}
-use Rattle.schema_offences.specs.Sources.{Source, alone, messages_of, enums_of, methods_of, rpcs_of, service_rpcs}
-use Rattle.schema_offences.specs.Those.{AreThose, AreThoseInOrder, none, next}
+use Rattle.schema_names.specs.Scopes.{a_message, an_enum, no_type, text_of}
+use Rattle.schema_offences.specs.Methods.{rpcs_of, service_rpcs}
+use Rattle.schema_offences.specs.Those.{AreThoseInOrder, none, next}
 use Rattle.schema_offences.specs.Members.{too_many_methods}
 use Rattle.schema_offences.specs.Offences
-use Rattle.schema_offences.specs.Offences.{offends}
 use Rattle.schema_offences.specs.declared.reason.ResolveReason.TheVariants.{Limit}
-use Rattle.schema_resolve.specs.Tables.{IsMessageOf, IsEnumOf, IsMethodOf, IsTableOf}
+use Rattle.schema_resolve.specs.Tables.{IsMethodOf, IsTableOf}
 use Rattle.schema_resolve.specs.Resolving.{IsClean}
 use Rattle.schema_resolve.specs.Placing.{name_at, IsPlan, HasNames}
 use Rattle.schema_resolve.specs.InOrder.{IsEnumAt, IsMethodIn}
@@ -38,9 +37,9 @@ use Rattle.schema_resolve.specs.declared.plan.Plan.{Plan}
 use Rattle.schema_resolve.proofs.FullNames.{AreNames, package_names, names_more, same_text}
 use Rattle.schema_resolve.proofs.Orders.{apart_distinct, ascends_apart, below_trans, below_strict}
 use Rattle.schema_resolve.proofs.CleanFiles.{in_list, at_in, some_at, one_declaration, here_message, here_enum, message_text, enum_text, few_messages, few_enums}
-use Rattle.schema_resolve.proofs.EnumTables.{contains_map, map_contains}
+use Rattle.schema_resolve.proofs.EnumTables.{map_contains}
 use Rattle.schema_resolve.proofs.FieldTables.{field_names}
-use Rattle.schema_resolve.proofs.MessageTables.{in_order_get, in_order_back, in_order_map}
+use Rattle.schema_resolve.proofs.MessageTables.{in_order_weaker, in_order_get, in_order_back, in_order_map}
 
 -- ---- along an order
 
@@ -79,14 +78,9 @@ in_order_length : {X Y : Type 0} (R : X → Y → Type 0) {xs : List X} {ys : Li
 in_order_length R none = refl
 in_order_length R (next r rest) = ap suc (in_order_length R rest)
 
-in_order_mapped : {X Y Z : Type 0} (R : X → Y → Type 0) (S : Z → Y → Type 0) (f : X → Z) {xs : List X} {ys : List Y}
-    → ((x : X) (y : Y) → R x y → S (f x) y) → AreThoseInOrder R xs ys → AreThoseInOrder S (map f xs) ys
-in_order_mapped R S f h none = none
-in_order_mapped R S f h (next {x} {y} r rest) = next (h x y r) (in_order_mapped R S f h rest)
-
 -- ---- names
 
-pub has_names : (F : File) (T : Table) (made : IsMadeTable F T) → HasNames made.plan T
+pub has_names : (F : Joined) (T : Table) (made : IsMadeTable F T) → HasNames made.plan T
 has_names F T made = record {
   messages = sym (in_order_map (IsMessageAt F made.plan) (name_at made.plan.messages.names.items)
       (λ (m : Message). m.name) (λ i m h. sym h.name) made.messages_are);
@@ -94,7 +88,7 @@ has_names F T made = record {
       (λ (e : Choices). e.name) (λ i e h. sym h.name) made.enums_are);
 }
 
-messages_ascend : (F : File) (T : Table) (made : IsMadeTable F T)
+messages_ascend : (F : Joined) (T : Table) (made : IsMadeTable F T)
     → Ascends (λ (m n : Message). IsBelow m.name n.name) T.messages
 messages_ascend F T made =
     let names = made.plan.messages.names.items in
@@ -104,7 +98,7 @@ messages_ascend F T made =
     (subst (λ (a : List ℕ). IsBelow (name_at names i) a) (sym q.name) b)) made.messages_are
     made.is_plan.message_places.order.ascend
 
-enums_ascend : (F : File) (T : Table) (made : IsMadeTable F T)
+enums_ascend : (F : Joined) (T : Table) (made : IsMadeTable F T)
     → Ascends (λ (e f : Choices). IsBelow e.name f.name) T.enums
 enums_ascend F T made =
     let names = made.plan.enums.names.items in
@@ -115,7 +109,7 @@ enums_ascend F T made =
     made.is_plan.enum_places.order.ascend
 
 -- no enum has the name of a message
-types_apart : (F : File) (p : Plan) (i j : ℕ) → IsFormed F → IsOrdered F → IsClean F → IsPlan F p
+types_apart : (F : Joined) (p : Plan) (i j : ℕ) → IsFormed F → IsOrdered F → IsClean F → IsPlan F p
     → i < length F.enums → j < length F.messages
     → name_at p.enums.names.items i ≡ name_at p.messages.names.items j → ⊥
 types_apart F p i j formed ordered clean plan a b e =
@@ -129,12 +123,12 @@ types_apart F p i j formed ordered clean plan a b e =
     ∙ message_text F p.messages.names.items j y plan.messages (omega (arith, plan.all_messages)) []) in
     cc
 
-record EnumHere (F : File) (p : Plan) (n : ℕ) (c : Choices) : Type 0 where
+record EnumHere (F : Joined) (p : Plan) (n : ℕ) (c : Choices) : Type 0 where
   place : ℕ
   within : place < length F.enums
   is_at : IsEnumAt F p place c
 
-enum_here : (F : File) (T : Table) (made : IsMadeTable F T) (k : ℕ) (c : Choices) → slice_get T.enums k ≡ Some c
+enum_here : (F : Joined) (T : Table) (made : IsMadeTable F T) (k : ℕ) (c : Choices) → slice_get T.enums k ≡ Some c
     → EnumHere F made.plan k c
 enum_here F T made k c e =
     let h = in_order_back (IsEnumAt F made.plan) made.enums_are k c e in
@@ -149,12 +143,12 @@ enum_here F T made k c e =
       is_at = h.2;
     }
 
-record MessageHere (F : File) (p : Plan) (n : ℕ) (m : Message) : Type 0 where
+record MessageHere (F : Joined) (p : Plan) (n : ℕ) (m : Message) : Type 0 where
   place : ℕ
   within : place < length F.messages
   is_at : IsMessageAt F p place m
 
-message_here : (F : File) (T : Table) (made : IsMadeTable F T) (k : ℕ) (m : Message)
+message_here : (F : Joined) (T : Table) (made : IsMadeTable F T) (k : ℕ) (m : Message)
     → slice_get T.messages k ≡ Some m → MessageHere F made.plan k m
 message_here F T made k m e =
     let h = in_order_back (IsMessageAt F made.plan) made.messages_are k m e in
@@ -169,7 +163,7 @@ message_here F T made k m e =
       is_at = h.2;
     }
 
-types_distinct : (F : File) (T : Table) → IsFormed F → IsOrdered F → IsClean F → IsMadeTable F T
+types_distinct : (F : Joined) (T : Table) → IsFormed F → IsOrdered F → IsClean F → IsMadeTable F T
     → AreDistinct (map (λ (e : Choices). e.name) T.enums ++ map (λ (m : Message). m.name) T.messages)
 types_distinct F T formed ordered clean made =
     let en : Choices → List ℕ = λ e. e.name in
@@ -237,13 +231,19 @@ rpc_here (t ∷ ss) i s r e = elim (rpc_here_at t t.rpcs ss i s r e) [
 pub same_rpc : (a b i j : ℕ) → rpc_decl a i ≡ rpc_decl b j → (a ≡ b) × (i ≡ j)
 same_rpc a b i j e = (cc, cc)
 
-same_last : (xs : List (List ℕ)) (a b : List ℕ) → xs ++ a ∷ [] ≡ xs ++ b ∷ [] → a ≡ b
-same_last [] a b e = cc
-same_last (x ∷ xs) a b e = same_last xs a b (let f : xs ++ a ∷ [] ≡ xs ++ b ∷ [] = cc in f)
+-- services of one full name have rpcs of one full name
+same_rpc_text : (f g : List (List ℕ)) (r u : List ℕ) → f ≡ g → r ≡ u
+    → text_of (f ++ r ∷ []) ≡ text_of (g ++ u ∷ [])
+same_rpc_text f g r u e d =
+    ap (λ (h : List (List ℕ)). text_of (h ++ r ∷ [])) e ∙ ap (λ (n : List ℕ). text_of (g ++ n ∷ [])) d
 
-rpcs_apart : (F : File) (i j : ℕ) (s t : ServiceDecl) (r u : RpcDecl) → IsFormed F → IsOrdered F → IsClean F
+rpc_text : (front : List (List ℕ)) (s r : List ℕ)
+    → text_of (front ++ s ∷ r ∷ []) ≡ text_of ((front ++ s ∷ []) ++ r ∷ [])
+rpc_text front s r = ap text_of (sym (append_assoc front (s ∷ []) (r ∷ [])))
+
+rpcs_apart : (F : Joined) (i j : ℕ) (s t : ServiceDecl) (r u : RpcDecl) → IsFormed F → IsOrdered F → IsClean F
     → slice_get (rpcs_of F) i ≡ Some (s, r) → slice_get (rpcs_of F) j ≡ Some (t, u)
-    → text_of (package_of F ++ s.name.name ∷ []) ≡ text_of (package_of F ++ t.name.name ∷ [])
+    → text_of (package_at F s.file ++ s.name.name ∷ []) ≡ text_of (package_at F t.file ++ t.name.name ∷ [])
     → r.name.name ≡ u.name.name → i ≡ j
 rpcs_apart F i j s t r u formed ordered clean a b texts names =
     let x = rpc_here F.services i s r a in
@@ -254,28 +254,28 @@ rpcs_apart F i j s t r u formed ordered clean a b texts names =
     let uc : Contains t.rpcs u = in_list t.rpcs y.rpc u y.its_rpc in
     let sf = All-contains IsFormedService F.services s formed.services sc in
     let tf = All-contains IsFormedService F.services t formed.services tc in
-    let sn : AreNames (package_of F ++ s.name.name ∷ []) =
-    names_more (package_of F) s.name.name (package_names F formed) sf.name in
-    let tn : AreNames (package_of F ++ t.name.name ∷ []) =
-    names_more (package_of F) t.name.name (package_names F formed) tf.name in
-    let same : s.name.name ≡ t.name.name =
-    same_last (package_of F) s.name.name t.name.name
-    (same_text (package_of F ++ s.name.name ∷ []) (package_of F ++ t.name.name ∷ []) sn tn texts) in
+    let sp : List (List ℕ) = package_at F s.file in
+    let tp : List (List ℕ) = package_at F t.file in
+    let sn : AreNames (sp ++ s.name.name ∷ []) = names_more sp s.name.name (package_names F s.file formed) sf.name in
+    let tn : AreNames (tp ++ t.name.name ∷ []) = names_more tp t.name.name (package_names F t.file formed) tf.name in
+    let same : sp ++ s.name.name ∷ [] ≡ tp ++ t.name.name ∷ [] =
+    same_text (sp ++ s.name.name ∷ []) (tp ++ t.name.name ∷ []) sn tn texts in
     let d : rpc_decl x.service x.rpc ≡ rpc_decl y.service y.rpc =
     one_declaration F (rpc_decl x.service x.rpc) (rpc_decl y.service y.rpc) no_type no_type
-    (package_of F ++ s.name.name ∷ r.name.name ∷ []) (package_of F ++ t.name.name ∷ u.name.name ∷ []) r.name.span
+    (sp ++ s.name.name ∷ r.name.name ∷ []) (tp ++ t.name.name ∷ u.name.name ∷ []) r.name.span
     u.name.span ordered clean (Scopes.rpc s r sc rc) (Scopes.rpc t u tc uc)
-    (Order.rpc x.service x.rpc s r x.its_service x.its_rpc (Order.rpc_name refl))
-    (Order.rpc y.service y.rpc t u y.its_service y.its_rpc (Order.rpc_name refl))
-    (field_names (package_of F) s.name.name r.name.name sn (All-contains IsFormedRpc s.rpcs r sf.rpcs rc).name)
-    (field_names (package_of F) t.name.name u.name.name tn (All-contains IsFormedRpc t.rpcs u tf.rpcs uc).name)
-    (ap (λ (n : List ℕ). text_of (package_of F ++ n ∷ r.name.name ∷ [])) same
-    ∙ ap (λ (n : List ℕ). text_of (package_of F ++ t.name.name ∷ n ∷ [])) names) in
+    (Together.rpc x.service x.rpc s r x.its_service x.its_rpc (Order.rpc_name refl))
+    (Together.rpc y.service y.rpc t u y.its_service y.its_rpc (Order.rpc_name refl))
+    (field_names sp s.name.name r.name.name sn (All-contains IsFormedRpc s.rpcs r sf.rpcs rc).name)
+    (field_names tp t.name.name u.name.name tn (All-contains IsFormedRpc t.rpcs u tf.rpcs uc).name)
+    (rpc_text sp s.name.name r.name.name
+    ∙ same_rpc_text (sp ++ s.name.name ∷ []) (tp ++ t.name.name ∷ []) r.name.name u.name.name same names
+    ∙ sym (rpc_text tp t.name.name u.name.name)) in
     let p = same_rpc x.service y.service x.rpc y.rpc d in
     x.is_place ∙ ap (λ (k : ℕ). length (flat_map service_rpcs (take k F.services)) + x.rpc) p.0
     ∙ ap (λ (k : ℕ). length (flat_map service_rpcs (take y.service F.services)) + k) p.1 ∙ sym y.is_place
 
-methods_distinct : (F : File) (T : Table) → IsFormed F → IsOrdered F → IsClean F → IsMadeTable F T
+methods_distinct : (F : Joined) (T : Table) → IsFormed F → IsOrdered F → IsClean F → IsMadeTable F T
     → AreDistinct {X = List ℕ × List ℕ} (map (λ (m : Method). (m.service, m.name)) T.methods)
 methods_distinct F T formed ordered clean made =
     let pair : Method → List ℕ × List ℕ = λ m. (m.service, m.name) in
@@ -297,18 +297,18 @@ methods_distinct F T formed ordered clean made =
     (sym xr.2.is.service ∙ ap (λ (q : List ℕ × List ℕ). q.0) same ∙ yr.2.is.service)
     (sym xr.2.is.name ∙ ap (λ (q : List ℕ × List ℕ). q.1) same ∙ yr.2.is.name))
 
-few_methods : (F : File) → IsClean F → length (rpcs_of F) ≤ MAX_METHODS
+few_methods : (F : Joined) → IsClean F → length (rpcs_of F) ≤ MAX_METHODS
 few_methods F clean = elim (cases_lt MAX_METHODS (length (rpcs_of F))) [
   | inl more ↦
       let p = some_at (rpcs_of F) MAX_METHODS more in
-      absurd (clean Limit p.0.1.name.span (offends (Offences.of_method MAX_METHODS p.0.0 p.0.1 p.1
-      (too_many_methods (omega arith) (refl, refl)))))
+      absurd (clean Limit p.0.1.name.span (Offences.of_method MAX_METHODS p.0.0 p.0.1 p.1
+      (too_many_methods (omega arith) (refl, refl))))
   | inr few ↦ few
 ]
 
 -- ---- the table
 
-pub valid_table : (F : File) (T : Table) → IsFormed F → IsOrdered F → IsClean F → IsMadeTable F T
+pub valid_table : (F : Joined) (T : Table) → IsFormed F → IsOrdered F → IsClean F → IsMadeTable F T
     → length (table_text T) ≤ MAX_TEXT → IsValid T
 valid_table F T formed ordered clean made short =
     let has = has_names F T made in
@@ -342,52 +342,34 @@ valid_table F T formed ordered clean made short =
       short = short;
     }
 
-pub made_is_table : (F : File) (T : Table) → IsFormed F → IsOrdered F → IsClean F → IsMadeTable F T
-    → length (table_text T) ≤ MAX_TEXT → IsTableOf (alone F ∷ []) T
+pub made_is_table : (F : Joined) (T : Table) → IsFormed F → IsOrdered F → IsClean F → IsMadeTable F T
+    → length (table_text T) ≤ MAX_TEXT → IsTableOf F T
 made_is_table F T formed ordered clean made short =
-    let has = has_names F T made in
-    let all = made.methods_are.each T has in
-    let S : Source = alone F in
-    let mp : MessageDecl → Source × MessageDecl = λ m. (S, m) in
-    let ep : EnumDecl → Source × EnumDecl = λ e. (S, e) in
-    let rp : ServiceDecl × RpcDecl → Source × (ServiceDecl × RpcDecl) = λ r. (S, r) in
-    let ms : messages_of (S ∷ []) ≡ map mp F.messages = append-nil (map mp F.messages) in
-    let es : enums_of (S ∷ []) ≡ map ep F.enums = append-nil (map ep F.enums) in
-    let rs : methods_of (S ∷ []) ≡ map rp (rpcs_of F) = append-nil (map rp (rpcs_of F)) in
-    record {
+    let has = has_names F T made in record {
       valid = valid_table F T formed ordered clean made short;
-      messages = subst (λ (l : List (Source × MessageDecl)). AreThose (IsMessageOf T) l T.messages) (sym ms) (record {
-        each = λ q c.
-            let m = map_contains mp F.messages q c in
-            let l = m.1.1 in
-            let o = made.is_plan.message_places.order.each m.1.0 (omega (arith, made.is_plan.all_messages)) in
-            let t = in_order_get (IsMessageAt F made.plan) made.messages_are o.0 m.1.0
-            (at_in made.plan.messages.order.items m.1.0 o) in (
-              t.0,
-              in_list T.messages o.0 t.0 t.1,
-              subst (λ (p : Source × MessageDecl). IsMessageOf T p t.0) m.2 (t.2.is T has m.0 (at_in F.messages m.0 m.1)),
-            );
+      messages = record {
+        each = λ m c.
+            let l : c.0 < length F.messages = c.1 in
+            let o = made.is_plan.message_places.order.each c.0 (omega (arith, made.is_plan.all_messages)) in
+            let t = in_order_get (IsMessageAt F made.plan) made.messages_are o.0 c.0
+            (at_in made.plan.messages.order.items c.0 o) in
+            (t.0, in_list T.messages o.0 t.0 t.1, t.2.is T has m (at_in F.messages m c));
         alone = λ t c.
             let h = message_here F T made c.0 t (at_in T.messages t c) in
             let m = some_at F.messages h.place h.within in
-            (mp m.0, contains_map mp F.messages m.0 (in_list F.messages h.place m.0 m.1), h.is_at.is T has m.0 m.1);
-      });
-      enums = subst (λ (l : List (Source × EnumDecl)). AreThose IsEnumOf l T.enums) (sym es) (record {
-        each = λ q c.
-            let e = map_contains ep F.enums q c in
-            let l = e.1.1 in
-            let o = made.is_plan.enum_places.order.each e.1.0 (omega (arith, made.is_plan.all_enums)) in
-            let t = in_order_get (IsEnumAt F made.plan) made.enums_are o.0 e.1.0
-            (at_in made.plan.enums.order.items e.1.0 o) in (
-              t.0,
-              in_list T.enums o.0 t.0 t.1,
-              subst (λ (p : Source × EnumDecl). IsEnumOf p t.0) e.2 (t.2.is e.0 (at_in F.enums e.0 e.1)),
-            );
+            (m.0, in_list F.messages h.place m.0 m.1, h.is_at.is T has m.0 m.1);
+      };
+      enums = record {
+        each = λ e c.
+            let l : c.0 < length F.enums = c.1 in
+            let o = made.is_plan.enum_places.order.each c.0 (omega (arith, made.is_plan.all_enums)) in
+            let t = in_order_get (IsEnumAt F made.plan) made.enums_are o.0 c.0
+            (at_in made.plan.enums.order.items c.0 o) in
+            (t.0, in_list T.enums o.0 t.0 t.1, t.2.is e (at_in F.enums e c));
         alone = λ t c.
             let h = enum_here F T made c.0 t (at_in T.enums t c) in
             let e = some_at F.enums h.place h.within in
-            (ep e.0, contains_map ep F.enums e.0 (in_list F.enums h.place e.0 e.1), h.is_at.is e.0 e.1);
-      });
-      methods = subst (λ (l : List (Source × (ServiceDecl × RpcDecl))). AreThoseInOrder (IsMethodOf T) l T.methods) (sym rs)
-          (in_order_mapped (IsMethodIn F T) (IsMethodOf T) rp (λ r t h. h.is) all);
+            (e.0, in_list F.enums h.place e.0 e.1, h.is_at.is e.0 e.1);
+      };
+      methods = in_order_weaker (IsMethodIn F T) (IsMethodOf T F) (λ r t h. h.is) (made.methods_are.each T has);
     }

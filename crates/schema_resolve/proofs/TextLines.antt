@@ -1,6 +1,6 @@
 -- The lines of a table's text by the places of their names: none passes the text's limit where nothing stands against the
--- file.
-use Rattle.std.proofs.Common.{◌≡◌, ◌≢◌, ℕ, suc, ◌+◌, ◌<◌, ◌≤◌, inl, inr, Bool, true, false, cond, List, [], ◌∷◌, ◌++◌, length, map, ltb, refl, sym, ap, ◌∙◌, subst, arith, zero-add}
+-- files.
+use Rattle.std.proofs.Common.{◌≡◌, ◌≢◌, ℕ, suc, ◌+◌, ◌<◌, ◌≤◌, inl, inr, Bool, true, false, cond, List, [], ◌∷◌, ◌++◌, length, map, ltb, refl, sym, ap, ◌∙◌, subst, arith}
 use Rattle.std.specs.Prelude.{Contains}
 use Rattle.std.specs.List.{flat_map, AllByRecursion}
 use Rattle.std.proofs.lemmas.Bool.{cases_lt, ltb-true, ltb-false}
@@ -8,13 +8,12 @@ use Rattle.std.proofs.lemmas.List.{length-append, append_assoc}
 use Rattle.std.proofs.lemmas.List.Elements.{All-from_recursion}
 use Rattle.mrpc_table.specs.Valid.{Ascends}
 use Rattle.mrpc_table.specs.declared.limits.TheConstants.{MAX_TEXT}
-use Rattle.proto_file.specs.Order.{Declaration, StandsAt, IsOrdered, its_name}
+use Rattle.proto_file.specs.Order.{its_name}
+use Rattle.proto_file.specs.Together.{Declaration, IsOrdered, StandsAt}
 use Rattle.proto_file.specs.declared.file.Span.{Span}
-use Rattle.proto_file.specs.declared.file.File.{File}
-use Rattle.schema_offences.specs.Sources.{alone}
+use Rattle.proto_file.specs.Joined.{Joined}
 use Rattle.schema_offences.specs.Lines.{HasLine, PassesAt}
 use Rattle.schema_offences.specs.Offences
-use Rattle.schema_offences.specs.Offences.{offends}
 use Rattle.schema_offences.specs.declared.reason.ResolveReason.TheVariants.{Limit}
 use Rattle.schema_resolve.specs.Resolving.{IsClean}
 
@@ -131,22 +130,22 @@ last_of x (y ∷ ys) a =
       behind = (omega arith, r.behind);
     }
 
-pass_from : (F : File) (xs : List Line) → IsClean F → AllByRecursion (λ (l : Line). HasLine (alone F) l.0 l.1) xs
+pass_from : (F : Joined) (xs : List Line) → IsClean F → AllByRecursion (λ (l : Line). HasLine F l.0 l.1) xs
     → Ascends Starts xs → MAX_TEXT < total xs → ⊥
 pass_from F [] clean h a more = omega arith
 pass_from F (x ∷ xs) clean h a more =
     let r = last_of x xs a in
     let n : length (flat_map (λ (l : Line). l.1) (x ∷ xs)) ≡ total (x ∷ xs) = total_length (x ∷ xs) in
-    let pass : PassesAt (alone F) r.line.0 = record {
+    let pass : PassesAt F r.line.0 = record {
       lines = x ∷ xs;
-      are = All-from_recursion (λ (l : Line). HasLine (alone F) l.0 l.1) (x ∷ xs) h;
+      are = All-from_recursion (λ (l : Line). HasLine F l.0 l.1) (x ∷ xs) h;
       ascend = a;
       own = r.line.1;
       last = r.inside;
       none_behind = All-from_recursion (λ (l : Line). l.0.start ≤ r.line.0.start) (x ∷ xs) r.behind;
-      pass = subst (λ (k : ℕ). MAX_TEXT < k) (sym (zero-add (length (flat_map (λ (l : Line). l.1) (x ∷ xs))) ∙ n)) more;
+      pass = subst (λ (k : ℕ). MAX_TEXT < k) (sym n) more;
     } in
-    clean Limit r.line.0 (offends (Offences.long_text r.line.0 pass (refl, refl)))
+    clean Limit r.line.0 (Offences.long_text r.line.0 pass (refl, refl))
 
 -- ---- lines of declarations
 
@@ -155,8 +154,8 @@ pub record Entry : Type 0 where
   pub span : Span
   pub line : List ℕ
 
-pub record IsEntry (F : File) (e : Entry) : Type 0 where
-  pub has : HasLine (alone F) e.span e.line
+pub record IsEntry (F : Joined) (e : Entry) : Type 0 where
+  pub has : HasLine F e.span e.line
   pub stands : StandsAt F e.span e.decl its_name
 
 abbrev pub Differ : Entry → Entry → Type 0
@@ -172,12 +171,12 @@ line_in e = (e.span, e.line)
 abbrev pub text_in : List Entry → List ℕ
 text_in es = flat_map (λ (e : Entry). e.line) es
 
-entries_lines : (F : File) (es : List Entry) → AllByRecursion (IsEntry F) es
-    → AllByRecursion (λ (l : Line). HasLine (alone F) l.0 l.1) (map line_in es)
+entries_lines : (F : Joined) (es : List Entry) → AllByRecursion (IsEntry F) es
+    → AllByRecursion (λ (l : Line). HasLine F l.0 l.1) (map line_in es)
 entries_lines F [] h = tt
 entries_lines F (e ∷ es) h = (h.0.has, entries_lines F es h.1)
 
-apart_from : (F : File) (e : Entry) (es : List Entry) → IsOrdered F → IsEntry F e → AllByRecursion (IsEntry F) es
+apart_from : (F : Joined) (e : Entry) (es : List Entry) → IsOrdered F → IsEntry F e → AllByRecursion (IsEntry F) es
     → AllByRecursion (Differ e) es → AllByRecursion (IsApart (line_in e)) (map line_in es)
 apart_from F e [] ordered i h d = tt
 apart_from F e (x ∷ xs) ordered i h d = (
@@ -185,7 +184,7 @@ apart_from F e (x ∷ xs) ordered i h d = (
   apart_from F e xs ordered i h.1 d.1,
 )
 
-entries_apart : (F : File) (es : List Entry) → IsOrdered F → AllByRecursion (IsEntry F) es → AllDiffer es
+entries_apart : (F : Joined) (es : List Entry) → IsOrdered F → AllByRecursion (IsEntry F) es → AllDiffer es
     → StartApart (map line_in es)
 entries_apart F [] ordered h d = tt
 entries_apart F (e ∷ es) ordered h d = (apart_from F e es ordered h.0 h.1 d.0, entries_apart F es ordered h.1 d.1)
@@ -194,15 +193,15 @@ entries_total : (es : List Entry) → total (map line_in es) ≡ length (text_in
 entries_total [] = refl
 entries_total (e ∷ es) = ap (λ (n : ℕ). length e.line + n) (entries_total es) ∙ sym (length-append e.line (text_in es))
 
--- the text of different declarations of a clean file isn't too long
-pub entries_short : (F : File) (es : List Entry) → IsOrdered F → IsClean F → AllByRecursion (IsEntry F) es
+-- the text of different declarations of clean files isn't too long
+pub entries_short : (F : Joined) (es : List Entry) → IsOrdered F → IsClean F → AllByRecursion (IsEntry F) es
     → AllDiffer es → length (text_in es) ≤ MAX_TEXT
 entries_short F es ordered clean h d = elim (cases_lt MAX_TEXT (length (text_in es))) [
   | inl more ↦
       let lines = map line_in es in
       let t : total (sort lines) ≡ length (text_in es) = sort_total lines ∙ entries_total es in
       absurd (pass_from F (sort lines) clean
-      (sort_all (λ (l : Line). HasLine (alone F) l.0 l.1) lines (entries_lines F es h))
+      (sort_all (λ (l : Line). HasLine F l.0 l.1) lines (entries_lines F es h))
       (sort_ascends lines (entries_apart F es ordered h d)) (omega arith))
   | inr few ↦ few
 ]

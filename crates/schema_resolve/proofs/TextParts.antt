@@ -1,4 +1,4 @@
--- The text of a table is made of lines of different declarations of its file.
+-- The text of a table is made of lines of different declarations of the files.
 use Rattle.std.proofs.Common.{◌≡◌, ℕ, suc, ◌+◌, ◌<◌, ◌≤◌, Bool, true, false, cond, List, [], ◌∷◌, ◌++◌, length, get_or, map, take, Option, Some, None, refl, sym, ap, ◌∙◌, subst, arith, zero-add}
 use Rattle.std.specs.Prelude.{Contains, All, slice_get, codes, ℤ, FitsSigned, ◌&&◌}
 use Rattle.std.specs.Int.{w32}
@@ -17,7 +17,7 @@ use Rattle.mrpc_table.specs.declared.table.Choices.{Choices}
 use Rattle.mrpc_table.specs.declared.table.Method.{Method}
 use Rattle.mrpc_table.specs.declared.table.Table.{Table}
 use Rattle.proto_file.specs.Order
-use Rattle.proto_file.specs.Order.{Declaration, IsFormed, IsOrdered, message_decl, field_decl, enum_decl, value_decl, rpc_decl, package_decl, import_decl, oneof_decl, service_decl}
+use Rattle.proto_file.specs.Together.{Declaration, IsFormed, IsOrdered, enum_decl, field_decl, message_decl, oneof_decl, package_decl, rpc_decl, service_decl, value_decl}
 use Rattle.proto_file.specs.declared.file.Span.{Span}
 use Rattle.proto_file.specs.declared.file.FieldLabel.{FieldLabel}
 use Rattle.proto_file.specs.declared.file.FieldLabel.TheVariants.{Plain, Optional, Repeated}
@@ -27,9 +27,11 @@ use Rattle.proto_file.specs.declared.file.ValueDecl.{ValueDecl}
 use Rattle.proto_file.specs.declared.file.EnumDecl.{EnumDecl}
 use Rattle.proto_file.specs.declared.file.RpcDecl.{RpcDecl}
 use Rattle.proto_file.specs.declared.file.ServiceDecl.{ServiceDecl}
-use Rattle.proto_file.specs.declared.file.File.{File}
-use Rattle.schema_names.specs.Scopes.{text_of, package_of, IsScope, of_message}
-use Rattle.schema_offences.specs.Sources.{alone, rpcs_of, service_rpcs}
+use Rattle.proto_file.specs.Joined.{Joined, package_at}
+use Rattle.proto_file.specs.declared.joined.Home.TheVariants as home
+use Rattle.proto_file.specs.Together
+use Rattle.schema_names.specs.Scopes.{text_of, IsScope, of_message}
+use Rattle.schema_offences.specs.Methods.{rpcs_of, service_rpcs}
 use Rattle.schema_offences.specs.Those.{AreThoseInOrder, none, next}
 use Rattle.schema_offences.specs.Types.{value_of, no_table, isnt_false, single_label, label_in, HasForm, single, a_map}
 use Rattle.schema_offences.specs.Lines
@@ -49,7 +51,7 @@ use Rattle.schema_resolve.proofs.TableParts.{has_names, RpcHere, rpc_here, same_
 
 -- ---- parts of a text
 
-record Part (F : File) (text : List ℕ) (P : Declaration → Type 0) : Type 0 where
+record Part (F : Joined) (text : List ℕ) (P : Declaration → Type 0) : Type 0 where
   entries : List Entry
   are : AllByRecursion (IsEntry F) entries
   differ : AllDiffer entries
@@ -61,10 +63,10 @@ all_weaker : (P Q : Entry → Type 0) (es : List Entry) → ((e : Entry) → P e
 all_weaker P Q [] h a = tt
 all_weaker P Q (e ∷ es) h a = (h e a.0, all_weaker P Q es h a.1)
 
-no_part : (F : File) (P : Declaration → Type 0) → Part F [] P
+no_part : (F : Joined) (P : Declaration → Type 0) → Part F [] P
 no_part F P = record { entries = []; are = tt; differ = tt; text_is = refl; owned = tt }
 
-cons_part : (F : File) (e : Entry) (text : List ℕ) (P Q : Declaration → Type 0) → IsEntry F e → Part F text P
+cons_part : (F : Joined) (e : Entry) (text : List ℕ) (P Q : Declaration → Type 0) → IsEntry F e → Part F text P
     → ((d : Declaration) → P d → e.decl ≡ d → ⊥) → Q e.decl → ((d : Declaration) → P d → Q d)
     → Part F (e.line ++ text) Q
 cons_part F e text P Q is p apart own more = record {
@@ -75,7 +77,7 @@ cons_part F e text P Q is p apart own more = record {
   owned = (own, all_weaker (λ x. P x.decl) (λ x. Q x.decl) p.entries (λ x h. more x.decl h) p.owned);
 }
 
-join_parts : (F : File) (a b : List ℕ) (P Q R : Declaration → Type 0) → Part F a P → Part F b Q
+join_parts : (F : Joined) (a b : List ℕ) (P Q R : Declaration → Type 0) → Part F a P → Part F b Q
     → ((d f : Declaration) → P d → Q f → d ≡ f → ⊥) → ((d : Declaration) → P d → R d) → ((d : Declaration) → Q d → R d)
     → Part F (a ++ b) R
 join_parts F a b P Q R p q apart l r = record {
@@ -93,7 +95,7 @@ join_parts F a b P Q R p q apart l r = record {
 
 -- ---- the values of an enum, the fields of a message
 
-record Found (F : File) (D : ℕ → Declaration) {X : Type 0} (xs : List X) (name : X → List ℕ) (own n : List ℕ)
+record Found (F : Joined) (D : ℕ → Declaration) {X : Type 0} (xs : List X) (name : X → List ℕ) (own n : List ℕ)
     : Type 0 where
   at : ℕ
   item : X
@@ -110,7 +112,7 @@ record Owned (D : ℕ → Declaration) {X : Type 0} (xs : List X) (name : X → 
   here : slice_get xs at ≡ Some item
   among : Contains names (name item)
 
-items_part : (F : File) (D : ℕ → Declaration) {X W : Type 0} (xs : List X) (name : X → List ℕ) (wname wline : W → List ℕ)
+items_part : (F : Joined) (D : ℕ → Declaration) {X W : Type 0} (xs : List X) (name : X → List ℕ) (wname wline : W → List ℕ)
     (ws : List W) → ((i j : ℕ) → D i ≡ D j → i ≡ j) → AreDistinct (map wname ws)
     → ((w : W) → Contains ws w → Found F D xs name (wline w) (wname w))
     → Part F (flat_map wline ws) (Owned D xs name (map wname ws))
@@ -163,17 +165,17 @@ IsAtOne c is d = (class d ≡ c) × Contains is (place d)
 
 -- ---- enums
 
-value_entry : (F : File) (p : Plan) (i : ℕ) (e : EnumDecl) (v : ValueDecl) (j : ℕ) (w : ℤ × List ℕ)
+value_entry : (F : Joined) (p : Plan) (i : ℕ) (e : EnumDecl) (v : ValueDecl) (j : ℕ) (w : ℤ × List ℕ)
     → slice_get F.enums i ≡ Some e → slice_get e.values j ≡ Some v → FitsSigned w32 w.0 → IsValueOf v w
     → IsEntry F (record { decl = value_decl i j; span = v.name.span; line = value_line w })
 value_entry F p i e v j w at here fits is =
-    let V : ℤ → List ℕ → Type 0 = λ x n. HasLine (alone F) v.name.span (value_line (x, n)) in
+    let V : ℤ → List ℕ → Type 0 = λ x n. HasLine F v.name.span (value_line (x, n)) in
     let has : V (value_of v.number) v.name.name =
     Lines.of_value e v (record { enum = in_list F.enums i e at; value = in_list e.values j v here })
     (subst (FitsSigned w32) is.0 fits) in
     record {
       has = subst (λ (n : List ℕ). V w.0 n) (sym is.1) (subst (λ (x : ℤ). V x v.name.name) (sym is.0) has);
-      stands = Order.value i j e v at here (Order.value_name refl);
+      stands = Together.value i j e v at here (Order.value_name refl);
     }
 
 same_value : (i j k : ℕ) → value_decl i j ≡ value_decl i k → j ≡ k
@@ -182,7 +184,7 @@ same_value i j k e = cc
 not_enum_value : (i j k : ℕ) → enum_decl i ≡ value_decl j k → ⊥
 not_enum_value i j k e = cc
 
-enum_part : (F : File) (p : Plan) (i : ℕ) (c : Choices) → IsEnumAt F p i c → i < length F.enums
+enum_part : (F : Joined) (p : Plan) (i : ℕ) (c : Choices) → IsEnumAt F p i c → i < length F.enums
     → Part F (enum_lines c) (IsAt 1 i)
 enum_part F p i c h l =
     let x = some_at F.enums i l in
@@ -206,14 +208,14 @@ enum_part F p i c h l =
     cons_part F (record { decl = enum_decl i; span = e.name.span; line = own }) (flat_map value_line c.values)
     (Owned (value_decl i) e.values name (map (λ (w : ℤ × List ℕ). w.1) c.values)) (IsAt 1 i)
     (record {
-      has = subst (λ (n : List ℕ). HasLine (alone F) e.name.span (line (codes "enum" ∷ n ∷ []))) (sym is.name)
+      has = subst (λ (n : List ℕ). HasLine F e.name.span (line (codes "enum" ∷ n ∷ []))) (sym is.name)
           (Lines.of_enum e (in_list F.enums i e x.1) is.stands);
-      stands = Order.enum i e x.1 refl;
+      stands = Together.enum i e x.1 refl;
     })
     values (λ d o s. not_enum_value i i o.at (s ∙ o.is)) (refl, refl)
     (λ d o. (ap class o.is, ap place o.is))
 
-enums_part : (F : File) (p : Plan) (is : List ℕ) (cs : List Choices) → AreThoseInOrder (IsEnumAt F p) is cs
+enums_part : (F : Joined) (p : Plan) (is : List ℕ) (cs : List Choices) → AreThoseInOrder (IsEnumAt F p) is cs
     → AreDistinct is → All (λ i. i < length F.enums) is → Part F (flat_map enum_lines cs) (IsAtOne 1 is)
 enums_part F p is cs none distinct within = no_part F (IsAtOne 1 [])
 enums_part F p is cs (next {x = i} {y = c} {xs} {ys} r rest) distinct within =
@@ -244,39 +246,39 @@ oneof_alike T ns None l h = h
 oneof_alike T ns (Some i) l h = refl
 
 -- a label's text says nothing of the table
-pub form_alike : (T : Table) (ns : List (List ℕ)) (files : List File) (scope : List (List ℕ)) (f : FieldDecl) (label : Label)
-    (word : List ℕ) → HasForm files scope f label word → label_text T ns label ≡ label_text no_table ns label
-form_alike T ns files scope f label word (single w text im pk is typ) =
+pub form_alike : (T : Table) (ns : List (List ℕ)) (F : Joined) (file : ℕ) (scope : List (List ℕ)) (f : FieldDecl) (label : Label)
+    (word : List ℕ) → HasForm F file scope f label word → label_text T ns label ≡ label_text no_table ns label
+form_alike T ns F file scope f label word (single w text im pk is typ) =
     oneof_alike T ns f.oneof (single_label f.label f.packed im pk) (single_alike T ns f.label f.packed im pk)
-form_alike T ns files scope f label word (a_map key value k text im pk is plain alone_here s keyed typ) =
+form_alike T ns F file scope f label word (a_map key value k text im pk is plain alone_here s keyed typ) =
     ap (λ (t : List ℕ). codes "map:" ++ t) (scalar_text T k s.is_one)
 
-field_entry : (F : File) (T : Table) (i : ℕ) (m : MessageDecl) (scope : List (List ℕ)) (t : Message) (f : FieldDecl)
-    (g : Field) (j : ℕ) → slice_get F.messages i ≡ Some m → IsScope F (Some i) scope → slice_get m.fields j ≡ Some f
-    → IsFieldOf T (alone F) scope m t f g → IsFieldNumber g.number
+field_entry : (F : Joined) (T : Table) (i : ℕ) (m : MessageDecl) (scope : List (List ℕ)) (t : Message) (f : FieldDecl)
+    (g : Field) (j : ℕ) → slice_get F.messages i ≡ Some m → IsScope F (home.Message i) scope → slice_get m.fields j ≡ Some f
+    → IsFieldOf T F scope m t f g → IsFieldNumber g.number
     → IsEntry F (record { decl = field_decl i j; span = f.name.span; line = field_line T t.oneofs g })
 field_entry F T i m scope t f g j at up here is number =
     let ns : List (List ℕ) = map (λ o. o.name) m.oneofs in
     let label : label_text no_table ns is.label ≡ label_text T t.oneofs g.label =
-    sym (is.same ∙ form_alike T ns (F ∷ []) scope f is.label is.word is.form) in
-    let has : HasLine (alone F) f.name.span
+    sym (is.same ∙ form_alike T ns F m.file scope f is.label is.word is.form) in
+    let has : HasLine F f.name.span
     (line (codes "field" ∷ decimal g.number ∷ label_text no_table ns is.label ∷ is.word ∷ f.name.name ∷ [])) =
     Lines.of_field m f g.number
     (record { place = i; message = at; is_scope = up; field = in_list m.fields j f here })
     (sym is.number) number is.form in
-    let has2 : HasLine (alone F) f.name.span
+    let has2 : HasLine F f.name.span
     (line (codes "field" ∷ decimal g.number ∷ label_text T t.oneofs g.label ∷ is.word ∷ f.name.name ∷ [])) =
-    subst (λ (l : List ℕ). HasLine (alone F) f.name.span
+    subst (λ (l : List ℕ). HasLine F f.name.span
     (line (codes "field" ∷ decimal g.number ∷ l ∷ is.word ∷ f.name.name ∷ []))) label has in
-    let has3 : HasLine (alone F) f.name.span
+    let has3 : HasLine F f.name.span
     (line (codes "field" ∷ decimal g.number ∷ label_text T t.oneofs g.label ∷ kind_text T g.kind ∷ f.name.name ∷ [])) =
-    subst (λ (w : List ℕ). HasLine (alone F) f.name.span
+    subst (λ (w : List ℕ). HasLine F f.name.span
     (line (codes "field" ∷ decimal g.number ∷ label_text T t.oneofs g.label ∷ w ∷ f.name.name ∷ []))) (sym is.kind) has2 in
     record {
-      has = subst (λ (n : List ℕ). HasLine (alone F) f.name.span
+      has = subst (λ (n : List ℕ). HasLine F f.name.span
           (line (codes "field" ∷ decimal g.number ∷ label_text T t.oneofs g.label ∷ kind_text T g.kind ∷ n ∷ [])))
           (sym is.name) has3;
-      stands = Order.field i j m f at here (Order.field_name refl);
+      stands = Together.field i j m f at here (Order.field_name refl);
     }
 
 same_field : (i j k : ℕ) → field_decl i j ≡ field_decl i k → j ≡ k
@@ -285,7 +287,7 @@ same_field i j k e = cc
 not_message_field : (i j k : ℕ) → message_decl i ≡ field_decl j k → ⊥
 not_message_field i j k e = cc
 
-message_part : (F : File) (p : Plan) (T : Table) (i : ℕ) (t : Message) → HasNames p T → IsMessageAt F p i t
+message_part : (F : Joined) (p : Plan) (T : Table) (i : ℕ) (t : Message) → HasNames p T → IsMessageAt F p i t
     → i < length F.messages → Part F (message_lines T t) (IsAt 2 i)
 message_part F p T i t has h l =
     let x = some_at F.messages i l in
@@ -293,7 +295,7 @@ message_part F p T i t has h l =
     let is = h.is T has m x.1 in
     let valid = h.valid T has in
     let scope : List (List ℕ) = is.outer ++ m.name.name ∷ [] in
-    let up : IsScope F (Some i) scope = of_message i m x.1 is.stands in
+    let up : IsScope F (home.Message i) scope = of_message i m x.1 is.stands in
     let own : List ℕ = line (codes "message" ∷ t.name ∷ []) in
     let name : FieldDecl → List ℕ = λ f. f.name.name in
     let fields = items_part F (field_decl i) m.fields name (λ (g : Field). g.name) (field_line T t.oneofs) t.fields
@@ -312,14 +314,14 @@ message_part F p T i t has h l =
     cons_part F (record { decl = message_decl i; span = m.name.span; line = own }) (flat_map (field_line T t.oneofs) t.fields)
     (Owned (field_decl i) m.fields name (map (λ (g : Field). g.name) t.fields)) (IsAt 2 i)
     (record {
-      has = subst (λ (n : List ℕ). HasLine (alone F) m.name.span (line (codes "message" ∷ n ∷ []))) (sym is.name)
+      has = subst (λ (n : List ℕ). HasLine F m.name.span (line (codes "message" ∷ n ∷ []))) (sym is.name)
           (Lines.of_message m (in_list F.messages i m x.1) is.stands);
-      stands = Order.message i m x.1 refl;
+      stands = Together.message i m x.1 refl;
     })
     fields (λ d o s. not_message_field i i o.at (s ∙ o.is)) (refl, refl)
     (λ d o. (ap class o.is, ap place o.is))
 
-messages_part : (F : File) (p : Plan) (T : Table) (is : List ℕ) (ts : List Message) → HasNames p T
+messages_part : (F : Joined) (p : Plan) (T : Table) (is : List ℕ) (ts : List Message) → HasNames p T
     → AreThoseInOrder (IsMessageAt F p) is ts → AreDistinct is → All (λ i. i < length F.messages) is
     → Part F (flat_map (message_lines T) ts) (IsAtOne 2 is)
 messages_part F p T is ts has none distinct within = no_part F (IsAtOne 2 [])
@@ -333,7 +335,7 @@ messages_part F p T is ts has (next {x = i} {y = t} {xs} {ys} r rest) distinct w
 
 -- ---- methods
 
-record IsRpcFrom (F : File) (n : ℕ) (d : Declaration) : Type 0 where
+record IsRpcFrom (F : Joined) (n : ℕ) (d : Declaration) : Type 0 where
   index : ℕ
   from : n ≤ index
   service : ServiceDecl
@@ -341,17 +343,15 @@ record IsRpcFrom (F : File) (n : ℕ) (d : Declaration) : Type 0 where
   here : RpcHere F.services index service rpc
   is : d ≡ rpc_decl here.service here.rpc
 
-method_entry : (F : File) (T : Table) (n : ℕ) (s : ServiceDecl) (r : RpcDecl) (m : Method)
+method_entry : (F : Joined) (T : Table) (n : ℕ) (s : ServiceDecl) (r : RpcDecl) (m : Method)
     (h : RpcHere F.services n s r) → slice_get (rpcs_of F) n ≡ Some (s, r) → IsMethodIn F T (s, r) m
     → IsEntry F (record { decl = rpc_decl h.service h.rpc; span = r.name.span; line = method_line T (n, m) })
 method_entry F T n s r m h at is =
     let u = is.is in
     let W : ℕ → List ℕ → List ℕ → List ℕ → List ℕ → Type 0 = λ i a b c d.
-    HasLine (alone F) r.name.span (line (codes "method" ∷ decimal i ∷ a ∷ b ∷ c ∷ d ∷ [])) in
-    let svc : List ℕ = text_of (package_of F ++ s.name.name ∷ []) in
-    let has : W (0 + n) svc r.name.name (text_of u.input) (text_of u.output) = Lines.of_method s r n at u.takes u.gives in
-    let has1 : W n svc r.name.name (text_of u.input) (text_of u.output) =
-    subst (λ (i : ℕ). W i svc r.name.name (text_of u.input) (text_of u.output)) (zero-add n) has in
+    HasLine F r.name.span (line (codes "method" ∷ decimal i ∷ a ∷ b ∷ c ∷ d ∷ [])) in
+    let svc : List ℕ = text_of (package_at F s.file ++ s.name.name ∷ []) in
+    let has1 : W n svc r.name.name (text_of u.input) (text_of u.output) = Lines.of_method s r n at u.takes u.gives in
     let has2 : W n m.service r.name.name (text_of u.input) (text_of u.output) =
     subst (λ (a : List ℕ). W n a r.name.name (text_of u.input) (text_of u.output)) (sym u.service) has1 in
     let has3 : W n m.service m.name (text_of u.input) (text_of u.output) =
@@ -360,17 +360,17 @@ method_entry F T n s r m h at is =
     subst (λ (c : List ℕ). W n m.service m.name c (text_of u.output)) (sym u.input_place) has3 in
     record {
       has = subst (λ (d : List ℕ). W n m.service m.name (message_name T m.input) d) (sym u.output_place) has4;
-      stands = Order.rpc h.service h.rpc s r h.its_service h.its_rpc (Order.rpc_name refl);
+      stands = Together.rpc h.service h.rpc s r h.its_service h.its_rpc (Order.rpc_name refl);
     }
 
-one_place : (F : File) (m n : ℕ) (s t : ServiceDecl) (r u : RpcDecl) (a : RpcHere F.services m s r)
+one_place : (F : Joined) (m n : ℕ) (s t : ServiceDecl) (r u : RpcDecl) (a : RpcHere F.services m s r)
     (b : RpcHere F.services n t u) → rpc_decl a.service a.rpc ≡ rpc_decl b.service b.rpc → m ≡ n
 one_place F m n s t r u a b e =
     let p = same_rpc a.service b.service a.rpc b.rpc e in
     a.is_place ∙ ap (λ (k : ℕ). length (flat_map service_rpcs (take k F.services)) + a.rpc) p.0
     ∙ ap (λ (k : ℕ). length (flat_map service_rpcs (take b.service F.services)) + k) p.1 ∙ sym b.is_place
 
-methods_part : (F : File) (T : Table) (n : ℕ) (rs : List (ServiceDecl × RpcDecl)) (ms : List Method)
+methods_part : (F : Joined) (T : Table) (n : ℕ) (rs : List (ServiceDecl × RpcDecl)) (ms : List Method)
     → AreThoseInOrder (IsMethodIn F T) rs ms
     → ((k i : ℕ) (q : ServiceDecl × RpcDecl) → i ≡ n + k → slice_get rs k ≡ Some q → slice_get (rpcs_of F) i ≡ Some q)
     → Part F (flat_map (method_line T) (enumerate_from n ms)) (IsRpcFrom F n)
@@ -404,7 +404,7 @@ order_distinct names order h =
     (λ i j d a b e. (order_all names order h).once i j (get_or order i d) (slice_get-get_or order i d a)
     (slice_get-get_or order j d b ∙ ap Some (sym e)))
 
-pub text_short : (F : File) (T : Table) → IsOrdered F → IsClean F → IsMadeTable F T → length (table_text T) ≤ MAX_TEXT
+pub text_short : (F : Joined) (T : Table) → IsOrdered F → IsClean F → IsMadeTable F T → length (table_text T) ≤ MAX_TEXT
 text_short F T ordered clean made =
     let has = has_names F T made in
     let eo : List ℕ = made.plan.enums.order.items in

@@ -1,5 +1,5 @@
 -- The values of enums and the methods of services, as a table has them.
-use Rattle.std.specs.Prelude.{◌≡◌, ℕ, ℤ, ◌<◌, List, [], ◌∷◌, length, map, slice_get, Some}
+use Rattle.std.specs.Prelude.{◌≡◌, ℕ, ℤ, ◌<◌, List, length, map, slice_get, Some}
 use Rattle.std.specs.Borrow.{Bor}
 use Rattle.mrpc_table.specs.Valid.{Ascends, AreDistinct, IsValueBelow, IsEnum, IsMethod}
 use Rattle.mrpc_table.specs.Text.{message_name}
@@ -10,9 +10,8 @@ use Rattle.proto_file.specs.declared.file.ValueDecl.{ValueDecl}
 use Rattle.proto_file.specs.declared.file.EnumDecl.{EnumDecl}
 use Rattle.proto_file.specs.declared.file.RpcDecl.{RpcDecl}
 use Rattle.proto_file.specs.declared.file.ServiceDecl.{ServiceDecl}
-use Rattle.proto_file.specs.declared.file.File.{File}
-use Rattle.schema_names.specs.Scopes.{Names, a_message, package_of, text_of}
-use Rattle.schema_offences.specs.Sources.{alone}
+use Rattle.proto_file.specs.Joined.{Joined, package_at}
+use Rattle.schema_names.specs.Scopes.{Names, a_message, text_of}
 use Rattle.schema_offences.specs.Types.{value_of}
 use Rattle.schema_offences.specs.Those.{AreThose, AreThoseInOrder}
 use Rattle.schema_resolve.specs.Tables.{IsValueOf, IsEnumOf, IsMethodOf}
@@ -33,24 +32,24 @@ pub record AreValues (decls : List ValueDecl) (values : List (ℤ × List ℕ)) 
   pub ascend : Ascends IsValueBelow values
   pub distinct : AreDistinct (map (λ v. v.1) values)
 
--- the enum at a place of a file
-pub record IsEnumAt (F : File) (p : Plan) (i : ℕ) (c : Choices) : Type 0 where
-  pub is : (e : EnumDecl) → slice_get F.enums i ≡ Some e → IsEnumOf (alone F, e) c
+-- the enum at a place
+pub record IsEnumAt (F : Joined) (p : Plan) (i : ℕ) (c : Choices) : Type 0 where
+  pub is : (e : EnumDecl) → slice_get F.enums i ≡ Some e → IsEnumOf F e c
   pub valid : IsEnum c
   pub name : c.name ≡ name_at p.enums.names.items i
 
--- an rpc's type names the message at this place of a table
-pub record IsPlaceNamed (F : File) (T : Table) (name : List ℕ) (place : ℕ) : Type 0 where
+-- the type of a file's rpc names the message at this place of a table
+pub record IsPlaceNamed (F : Joined) (file : ℕ) (T : Table) (name : List ℕ) (place : ℕ) : Type 0 where
   pub full : List (List ℕ)
-  pub names : Names (F ∷ []) (package_of F) name a_message full
+  pub names : Names F file (package_at F file) name a_message full
   pub is : message_name T place ≡ text_of full
   pub within : place < length T.messages
 
--- a method of a file
-pub record IsMethodIn (F : File) (T : Table) (p : ServiceDecl × RpcDecl) (t : Method) : Type 0 where
-  pub is : IsMethodOf T (alone F, p) t
+-- a method of the files
+pub record IsMethodIn (F : Joined) (T : Table) (p : ServiceDecl × RpcDecl) (t : Method) : Type 0 where
+  pub is : IsMethodOf T F p t
   pub valid : IsMethod T t
 
--- methods in the order of a file's, where messages have these names
-pub record AreMethods (F : File) (p : Plan) (done : List (ServiceDecl × RpcDecl)) (ms : List Method) : Type 0 where
+-- methods in the order of the files, where messages have these names
+pub record AreMethods (F : Joined) (p : Plan) (done : List (ServiceDecl × RpcDecl)) (ms : List Method) : Type 0 where
   pub each : (T : Table) → HasNames p T → AreThoseInOrder (IsMethodIn F T) done ms

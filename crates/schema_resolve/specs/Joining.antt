@@ -10,9 +10,8 @@ use Rattle.mrpc_table.specs.declared.table.Message.{Message}
 use Rattle.mrpc_table.specs.declared.table.Table.{Table}
 use Rattle.proto_file.specs.declared.file.Word.{Word}
 use Rattle.proto_file.specs.declared.file.MessageDecl.{MessageDecl}
-use Rattle.proto_file.specs.declared.file.File.{File}
+use Rattle.proto_file.specs.Joined.{Joined}
 use Rattle.schema_names.specs.declared.named.Named.TheVariants as named
-use Rattle.schema_offences.specs.Sources.{alone}
 use Rattle.schema_offences.specs.Those.{AreThoseInOrder}
 use Rattle.schema_offences.specs.declared.types.TypeOf.{TypeOf}
 use Rattle.schema_offences.specs.declared.types.TypeOf.TheVariants.{Scalar, Named}
@@ -84,9 +83,9 @@ pub record IsNextField (plan : Plan) (words : List Word) (j : Judged) (old new :
   pub kind_is : g.kind ≡ kind_in plan j.form.type_of
   pub label_is : IsLabelled words j.decl.now.oneof j.form.label old new g.label
 
--- the message at a place of a file
-pub record IsMessageAt (F : File) (p : Plan) (i : ℕ) (t : Message) : Type 0 where
+-- the message at a place
+pub record IsMessageAt (F : Joined) (p : Plan) (i : ℕ) (t : Message) : Type 0 where
   pub is : (T : Table) → HasNames p T → (m : MessageDecl) → slice_get F.messages i ≡ Some m
-      → IsMessageOf T (alone F, m) t
+      → IsMessageOf T F m t
   pub valid : (T : Table) → HasNames p T → IsMessage T t
   pub name : t.name ≡ name_at p.messages.names.items i

@@ -3,33 +3,35 @@ use Rattle.std.specs.Prelude.{◌≡◌, ℕ, pos, ◌<◌, List, length, map, s
 use Rattle.mrpc_table.specs.Valid.{Ascends, AreDistinct, IsFieldNumber}
 use Rattle.proto_file.specs.declared.file.FieldDecl.{FieldDecl}
 use Rattle.proto_file.specs.declared.file.MessageDecl.{MessageDecl}
-use Rattle.proto_file.specs.declared.file.File.{File}
+use Rattle.proto_file.specs.Joined.{Joined}
+use Rattle.proto_file.specs.declared.joined.Home.TheVariants as home
 use Rattle.schema_names.specs.Scopes.{IsScope}
 use Rattle.schema_offences.specs.Types.{value_of}
 use Rattle.schema_offences.specs.Forms.{IsForm}
 use Rattle.schema_resolve.specs.declared.field_table.Judged.{Judged}
 
--- a field of the message at a place
-pub record StandsIn (F : File) (place : ℕ) (f : FieldDecl) : Type 0 where
+-- a field of the message at a place, which is of this file
+pub record StandsIn (F : Joined) (file place : ℕ) (f : FieldDecl) : Type 0 where
   pub message : MessageDecl
   pub at : slice_get F.messages place ≡ Some message
+  pub of_file : message.file ≡ file
   pub field : Contains message.fields f
 
-pub record IsJudged (F : File) (place : ℕ) (f : FieldDecl) (j : Judged) : Type 0 where
+pub record IsJudged (F : Joined) (file place : ℕ) (f : FieldDecl) (j : Judged) : Type 0 where
   pub decl_is : j.decl.now ≡ f
   pub number_is : value_of f.number ≡ pos j.number
   pub in_range : IsFieldNumber j.number
-  pub form_is : (scope : List (List ℕ)) → IsScope F (Some place) scope → IsForm F scope f j.form
+  pub form_is : (scope : List (List ℕ)) → IsScope F (home.Message place) scope → IsForm F file scope f j.form
 
 -- in the order of the text
-pub record AreJudgedInOrder (F : File) (place : ℕ) (fs : List FieldDecl) (js : List Judged) : Type 0 where
+pub record AreJudgedInOrder (F : Joined) (file place : ℕ) (fs : List FieldDecl) (js : List Judged) : Type 0 where
   pub decls : map (λ j. j.decl.now) js ≡ fs
-  pub each : (j : Judged) → Contains js j → IsJudged F place j.decl.now j
+  pub each : (j : Judged) → Contains js j → IsJudged F file place j.decl.now j
 
 -- by ascending number
-pub record AreJudged (F : File) (place : ℕ) (m : MessageDecl) (js : List Judged) : Type 0 where
+pub record AreJudged (F : Joined) (place : ℕ) (m : MessageDecl) (js : List Judged) : Type 0 where
   pub count : length js ≡ length m.fields
-  pub each : (j : Judged) → Contains js j → IsJudged F place j.decl.now j × Contains m.fields j.decl.now
+  pub each : (j : Judged) → Contains js j → IsJudged F m.file place j.decl.now j × Contains m.fields j.decl.now
   pub all : (f : FieldDecl) → Contains m.fields f → (j : Judged) × Contains js j × (j.decl.now ≡ f)
   pub ascend : Ascends (λ j k. j.number < k.number) js
   pub distinct : AreDistinct (map (λ j. j.decl.now.name.name) js)

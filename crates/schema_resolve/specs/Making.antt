@@ -1,14 +1,14 @@
--- A table as it is made of a file: by the places of names.
+-- A table as it is made of files: by the places of names.
 use Rattle.mrpc_table.specs.declared.table.Table.{Table}
-use Rattle.proto_file.specs.declared.file.File.{File}
-use Rattle.schema_offences.specs.Sources.{rpcs_of}
+use Rattle.proto_file.specs.Joined.{Joined}
+use Rattle.schema_offences.specs.Methods.{rpcs_of}
 use Rattle.schema_offences.specs.Those.{AreThoseInOrder}
 use Rattle.schema_resolve.specs.Placing.{IsPlan}
 use Rattle.schema_resolve.specs.InOrder.{IsEnumAt, AreMethods}
 use Rattle.schema_resolve.specs.Joining.{IsMessageAt}
 use Rattle.schema_resolve.specs.declared.plan.Plan.{Plan}
 
-pub record IsMadeTable (F : File) (T : Table) : Type 0 where
+pub record IsMadeTable (F : Joined) (T : Table) : Type 0 where
   pub plan : Plan
   pub is_plan : IsPlan F plan
   pub messages_are : AreThoseInOrder (IsMessageAt F plan) plan.messages.order.items T.messages

@@ -1,11 +1,13 @@
--- At which places of a table the names of a file's messages and enums stand.
-use Rattle.std.specs.Prelude.{◌≡◌, ℕ, ◌<◌, List, [], ◌∷◌, ◌++◌, length, map, slice_get, slice_index_or, Option, Some, None, All, Contains}
+-- At which places of a table the names of messages and enums stand.
+use Rattle.std.specs.Prelude.{◌≡◌, ℕ, ◌<◌, List, [], ◌∷◌, ◌++◌, length, map, slice_get, slice_index_or, Some, All, Contains}
 use Rattle.mrpc_table.specs.Valid.{Ascends, IsBelow}
 use Rattle.mrpc_table.specs.declared.table.Table.{Table}
 use Rattle.proto_file.specs.Dot.{dot}
 use Rattle.proto_file.specs.declared.file.EnumDecl.{EnumDecl}
-use Rattle.proto_file.specs.declared.file.File.{File}
-use Rattle.schema_names.specs.Scopes.{IsScope, text_of, package_of}
+use Rattle.proto_file.specs.Joined.{Joined, enum_home_of, package_at}
+use Rattle.proto_file.specs.declared.joined.Home.{Home}
+use Rattle.proto_file.specs.declared.joined.Home.TheVariants as home
+use Rattle.schema_names.specs.Scopes.{IsScope, text_of}
 use Rattle.schema_resolve.specs.declared.placed.Placed.{Placed}
 use Rattle.schema_resolve.specs.declared.plan.Plan.{Plan}
 
@@ -17,10 +19,20 @@ behind (c ∷ cs) name = (c ∷ cs) ++ dot ∷ name
 abbrev pub name_at : List (List ℕ) → ℕ → List ℕ
 name_at names i = slice_index_or names i []
 
--- the full name of the file's package, or of a message
-abbrev pub front_of : List ℕ → List (List ℕ) → Option ℕ → List ℕ
-front_of front names None = front
-front_of front names (Some i) = name_at names i
+-- the full name of a file's package, or of a message
+abbrev pub front_of : List (List ℕ) → List (List ℕ) → Home → List ℕ
+front_of fronts names (home.File k) = name_at fronts k
+front_of fronts names (home.Message i) = name_at names i
+
+-- the names of the files' packages
+pub record AreFronts (F : Joined) (fronts : List (List ℕ)) : Type 0 where
+  pub count : length fronts ≡ length F.heads
+  pub each : (k : ℕ) → k < length F.heads → name_at fronts k ≡ text_of (package_at F k)
+
+-- a file or a message, of these
+abbrev pub IsPlaceAmong : ℕ → ℕ → Home → Type 0
+IsPlaceAmong files messages (home.File k) = k < files
+IsPlaceAmong files messages (home.Message i) = i < messages
 
 -- all names by ascending name
 pub record IsOrder (names : List (List ℕ)) (order : List ℕ) : Type 0 where
@@ -46,16 +58,15 @@ pub record IsPlaced (names : List (List ℕ)) (p : Placed) : Type 0 where
   pub places : ArePlaces p.order.items p.places.items
 
 -- the full names of the first messages and of the first enums
-pub record AreMessageNames (F : File) (names : List (List ℕ)) : Type 0 where
-  pub each : (i : ℕ) (full : List (List ℕ)) → i < length names → IsScope F (Some i) full
+pub record AreMessageNames (F : Joined) (names : List (List ℕ)) : Type 0 where
+  pub each : (i : ℕ) (full : List (List ℕ)) → i < length names → IsScope F (home.Message i) full
       → slice_get names i ≡ Some (text_of full)
 
-pub record AreEnumNames (F : File) (names : List (List ℕ)) : Type 0 where
+pub record AreEnumNames (F : Joined) (names : List (List ℕ)) : Type 0 where
   pub each : (i : ℕ) (e : EnumDecl) (outer : List (List ℕ)) → i < length names → slice_get F.enums i ≡ Some e
-      → IsScope F e.parent outer → slice_get names i ≡ Some (text_of (outer ++ e.name.name ∷ []))
+      → IsScope F (enum_home_of e) outer → slice_get names i ≡ Some (text_of (outer ++ e.name.name ∷ []))
 
-pub record IsPlan (F : File) (p : Plan) : Type 0 where
-  pub front : p.front ≡ text_of (package_of F)
+pub record IsPlan (F : Joined) (p : Plan) : Type 0 where
   pub all_messages : length p.messages.names.items ≡ length F.messages
   pub all_enums : length p.enums.names.items ≡ length F.enums
   pub messages : AreMessageNames F p.messages.names.items

@@ -16,19 +16,20 @@ use Rattle.proto_file.specs.declared.file.MessageDecl.{MessageDecl}
 use Rattle.proto_file.specs.declared.file.EnumDecl.{EnumDecl}
 use Rattle.proto_file.specs.declared.file.RpcDecl.{RpcDecl}
 use Rattle.proto_file.specs.declared.file.ServiceDecl.{ServiceDecl}
-use Rattle.schema_names.specs.Scopes.{IsScope, Names, a_message, package_of, text_of}
-use Rattle.schema_offences.specs.Sources.{Source, messages_of, enums_of, methods_of}
+use Rattle.proto_file.specs.Joined.{Joined, home_of, enum_home_of, package_at}
+use Rattle.schema_names.specs.Scopes.{IsScope, Names, a_message, text_of}
+use Rattle.schema_offences.specs.Methods.{rpcs_of}
 use Rattle.schema_offences.specs.Types.{HasForm, value_of}
 use Rattle.schema_offences.specs.Those.{AreThose, AreThoseInOrder}
 
--- a field of a message of the file is this one of a message of the table
-pub record IsFieldOf (T : Table) (S : Source) (scope : List (List ℕ)) (m : MessageDecl) (t : Message)
+-- a field of a message of a file is this one of a message of the table
+pub record IsFieldOf (T : Table) (F : Joined) (scope : List (List ℕ)) (m : MessageDecl) (t : Message)
     (f : FieldDecl) (g : Field) : Type 0 where
   pub name : g.name ≡ f.name.name
   pub number : pos g.number ≡ value_of f.number
   pub label : Label
   pub word : List ℕ
-  pub form : HasForm S.seen scope f label word
+  pub form : HasForm F m.file scope f label word
   pub kind : kind_text T g.kind ≡ word
   pub known : IsKnown T g.kind
   -- one label: a oneof may have another place in the table, but not another name
@@ -37,36 +38,36 @@ pub record IsFieldOf (T : Table) (S : Source) (scope : List (List ℕ)) (m : Mes
 abbrev pub IsOneofOf : Word → List ℕ → Type 0
 IsOneofOf o name = name ≡ o.name
 
-pub record IsMessageOf (T : Table) (p : Source × MessageDecl) (t : Message) : Type 0 where
+pub record IsMessageOf (T : Table) (F : Joined) (m : MessageDecl) (t : Message) : Type 0 where
   pub outer : List (List ℕ)
-  pub stands : IsScope p.0.file p.1.parent outer
-  pub name : t.name ≡ text_of (outer ++ p.1.name.name ∷ [])
-  pub fields : AreThose (IsFieldOf T p.0 (outer ++ p.1.name.name ∷ []) p.1 t) p.1.fields t.fields
-  pub oneofs : AreThose IsOneofOf p.1.oneofs t.oneofs
+  pub stands : IsScope F (home_of m) outer
+  pub name : t.name ≡ text_of (outer ++ m.name.name ∷ [])
+  pub fields : AreThose (IsFieldOf T F (outer ++ m.name.name ∷ []) m t) m.fields t.fields
+  pub oneofs : AreThose IsOneofOf m.oneofs t.oneofs
 
 abbrev pub IsValueOf : ValueDecl → ℤ × List ℕ → Type 0
 IsValueOf v w = (w.0 ≡ value_of v.number) × (w.1 ≡ v.name.name)
 
-pub record IsEnumOf (p : Source × EnumDecl) (c : Choices) : Type 0 where
+pub record IsEnumOf (F : Joined) (e : EnumDecl) (c : Choices) : Type 0 where
   pub outer : List (List ℕ)
-  pub stands : IsScope p.0.file p.1.parent outer
-  pub name : c.name ≡ text_of (outer ++ p.1.name.name ∷ [])
-  pub values : AreThose IsValueOf p.1.values c.values
+  pub stands : IsScope F (enum_home_of e) outer
+  pub name : c.name ≡ text_of (outer ++ e.name.name ∷ [])
+  pub values : AreThose IsValueOf e.values c.values
 
-pub record IsMethodOf (T : Table) (p : Source × (ServiceDecl × RpcDecl)) (t : Method) : Type 0 where
-  pub service : t.service ≡ text_of (package_of p.0.file ++ p.1.0.name.name ∷ [])
-  pub name : t.name ≡ p.1.1.name.name
+pub record IsMethodOf (T : Table) (F : Joined) (p : ServiceDecl × RpcDecl) (t : Method) : Type 0 where
+  pub service : t.service ≡ text_of (package_at F p.0.file ++ p.0.name.name ∷ [])
+  pub name : t.name ≡ p.1.name.name
   pub input : List (List ℕ)
   pub output : List (List ℕ)
-  pub takes : Names p.0.seen (package_of p.0.file) p.1.1.input.name a_message input
-  pub gives : Names p.0.seen (package_of p.0.file) p.1.1.output.name a_message output
+  pub takes : Names F p.0.file (package_at F p.0.file) p.1.input.name a_message input
+  pub gives : Names F p.0.file (package_at F p.0.file) p.1.output.name a_message output
   pub input_place : message_name T t.input ≡ text_of input
   pub output_place : message_name T t.output ≡ text_of output
 
--- The table says what the files say. Its lists are ordered as each valid table's are; methods are numbered along the
--- files.
-pub record IsTableOf (sources : List Source) (T : Table) : Type 0 where
+-- The table says what the files say that are resolved together. Its lists are ordered as each valid table's are; methods
+-- are numbered along the files.
+pub record IsTableOf (F : Joined) (T : Table) : Type 0 where
   pub valid : IsValid T
-  pub messages : AreThose (IsMessageOf T) (messages_of sources) T.messages
-  pub enums : AreThose IsEnumOf (enums_of sources) T.enums
-  pub methods : AreThoseInOrder (IsMethodOf T) (methods_of sources) T.methods
+  pub messages : AreThose (IsMessageOf T F) F.messages T.messages
+  pub enums : AreThose (IsEnumOf F) F.enums T.enums
+  pub methods : AreThoseInOrder (IsMethodOf T F) (rpcs_of F) T.methods

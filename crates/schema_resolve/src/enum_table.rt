@@ -3,7 +3,7 @@
 ghost use Rattle.std.specs.Prelude.{◌≡◌, ◌<◌, length, map, IfOk, All, FitsSigned};
 ghost use Rattle.std.specs.Int.{w32};
 ghost use Rattle.mrpc_table.specs.Valid.{AreDistinct};
-ghost use Rattle.proto_file.specs.Order.{IsFormed, IsOrdered};
+ghost use Rattle.proto_file.specs.Together.{IsFormed, IsOrdered};
 ghost use Rattle.schema_offences.specs.Types.{value_of};
 ghost use Rattle.schema_resolve.specs.Resolving.{IsClean};
 ghost use Rattle.schema_resolve.specs.Placing.{IsPlan};
@@ -11,7 +11,7 @@ ghost use Rattle.schema_resolve.specs.InOrder.{value_in, value_pair, AreValues, 
 
 use crate::plan::Plan;
 use mrpc_table::{ChoiceValues, Choices, Memory, Name, Sequence};
-use proto_file::{File, ValueDecl};
+use proto_file::{Joined, ValueDecl};
 use schema_offences::enum_number;
 use std::alloc::Global;
 
@@ -62,16 +62,21 @@ fn copied(alloc: Global, values: &[(i32, &[u8])]) -> Result<ChoiceValues, Memory
     Ok(copies)
 }
 
-/// The enum at a place of a file against which nothing stands.
-pub fn enum_in(alloc: Global, file: &File, plan: &Plan, place: usize) -> Result<Choices, Memory>
-    requires formed { IsFormed file.now }
-    requires ordered { IsOrdered file.now }
-    requires clean { IsClean file.now }
-    requires plan { IsPlan file.now plan.now }
-    requires within { place < length file.now.enums }
-    ensures { IfOk result (IsEnumAt file.now plan.now place) }
+/// The enum at a place of files against which nothing stands.
+pub fn enum_in(
+    alloc: Global,
+    files: &Joined<'_>,
+    plan: &Plan,
+    place: usize,
+) -> Result<Choices, Memory>
+    requires formed { IsFormed files.now }
+    requires ordered { IsOrdered files.now }
+    requires clean { IsClean files.now }
+    requires plan { IsPlan files.now plan.now }
+    requires within { place < length files.now.enums }
+    ensures { IfOk result (IsEnumAt files.now plan.now place) }
 {
-    let decl = &file.enums.as_slice()[place];
+    let decl = &files.enums()[place];
     let sorted = sorted(alloc, decl.values.as_slice())?;
     let values = copied(alloc, sorted.as_slice())?;
     Ok(Choices {

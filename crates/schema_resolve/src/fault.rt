@@ -1,10 +1,10 @@
 //! Why a file has no table.
 
 ghost use Rattle.std.specs.Prelude.{◌≡◌};
-ghost use Rattle.schema_resolve.specs.declared.fault.ResolveFault.TheVariants.{Memory as NoMemory};
+ghost use Rattle.schema_resolve.specs.declared.fault.ResolveFault.TheVariants.{At, Memory as NoMemory};
 
 use mrpc_table::Memory;
-use schema_offences::ResolveReason;
+use schema_offences::{Offence, ResolveReason};
 use std::alloc::{AllocError, AllocFailed};
 use thiserror::Error;
 
@@ -45,5 +45,18 @@ impl<T: Drop> From<AllocFailed<T>> for ResolveFault {
 
     fn from(_: AllocFailed<T>) -> ResolveFault {
         ResolveFault::Memory
+    }
+}
+
+/// An offence as a fault.
+pub fn fault_of(offence: Offence) -> ResolveFault
+    ensures { result ≡ At offence.reason offence.span.start offence.span.end offence.span.line }
+{
+    let Offence { reason, span } = offence;
+    ResolveFault::At {
+        reason,
+        start: span.start,
+        end: span.end,
+        line: span.line,
     }
 }

@@ -1,7 +1,7 @@
 //! The fields of messages with their numbers and forms, by ascending number.
 
 ghost use Rattle.std.specs.Prelude.{◌≡◌, IfOk, slice_get, Some};
-ghost use Rattle.proto_file.specs.Order.{IsFormed, IsOrdered};
+ghost use Rattle.proto_file.specs.Together.{IsFormed, IsOrdered};
 ghost use Rattle.schema_resolve.specs.Resolving.{IsClean};
 ghost use Rattle.schema_resolve.specs.Judged.{StandsIn, IsJudged, AreJudgedInOrder, AreJudged};
 
@@ -19,17 +19,22 @@ pub struct Judged<'a> {
     pub decl: &'a FieldDecl,
 }
 
-// What a field of the message at a place is in the table.
-fn judge_field<'a>(scopes: &Scopes<'a>, place: usize, decl: &'a FieldDecl) -> Judged<'a>
+// What a field of the message at a place, which is of this file, is in the table.
+fn judge_field<'a>(
+    scopes: &Scopes<'a>,
+    file: usize,
+    place: usize,
+    decl: &'a FieldDecl,
+) -> Judged<'a>
     requires formed { IsFormed scopes.now }
     requires clean { IsClean scopes.now }
-    requires stands { StandsIn scopes.now place decl.now }
-    ensures { IsJudged scopes.now place decl.now result }
+    requires stands { StandsIn scopes.now file place decl.now }
+    ensures { IsJudged scopes.now file place decl.now result }
 {
     let Some(number) = field_number(&decl.number) else {
         unreachable!();
     };
-    let Some(form) = form_of(scopes, place, decl) else {
+    let Some(form) = form_of(scopes, file, place, decl) else {
         unreachable!();
     };
     Judged { number, form, decl }
@@ -45,12 +50,12 @@ fn fields_of<'a>(
     requires formed { IsFormed scopes.now }
     requires clean { IsClean scopes.now }
     requires here { slice_get scopes.now.messages place ≡ Some message.now }
-    ensures { IfOk result (λ v. AreJudgedInOrder scopes.now place message.now.fields v.items) }
+    ensures { IfOk result (λ v. AreJudgedInOrder scopes.now message.now.file place message.now.fields v.items) }
 {
     let decls = message.fields.as_slice();
     let mut fields = Vec::with_capacity(alloc, decls.len())?;
     for i in 0..decls.len() {
-        fields.push(judge_field(scopes, place, &decls[i]))?;
+        fields.push(judge_field(scopes, message.file, place, &decls[i]))?;
     }
     Ok(fields)
 }

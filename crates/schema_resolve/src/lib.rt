@@ -2,14 +2,15 @@
 //! guide), in this project's profile.
 //!
 //! [`resolve`] takes what `proto_schema` has read; `schema_offences` says what stands against it. `specs/Tables.antt`
-//! says what a table is of files. The layer above uses the contract of [`resolve`]: a table that it answers is the
-//! file's, and an offence is the file's first one. A file that was read has one of both, and not both
-//! ([`table_or_offence`]).
+//! says what a table is of files. The layer above uses the contracts of [`resolve`], for a file alone, and of
+//! [`resolve_together`]: a table that they answer is that of the file or the files, and an offence is their first one.
+//! Files that were read have one of both, and not both ([`table_or_offence`]).
 #![tactic(auto)]
 
 mod enum_table;
 mod fault;
 mod field_table;
+mod head;
 mod laws;
 mod message_table;
 mod method_table;
@@ -23,4 +24,5 @@ mod table;
 
 pub use fault::ResolveFault;
 pub use laws::{one_offence, one_table, table_or_offence};
+pub use resolved::resolve_together;
 pub use resolver::resolve;

@@ -1,7 +1,8 @@
 //! The messages of a table.
 
 ghost use Rattle.std.specs.Prelude.{◌≡◌, ◌<◌, ◌^◌, length, IfOk};
-ghost use Rattle.proto_file.specs.Order.{IsPlaceBelow, IsFormed, IsOrdered};
+ghost use Rattle.proto_file.specs.Order.{IsPlaceBelow};
+ghost use Rattle.proto_file.specs.Together.{IsFormed, IsOrdered};
 ghost use Rattle.schema_resolve.specs.Resolving.{IsClean};
 ghost use Rattle.schema_resolve.specs.Placing.{IsPlan};
 ghost use Rattle.schema_resolve.specs.Joining.{KeepsOneofs, IsLabelled, kind_in, IsInPlan, IsNextField, IsMessageAt};
@@ -10,7 +11,7 @@ use crate::field_table::{Judged, by_number};
 use crate::oneof_table::Oneofs;
 use crate::plan::Plan;
 use mrpc_table::{Field, Kind, Label, Memory, Message, Sequence};
-use proto_file::{File, Word};
+use proto_file::{Joined, Word};
 use schema_names::{Named, Scopes};
 use schema_offences::TypeOf;
 use std::alloc::Global;
@@ -69,23 +70,23 @@ fn field_in<'a>(
     })
 }
 
-/// The message at a place of a file against which nothing stands.
+/// The message at a place of files against which nothing stands.
 pub fn message_in<'a>(
     alloc: Global,
-    file: &'a File,
+    files: &Joined<'a>,
     scopes: &Scopes<'a>,
     plan: &Plan,
     place: usize,
 ) -> Result<Message, Memory>
-    requires formed { IsFormed file.now }
-    requires ordered { IsOrdered file.now }
-    requires scopes { scopes.now ≡ file.now }
-    requires clean { IsClean file.now }
-    requires plan { IsPlan file.now plan.now }
-    requires within { place < length file.now.messages }
-    ensures { IfOk result (IsMessageAt file.now plan.now place) }
+    requires formed { IsFormed files.now }
+    requires ordered { IsOrdered files.now }
+    requires scopes { scopes.now ≡ files.now }
+    requires clean { IsClean files.now }
+    requires plan { IsPlan files.now plan.now }
+    requires within { place < length files.now.messages }
+    ensures { IfOk result (IsMessageAt files.now plan.now place) }
 {
-    let message = &file.messages.as_slice()[place];
+    let message = &files.messages()[place];
     let sorted = by_number(alloc, scopes, place, message)?;
     let words = message.oneofs.as_slice();
     let mut oneofs = Oneofs::new(alloc, words)?;

@@ -1,32 +1,33 @@
 //! The methods of a table.
 
-ghost use Rattle.std.specs.Prelude.{◌≡◌, List, [], ◌∷◌, ◌++◌, IfOk, OnOk, Contains};
+ghost use Rattle.std.specs.Prelude.{◌≡◌, ◌<◌, List, ◌++◌, length, IfOk, OnOk, Contains};
 ghost use Rattle.mrpc_table.specs.declared.table.Table.{Table};
 ghost use Rattle.proto_file.specs.declared.file.ServiceDecl.{ServiceDecl};
 ghost use Rattle.proto_file.specs.declared.file.RpcDecl.{RpcDecl};
-ghost use Rattle.proto_file.specs.Order.{IsFormed, IsOrdered};
-ghost use Rattle.schema_names.specs.Scopes.{package_of};
-ghost use Rattle.schema_offences.specs.Sources.{rpcs_of, service_rpcs};
+ghost use Rattle.proto_file.specs.Together.{IsFormed, IsOrdered};
+ghost use Rattle.proto_file.specs.Joined.{package_at};
+ghost use Rattle.schema_offences.specs.Methods.{rpcs_of, service_rpcs};
 ghost use Rattle.schema_offences.specs.Members.{IsNoMessage};
 ghost use Rattle.schema_resolve.specs.Resolving.{IsClean};
-ghost use Rattle.schema_resolve.specs.Placing.{IsPlan, HasNames};
+ghost use Rattle.schema_resolve.specs.Placing.{AreFronts, IsPlan, HasNames};
 ghost use Rattle.schema_resolve.specs.InOrder.{IsPlaceNamed, IsMethodIn, AreMethods};
 
 use crate::plan::{Plan, behind};
 use mrpc_table::{Memory, Method, Methods, Sequence};
-use proto_file::{File, RpcDecl, ServiceDecl, Word};
+use proto_file::{Joined, RpcDecl, ServiceDecl, Word};
 use schema_names::Scopes;
 use schema_offences::message_of;
 use std::alloc::Global;
 
-// The place of the message that an rpc's type names.
-fn message_place<'a>(scopes: &Scopes<'a>, plan: &Plan, word: &'a Word) -> u32
+// The place of the message that the type of a file's rpc names.
+fn message_place<'a>(scopes: &Scopes<'a>, file: usize, plan: &Plan, word: &'a Word) -> u32
+    requires file { file < length scopes.now.heads }
     requires ordered { IsOrdered scopes.now }
     requires plan { IsPlan scopes.now plan.now }
-    requires some { IsNoMessage (scopes.now ∷ []) (package_of scopes.now) word.now.name → ⊥ }
-    ensures { (T : Table) → HasNames plan.now T → IsPlaceNamed scopes.now T word.now.name result }
+    requires some { IsNoMessage scopes.now file (package_at scopes.now file) word.now.name → ⊥ }
+    ensures { (T : Table) → HasNames plan.now T → IsPlaceNamed scopes.now file T word.now.name result }
 {
-    match message_of(scopes, word) {
+    match message_of(scopes, file, word) {
         Some(message) => plan.messages.places[message],
         None => unreachable!(),
     }
@@ -42,17 +43,18 @@ fn method_in<'a>(
     requires formed { IsFormed scopes.now }
     requires ordered { IsOrdered scopes.now }
     requires clean { IsClean scopes.now }
+    requires fronts { AreFronts scopes.now plan.now.fronts.items }
     requires plan { IsPlan scopes.now plan.now }
     requires service { Contains scopes.now.services service.now }
     requires rpc { Contains service.now.rpcs rpc.now }
     ensures { IfOk result (λ m. (T : Table) → HasNames plan.now T
         → IsMethodIn scopes.now T (service.now, rpc.now) m) }
 {
-    let input = message_place(scopes, plan, &rpc.input);
-    let output = message_place(scopes, plan, &rpc.output);
+    let input = message_place(scopes, service.file, plan, &rpc.input);
+    let output = message_place(scopes, service.file, plan, &rpc.output);
     let name = rpc.name.name.copied(alloc)?;
     Ok(Method {
-        service: behind(alloc, &plan.front, &service.name)?,
+        service: behind(alloc, &plan.fronts[service.file], &service.name)?,
         name,
         input,
         output,
@@ -70,6 +72,7 @@ fn add_methods<'a>(
     requires formed { IsFormed scopes.now }
     requires ordered { IsOrdered scopes.now }
     requires clean { IsClean scopes.now }
+    requires fronts { AreFronts scopes.now plan.now.fronts.items }
     requires plan { IsPlan scopes.now plan.now }
     requires service { Contains scopes.now.services service.now }
     ensures { OnOk result ((done : List (ServiceDecl × RpcDecl)) → AreMethods scopes.now plan.now done methods.old
@@ -83,22 +86,23 @@ fn add_methods<'a>(
     Ok(())
 }
 
-/// The methods of a file against which nothing stands.
+/// The methods of files against which nothing stands.
 pub fn methods_in<'a>(
     alloc: Global,
-    file: &'a File,
+    files: &Joined<'a>,
     scopes: &Scopes<'a>,
     plan: &Plan,
 ) -> Result<Methods, Memory>
-    requires formed { IsFormed file.now }
-    requires ordered { IsOrdered file.now }
-    requires scopes { scopes.now ≡ file.now }
-    requires clean { IsClean file.now }
-    requires plan { IsPlan file.now plan.now }
-    ensures { IfOk result (AreMethods file.now plan.now (rpcs_of file.now)) }
+    requires formed { IsFormed files.now }
+    requires ordered { IsOrdered files.now }
+    requires scopes { scopes.now ≡ files.now }
+    requires clean { IsClean files.now }
+    requires fronts { AreFronts files.now plan.now.fronts.items }
+    requires plan { IsPlan files.now plan.now }
+    ensures { IfOk result (AreMethods files.now plan.now (rpcs_of files.now)) }
 {
     let mut methods = Sequence::new(alloc);
-    let services = file.services.as_slice();
+    let services = files.services();
     for i in 0..services.len() {
         add_methods(alloc, scopes, plan, &services[i], &mut methods)?;
     }

@@ -1,21 +1,22 @@
-//! The full names of a file's messages and enums, and their places in the table.
+//! The full names of messages and enums, and their places in the table.
 
 ghost use Rattle.std.specs.Prelude.{◌≡◌, length, IfOk};
-ghost use Rattle.proto_file.specs.Order.{IsPlaceBelow, IsFormed, IsOrdered};
-ghost use Rattle.schema_names.specs.Scopes.{text_of, package_of};
+ghost use Rattle.proto_file.specs.Joined.{package_parts};
+ghost use Rattle.proto_file.specs.Together.{IsFormed, IsOrdered};
+ghost use Rattle.schema_names.specs.Scopes.{text_of};
 ghost use Rattle.schema_resolve.specs.Resolving.{IsClean};
-ghost use Rattle.schema_resolve.specs.Placing.{behind, front_of, AreMessageNames, AreEnumNames, IsPlan};
+ghost use Rattle.schema_resolve.specs.Placing.{behind, front_of, AreFronts, IsPlaceAmong, AreMessageNames, AreEnumNames, IsPlan};
 
 use crate::placed::Placed;
 use mrpc_table::{Memory, Name};
-use proto_file::{File, Word};
+use proto_file::{Head, Home, Joined, Word};
 use std::alloc::Global;
 
 /// The full names of messages and enums, and their places in the table.
 #[derive(Drop)]
 pub struct Plan {
-    /// The package's name.
-    pub front: Name,
+    /// The names of the files' packages.
+    pub fronts: Vec<Name>,
     pub messages: Placed,
     pub enums: Placed,
 }
@@ -32,43 +33,55 @@ pub fn behind(alloc: Global, front: &Name, word: &Word) -> Result<Name, Memory>
     Ok(name)
 }
 
-// The full name of what stands in the file or in a message.
+// The full name of what stands in a file or in a message.
 fn full_name(
     alloc: Global,
-    front: &Name,
+    fronts: &[Name],
     messages: &[Name],
-    parent: Option<usize>,
+    home: Home,
     word: &Word,
 ) -> Result<Name, Memory>
-    requires { IsPlaceBelow (length messages.now) parent }
-    ensures { IfOk result (λ name. name ≡ behind (front_of front.now messages.now parent) word.now.name) }
+    requires { IsPlaceAmong (length fronts.now) (length messages.now) home }
+    ensures { IfOk result (λ name. name ≡ behind (front_of fronts.now messages.now home) word.now.name) }
 {
-    match parent {
-        Some(i) => behind(alloc, &messages[i], word),
-        None => behind(alloc, front, word),
+    match home {
+        Home::Message(i) => behind(alloc, &messages[i], word),
+        Home::File(k) => behind(alloc, &fronts[k], word),
     }
 }
 
-fn front_name(alloc: Global, file: &File) -> Result<Name, Memory>
-    ensures { IfOk result (λ name. name ≡ text_of (package_of file.now)) }
+fn front_name(alloc: Global, head: &Head) -> Result<Name, Memory>
+    ensures { IfOk result (λ name. name ≡ text_of (package_parts head.now.package)) }
 {
-    match &file.package {
+    match &head.package {
         Some(package) => package.name.copied(alloc),
         None => Ok(Name::new(alloc)),
     }
 }
 
-fn message_names(alloc: Global, file: &File, front: &Name) -> Result<Vec<Name>, Memory>
-    requires formed { IsFormed file.now }
-    requires front { front.now ≡ text_of (package_of file.now) }
-    ensures count { IfOk result (λ v. length v.items ≡ length file.now.messages) }
-    ensures names { IfOk result (λ v. AreMessageNames file.now v.items) }
+fn front_names(alloc: Global, files: &Joined<'_>) -> Result<Vec<Name>, Memory>
+    ensures { IfOk result (λ v. AreFronts files.now v.items) }
 {
-    let decls = file.messages.as_slice();
+    let heads = files.heads();
+    let mut fronts = Vec::with_capacity(alloc, heads.len())?;
+    for i in 0..heads.len() {
+        let name = front_name(alloc, &heads[i])?;
+        fronts.push(name)?;
+    }
+    Ok(fronts)
+}
+
+fn message_names(alloc: Global, files: &Joined<'_>, fronts: &[Name]) -> Result<Vec<Name>, Memory>
+    requires formed { IsFormed files.now }
+    requires fronts { AreFronts files.now fronts.now }
+    ensures count { IfOk result (λ v. length v.items ≡ length files.now.messages) }
+    ensures names { IfOk result (λ v. AreMessageNames files.now v.items) }
+{
+    let decls = files.messages();
     let mut messages = Vec::with_capacity(alloc, decls.len())?;
     for i in 0..decls.len() {
         let decl = &decls[i];
-        let name = full_name(alloc, front, messages.as_slice(), decl.parent, &decl.name)?;
+        let name = full_name(alloc, fronts, messages.as_slice(), decl.home(), &decl.name)?;
         messages.push(name)?;
     }
     Ok(messages)
@@ -76,39 +89,40 @@ fn message_names(alloc: Global, file: &File, front: &Name) -> Result<Vec<Name>, 
 
 fn enum_names(
     alloc: Global,
-    file: &File,
-    front: &Name,
+    files: &Joined<'_>,
+    fronts: &[Name],
     messages: &[Name],
 ) -> Result<Vec<Name>, Memory>
-    requires formed { IsFormed file.now }
-    requires front { front.now ≡ text_of (package_of file.now) }
-    requires count { length messages.now ≡ length file.now.messages }
-    requires names { AreMessageNames file.now messages.now }
-    ensures count { IfOk result (λ v. length v.items ≡ length file.now.enums) }
-    ensures names { IfOk result (λ v. AreEnumNames file.now v.items) }
+    requires formed { IsFormed files.now }
+    requires fronts { AreFronts files.now fronts.now }
+    requires count { length messages.now ≡ length files.now.messages }
+    requires names { AreMessageNames files.now messages.now }
+    ensures count { IfOk result (λ v. length v.items ≡ length files.now.enums) }
+    ensures names { IfOk result (λ v. AreEnumNames files.now v.items) }
 {
-    let decls = file.enums.as_slice();
+    let decls = files.enums();
     let mut enums = Vec::with_capacity(alloc, decls.len())?;
     for i in 0..decls.len() {
         let decl = &decls[i];
-        let name = full_name(alloc, front, messages, decl.parent, &decl.name)?;
+        let name = full_name(alloc, fronts, messages, decl.home(), &decl.name)?;
         enums.push(name)?;
     }
     Ok(enums)
 }
 
-/// The plan of a file against which nothing stands.
-pub fn plan_of(alloc: Global, file: &File) -> Result<Plan, Memory>
-    requires formed { IsFormed file.now }
-    requires ordered { IsOrdered file.now }
-    requires clean { IsClean file.now }
-    ensures { IfOk result (IsPlan file.now) }
+/// The plan of files against which nothing stands.
+pub fn plan_of(alloc: Global, files: &Joined<'_>) -> Result<Plan, Memory>
+    requires formed { IsFormed files.now }
+    requires ordered { IsOrdered files.now }
+    requires clean { IsClean files.now }
+    ensures fronts { IfOk result (λ p. AreFronts files.now p.fronts.items) }
+    ensures plan { IfOk result (IsPlan files.now) }
 {
-    let front = front_name(alloc, file)?;
-    let messages = message_names(alloc, file, &front)?;
-    let enums = enum_names(alloc, file, &front, messages.as_slice())?;
+    let fronts = front_names(alloc, files)?;
+    let messages = message_names(alloc, files, fronts.as_slice())?;
+    let enums = enum_names(alloc, files, fronts.as_slice(), messages.as_slice())?;
     Ok(Plan {
-        front,
+        fronts,
         messages: Placed::new(alloc, messages)?,
         enums: Placed::new(alloc, enums)?,
     })

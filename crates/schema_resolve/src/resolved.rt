@@ -1,32 +1,45 @@
-//! The table of a file that is well formed, or its first offence.
+//! The table of files that are resolved together, or their first offence.
 
-ghost use Rattle.std.specs.Prelude.{IfOk, IfErr};
-ghost use Rattle.proto_file.specs.Order.{IsFormed, IsOrdered};
-ghost use Rattle.schema_resolve.specs.Resolving.{Resolves, IsFaultOf};
+ghost use Rattle.std.specs.Prelude.{◌≡◌, IfOk, IfErr, MatchResult};
+ghost use Rattle.mrpc_table.specs.declared.table.Table.{Table};
+ghost use Rattle.mrpc_table.specs.Valid.{IsValid};
+ghost use Rattle.proto_file.specs.Together.{IsFormed, IsOrdered};
+ghost use Rattle.schema_resolve.specs.Resolving.{ResolvesTogether, IsFaultOfAll};
+ghost use Rattle.schema_resolve.specs.declared.fault.ResolveFault.TheVariants as faults;
 
-use crate::fault::ResolveFault;
+use crate::fault::{ResolveFault, fault_of};
+use crate::laws::one_table;
 use crate::table::table_of;
 use mrpc_table::Table;
-use proto_file::File;
+use proto_file::Joined;
 use schema_names::Scopes;
-use schema_offences::{Offence, first_offence};
+use schema_offences::first_offence;
 use std::alloc::Global;
 
-/// The table, or the offence that starts first. Without memory it answers `Memory`.
-pub fn resolved(alloc: Global, file: &File) -> Result<Table, ResolveFault>
-    requires formed { IsFormed file.now }
-    requires ordered { IsOrdered file.now }
-    ensures resolves { IfOk result (Resolves file.now) }
-    ensures offence { IfErr result (IsFaultOf file.now) }
+/// The table of files that are resolved together, or the offence that starts first: of several at one place, the first
+/// one in the list of [`ResolveReason`]. Without memory it answers `Memory`.
+///
+/// The methods have indices from 0, along the files. An `optional` message is plain, and a repeated field of numbers is
+/// packed unless `packed = false` stands with it.
+///
+/// [`ResolveReason`]: schema_offences::ResolveReason
+pub fn resolve_together(alloc: Global, files: &Joined<'_>) -> Result<Table, ResolveFault>
+    requires formed { IsFormed files.now }
+    requires ordered { IsOrdered files.now }
+    // A table is what the files resolve to.
+    ensures resolves { IfOk result (ResolvesTogether files.now) }
+    // It is valid.
+    ensures valid { IfOk result (λ t. IsValid t) }
+    // Files that resolve to a table give this table, unless memory runs out.
+    ensures only { (t : Table) → ResolvesTogether files.now t
+        → MatchResult result (λ u. u ≡ t) (λ e. e ≡ faults.Memory) }
+    // An offence is the first one of all files.
+    ensures offence { IfErr result (IsFaultOfAll files.now) }
 {
-    let scopes = Scopes::new(alloc, file)?;
-    match first_offence(alloc, file, &scopes)? {
-        Some(Offence { reason, span }) => Err(ResolveFault::At {
-            reason,
-            start: span.start,
-            end: span.end,
-            line: span.line,
-        }),
-        None => Ok(table_of(alloc, file, &scopes)?),
+    one_table();
+    let scopes = Scopes::new(alloc, files)?;
+    match first_offence(alloc, files, &scopes)? {
+        Some(offence) => Err(fault_of(offence)),
+        None => Ok(table_of(alloc, files, &scopes)?),
     }
 }

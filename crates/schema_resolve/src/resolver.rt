@@ -1,4 +1,4 @@
-//! The table of a file, or its first offence.
+//! The table of a file alone, or its first offence.
 
 ghost use Rattle.std.specs.Prelude.{◌≡◌, List, ℕ, IfOk, IfErr, MatchResult};
 ghost use Rattle.mrpc_table.specs.declared.table.Table.{Table};
@@ -7,12 +7,15 @@ ghost use Rattle.proto_schema.specs.Faults.{IsTextOf};
 ghost use Rattle.schema_resolve.specs.Resolving.{Resolves, IsFaultOf};
 ghost use Rattle.schema_resolve.specs.declared.fault.ResolveFault.TheVariants as faults;
 
-use crate::fault::ResolveFault;
+use crate::fault::{ResolveFault, fault_of};
+use crate::head::head_of;
 use crate::laws::one_table;
-use crate::resolved::resolved;
+use crate::table::table_of;
 use mrpc_table::Table;
-use proto_file::File;
-use proto_schema::file_is_ordered;
+use proto_file::{File, Joined};
+use proto_schema::alone_is_ordered;
+use schema_names::Scopes;
+use schema_offences::{first_offence, with_import};
 use std::alloc::Global;
 
 /// The table of a file that was read, or the offence that starts first: of several at one place, the first one in the
@@ -33,7 +36,19 @@ pub fn resolve(alloc: Global, file: &File) -> Result<Table, ResolveFault>
     // An offence is the file's first one.
     ensures offence { IfErr result (λ e. IsFaultOf file.now e) }
 {
-    file_is_ordered();
+    alone_is_ordered();
     one_table();
-    resolved(alloc, file)
+    let heads = head_of(alloc, file)?;
+    let files = Joined::new(
+        heads.as_slice(),
+        file.messages.as_slice(),
+        file.enums.as_slice(),
+        file.services.as_slice(),
+    );
+    let scopes = Scopes::new(alloc, &files)?;
+    let found = first_offence(alloc, &files, &scopes)?;
+    match with_import(file, found) {
+        Some(offence) => Err(fault_of(offence)),
+        None => Ok(table_of(alloc, &files, &scopes)?),
+    }
 }

@@ -1,9 +1,8 @@
-//! The table of a file against which nothing stands.
+//! The table of files against which nothing stands.
 
-ghost use Rattle.std.specs.Prelude.{◌≡◌, [], ◌∷◌, IfOk};
-ghost use Rattle.proto_file.specs.Order.{IsFormed, IsOrdered};
+ghost use Rattle.std.specs.Prelude.{◌≡◌, IfOk};
+ghost use Rattle.proto_file.specs.Together.{IsFormed, IsOrdered};
 ghost use Rattle.schema_offences.specs.Those.{AreThoseInOrder};
-ghost use Rattle.schema_offences.specs.Sources.{alone};
 ghost use Rattle.schema_resolve.specs.Tables.{IsTableOf};
 ghost use Rattle.schema_resolve.specs.Resolving.{IsClean};
 ghost use Rattle.schema_resolve.specs.Placing.{IsPlan};
@@ -16,61 +15,61 @@ use crate::message_table::message_in;
 use crate::method_table::methods_in;
 use crate::plan::{Plan, plan_of};
 use mrpc_table::{Enums, Memory, Messages, Sequence, Table};
-use proto_file::File;
+use proto_file::Joined;
 use schema_names::Scopes;
 use std::alloc::Global;
 
 // The messages by ascending name.
 fn messages_in<'a>(
     alloc: Global,
-    file: &'a File,
+    files: &Joined<'a>,
     scopes: &Scopes<'a>,
     plan: &Plan,
 ) -> Result<Messages, Memory>
-    requires formed { IsFormed file.now }
-    requires ordered { IsOrdered file.now }
-    requires scopes { scopes.now ≡ file.now }
-    requires clean { IsClean file.now }
-    requires plan { IsPlan file.now plan.now }
-    ensures { IfOk result (AreThoseInOrder (IsMessageAt file.now plan.now) plan.now.messages.order.items) }
+    requires formed { IsFormed files.now }
+    requires ordered { IsOrdered files.now }
+    requires scopes { scopes.now ≡ files.now }
+    requires clean { IsClean files.now }
+    requires plan { IsPlan files.now plan.now }
+    ensures { IfOk result (AreThoseInOrder (IsMessageAt files.now plan.now) plan.now.messages.order.items) }
 {
     let order = plan.messages.order.as_slice();
     let mut messages = Sequence::with_room(alloc, order.len())?;
     for i in 0..order.len() {
-        let message = message_in(alloc, file, scopes, plan, order[i])?;
+        let message = message_in(alloc, files, scopes, plan, order[i])?;
         messages.push(message)?;
     }
     Ok(messages)
 }
 
 // The enums by ascending name.
-fn enums_in(alloc: Global, file: &File, plan: &Plan) -> Result<Enums, Memory>
-    requires formed { IsFormed file.now }
-    requires ordered { IsOrdered file.now }
-    requires clean { IsClean file.now }
-    requires plan { IsPlan file.now plan.now }
-    ensures { IfOk result (AreThoseInOrder (IsEnumAt file.now plan.now) plan.now.enums.order.items) }
+fn enums_in(alloc: Global, files: &Joined<'_>, plan: &Plan) -> Result<Enums, Memory>
+    requires formed { IsFormed files.now }
+    requires ordered { IsOrdered files.now }
+    requires clean { IsClean files.now }
+    requires plan { IsPlan files.now plan.now }
+    ensures { IfOk result (AreThoseInOrder (IsEnumAt files.now plan.now) plan.now.enums.order.items) }
 {
     let order = plan.enums.order.as_slice();
     let mut enums = Sequence::with_room(alloc, order.len())?;
     for i in 0..order.len() {
-        let choices = enum_in(alloc, file, plan, order[i])?;
+        let choices = enum_in(alloc, files, plan, order[i])?;
         enums.push(choices)?;
     }
     Ok(enums)
 }
 
-fn made_table<'a>(alloc: Global, file: &'a File, scopes: &Scopes<'a>) -> Result<Table, Memory>
-    requires formed { IsFormed file.now }
-    requires ordered { IsOrdered file.now }
-    requires scopes { scopes.now ≡ file.now }
-    requires clean { IsClean file.now }
-    ensures { IfOk result (IsMadeTable file.now) }
+fn made_table<'a>(alloc: Global, files: &Joined<'a>, scopes: &Scopes<'a>) -> Result<Table, Memory>
+    requires formed { IsFormed files.now }
+    requires ordered { IsOrdered files.now }
+    requires scopes { scopes.now ≡ files.now }
+    requires clean { IsClean files.now }
+    ensures { IfOk result (IsMadeTable files.now) }
 {
-    let plan = plan_of(alloc, file)?;
-    let messages = messages_in(alloc, file, scopes, &plan)?;
-    let enums = enums_in(alloc, file, &plan)?;
-    let methods = methods_in(alloc, file, scopes, &plan)?;
+    let plan = plan_of(alloc, files)?;
+    let messages = messages_in(alloc, files, scopes, &plan)?;
+    let enums = enums_in(alloc, files, &plan)?;
+    let methods = methods_in(alloc, files, scopes, &plan)?;
     Ok(Table {
         messages,
         enums,
@@ -78,13 +77,13 @@ fn made_table<'a>(alloc: Global, file: &'a File, scopes: &Scopes<'a>) -> Result<
     })
 }
 
-/// The table of a file against which nothing stands.
-pub fn table_of<'a>(alloc: Global, file: &'a File, scopes: &Scopes<'a>) -> Result<Table, Memory>
-    requires formed { IsFormed file.now }
-    requires ordered { IsOrdered file.now }
-    requires scopes { scopes.now ≡ file.now }
-    requires clean { IsClean file.now }
-    ensures { IfOk result (λ t. IsTableOf (alone file.now ∷ []) t) }
+/// The table of files against which nothing stands.
+pub fn table_of<'a>(alloc: Global, files: &Joined<'a>, scopes: &Scopes<'a>) -> Result<Table, Memory>
+    requires formed { IsFormed files.now }
+    requires ordered { IsOrdered files.now }
+    requires scopes { scopes.now ≡ files.now }
+    requires clean { IsClean files.now }
+    ensures { IfOk result (λ t. IsTableOf files.now t) }
 {
-    made_table(alloc, file, scopes)
+    made_table(alloc, files, scopes)
 }

@@ -2,4 +2,4 @@ use Rattle.schema_names.proofs.OnlyOne.{name_one}
 use Rattle.schema_names.proofs.laws.one_name.Goals as goal
 
 pub returns : goal.returns
-returns c F scope name a b f g starts m n = name_one starts m n
+returns c F file scope name a b f g starts m n = name_one starts m n

@@ -1,5 +1,4 @@
-use Rattle.schema_names.proofs.ScopeLemmas.{number_full, number_same}
-use Rattle.schema_names.proofs.OnlyOne.{small_number}
+use Rattle.schema_names.proofs.ScopeLemmas.{number_full, number_same, number_small}
 use Rattle.schema_names.proofs.laws.one_number.Goals as goal
 
 pub returns-clause-scope : goal.returns-clause-scope
@@ -9,4 +8,4 @@ pub returns-clause-number : goal.returns-clause-number
 returns-clause-number c F s k l m n = number_same m n
 
 pub returns-clause-small : goal.returns-clause-small
-returns-clause-small c F s k n = small_number n
+returns-clause-small c F s k n = number_small n

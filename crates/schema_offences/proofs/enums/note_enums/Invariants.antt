@@ -4,4 +4,4 @@ use Rattle.schema_offences.proofs.enums.note_enums.Given as goal
 
 -- what stands against the elements up to here was met
 abbrev pub invariant-loop-i : goal.invariant-loop-i
-invariant-loop-i l = Meets (OfFirst l.i (OfElement l.fn.file.enums EnumOffends)) l.initial.first l.first
+invariant-loop-i l = Meets (OfFirst l.i (OfElement l.fn.files.enums EnumOffends)) l.initial.first l.first

@@ -13,7 +13,7 @@ returns c =
     (meets_then _ _ _ _ _
     (meets_then _ _ _ _ _
     (meets_then _ _ _ _ _
-    (meets_then _ _ _ _ _ c.note_head.ensures c.in_ok-note_duplicates.ensures)
+    (meets_then _ _ _ _ _ c.note_packages.ensures c.in_ok-note_duplicates.ensures)
     c.in_ok-note_messages.ensures)
     c.in_ok-note_enums.ensures)
     c.note_services.ensures)

@@ -1,26 +1,26 @@
 use Rattle.std.proofs.Common.{◌≡◌, ◌∙◌, ◌+◌, ◌<◌, ◌≤◌, ℕ, length, get_or, refl, sym, ap, subst, arith}
 use Rattle.std.specs.Prelude.{Some, slice_get}
-use Rattle.proto_file.specs.Order.{enum_decl}
+use Rattle.proto_file.specs.Together.{enum_decl}
+use Rattle.proto_file.specs.Joined.{enum_home_of}
 use Rattle.schema_offences.specs.Lengths.{at_most_64_bits, Covers}
 use Rattle.schema_offences.proofs.Meetings.{item_at}
 use Rattle.std.proofs.lemmas.Grind.{get_or_default_zero}
-use Rattle.schema_offences.proofs.Formed.{stand_behind}
-use Rattle.schema_offences.proofs.FullLengths.{enum_below, is_place}
+use Rattle.schema_offences.proofs.Formed.{stand_behind, enum_place}
 use Rattle.schema_offences.proofs.LineLengths.{enum_line}
 use Rattle.schema_offences.proofs.LinesAdded.{own_enum, covers_add, covers_class, no_enum}
 use Rattle.schema_offences.proofs.lines.add_enums.Goals as goal
 
 pub add_values-requires-clause-choices : goal.add_values-requires-clause-choices
 add_values-requires-clause-choices c =
-    let F = c.args.file.now in
+    let F = c.args.files.now in
     let kept = c.args.lengths.now in
     let i = c.loop-i.i in
     let e = c.index-all-i.result in
-    let l : i < length F.enums = omega (arith, ap length c.as_slice-all.ensures, c.loop-i-test.true) in
+    let l : i < length F.enums = omega (arith, ap length c.enums-all.ensures, c.loop-i-test.true) in
     let at : slice_get F.enums i ≡ Some e =
-    item_at c.as_slice-all.result.now F.enums i e c.as_slice-all.ensures l c.index-all-i.is in
-    let outer = c.one_scope.ensures.exists F e.parent (stand_behind F c.requires.formed)
-    (is_place F e.parent (enum_below F c.requires.formed i e at)) in
+    item_at c.enums-all.result.now F.enums i e c.enums-all.ensures l c.index-all-i.is in
+    let behind = stand_behind F c.requires.formed in
+    let outer = c.one_scope.ensures.exists F (enum_home_of e) behind (enum_place F behind i e at) in
     let read : c.index.result.now ≡ get_or kept.enums.items i 0 =
     c.index.ensures
     ∙ get_or_default_zero kept.enums.items i c.index.result.now (omega (arith, c.requires.lengths.all_enums)) in
@@ -32,7 +32,7 @@ add_values-requires-clause-choices c =
 
 pub returns : goal.returns
 returns c =
-    let F = c.args.file.now in
+    let F = c.args.files.now in
     let all : length F.enums ≤ c.loop-i.i =
-    omega (arith, ap length c.as_slice-all.ensures, c.loop-i-test.false) in
+    omega (arith, ap length c.enums-all.ensures, c.loop-i-test.false) in
     covers_class F 1 c.loop-i.i c.loop-i.lines.items c.loop-i.invariant (no_enum F c.loop-i.i all)

@@ -1,31 +1,33 @@
 use Rattle.std.proofs.Common.{◌≡◌, ◌∙◌, ◌+◌, ◌<◌, ◌≤◌, ℕ, length, get_or, refl, sym, ap, subst, arith}
 use Rattle.std.specs.Prelude.{Some, slice_get}
-use Rattle.proto_file.specs.Order.{message_decl}
+use Rattle.proto_file.specs.Together.{message_decl}
+use Rattle.proto_file.specs.Joined.{home_of}
+use Rattle.proto_file.specs.declared.joined.Home.TheVariants as home
 use Rattle.schema_offences.specs.Lengths.{at_most_64_bits, Covers}
 use Rattle.schema_offences.proofs.Meetings.{item_at}
 use Rattle.std.proofs.lemmas.Grind.{get_or_default_zero}
-use Rattle.schema_offences.proofs.Formed.{stand_behind}
-use Rattle.schema_offences.proofs.FullLengths.{message_below, is_place}
+use Rattle.schema_offences.proofs.Formed.{stand_behind, message_place}
 use Rattle.schema_offences.proofs.LineLengths.{message_line}
 use Rattle.schema_offences.proofs.LinesAdded.{own_message, covers_add, covers_class, no_message}
 use Rattle.schema_offences.proofs.lines.add_messages.Goals as goal
 
 pub add_fields-requires-clause-scope : goal.add_fields-requires-clause-scope
 add_fields-requires-clause-scope c =
-    c.one_scope.ensures.exists c.args.file.now (Some c.loop-i.i) (stand_behind c.args.file.now c.requires.formed)
-    (omega (arith, ap length c.as_slice-all.ensures, c.loop-i-test.true))
+    c.one_scope.ensures.exists c.args.files.now (home.Message c.loop-i.i) (stand_behind c.args.files.now
+    c.requires.formed)
+    (omega (arith, ap length c.messages-all.ensures, c.loop-i-test.true))
 
 pub add_fields-requires-clause-message : goal.add_fields-requires-clause-message
 add_fields-requires-clause-message c =
-    let F = c.args.file.now in
+    let F = c.args.files.now in
     let kept = c.args.lengths.now in
     let i = c.loop-i.i in
     let m = c.index-all-i.result in
-    let l : i < length F.messages = omega (arith, ap length c.as_slice-all.ensures, c.loop-i-test.true) in
+    let l : i < length F.messages = omega (arith, ap length c.messages-all.ensures, c.loop-i-test.true) in
     let at : slice_get F.messages i ≡ Some m =
-    item_at c.as_slice-all.result.now F.messages i m c.as_slice-all.ensures l c.index-all-i.is in
-    let outer = c.one_scope.ensures.exists F m.parent (stand_behind F c.requires.formed)
-    (is_place F m.parent (message_below F c.requires.formed i m at)) in
+    item_at c.messages-all.result.now F.messages i m c.messages-all.ensures l c.index-all-i.is in
+    let behind = stand_behind F c.requires.formed in
+    let outer = c.one_scope.ensures.exists F (home_of m) behind (message_place F behind i m at) in
     let read : c.index.result.now ≡ get_or kept.messages.items i 0 =
     c.index.ensures
     ∙ get_or_default_zero kept.messages.items i c.index.result.now (omega (arith, c.requires.lengths.all_messages)) in
@@ -37,7 +39,7 @@ add_fields-requires-clause-message c =
 
 pub returns : goal.returns
 returns c =
-    let F = c.args.file.now in
+    let F = c.args.files.now in
     let all : length F.messages ≤ c.loop-i.i =
-    omega (arith, ap length c.as_slice-all.ensures, c.loop-i-test.false) in
+    omega (arith, ap length c.messages-all.ensures, c.loop-i-test.false) in
     covers_class F 0 c.loop-i.i c.loop-i.lines.items c.loop-i.invariant (no_message F c.loop-i.i all)

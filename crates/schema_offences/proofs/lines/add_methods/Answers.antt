@@ -4,7 +4,7 @@ use Rattle.schema_offences.proofs.lines.add_methods.Goals as goal
 
 pub returns : goal.returns
 returns c =
-    let F = c.args.file.now in
+    let F = c.args.files.now in
     let all : length F.services ≤ c.loop-i.i =
-    omega (arith, ap length c.as_slice-all.ensures, c.loop-i-test.false) in
+    omega (arith, ap length c.services-all.ensures, c.loop-i-test.false) in
     covers_class F 2 c.loop-i.i c.loop-i.lines.items c.loop-i.invariant.covers (no_service F c.loop-i.i all)

@@ -4,7 +4,7 @@ use Rattle.schema_offences.proofs.lines.add_methods.Given as goal
 
 abbrev pub invariant-loop-i : goal.invariant-loop-i
 invariant-loop-i l = record {
-  covers : Covers l.fn.file 2 l.i 0 l.lines.items;
-  before : l.before ≡ rpcs_before l.fn.file l.i;
+  covers : Covers l.fn.files 2 l.i 0 l.lines.items;
+  before : l.before ≡ rpcs_before l.fn.files l.i;
   few : l.before ≤ l.i * 2 ^ 64;
 }

@@ -1,6 +1,6 @@
 use Rattle.std.proofs.Common.{◌≡◌, ◌+◌, ◌<◌, ◌≤◌, length, refl, sym, ap, subst, arith}
 use Rattle.std.specs.Prelude.{Some, slice_get}
-use Rattle.proto_file.specs.Order.{value_decl}
+use Rattle.proto_file.specs.Together.{value_decl}
 use Rattle.schema_offences.specs.Lengths.{Covers}
 use Rattle.schema_offences.proofs.Meetings.{item_at}
 use Rattle.schema_offences.proofs.LineLengths.{value_at}
@@ -9,11 +9,11 @@ use Rattle.schema_offences.proofs.lines.add_values.Goals as goal
 
 pub loop-j-preserved : goal.loop-j-preserved
 loop-j-preserved c =
-    let F = c.args.file.now in
-    let e = c.index-as_slice-i.result in
+    let F = c.args.files.now in
+    let e = c.index-enums-i.result in
     let j = c.loop-j.j in
     let at : slice_get F.enums c.args.i ≡ Some e =
-    item_at c.as_slice.result.now F.enums c.args.i e c.as_slice.ensures c.requires.place c.index-as_slice-i.is in
+    item_at c.enums.result.now F.enums c.args.i e c.enums.ensures c.requires.place c.index-enums-i.is in
     let l : j < length e.values = omega (arith, ap length c.as_slice-values.ensures, c.loop-j-test.true) in
     let vat : slice_get e.values j ≡ Some c.index-values-j.result =
     item_at c.as_slice-values.result.now e.values j c.index-values-j.result c.as_slice-values.ensures l
@@ -26,10 +26,10 @@ loop-j-preserved c =
 
 pub returns : goal.returns
 returns c =
-    let F = c.args.file.now in
-    let e = c.index-as_slice-i.result in
+    let F = c.args.files.now in
+    let e = c.index-enums-i.result in
     let at : slice_get F.enums c.args.i ≡ Some e =
-    item_at c.as_slice.result.now F.enums c.args.i e c.as_slice.ensures c.requires.place c.index-as_slice-i.is in
+    item_at c.enums.result.now F.enums c.args.i e c.enums.ensures c.requires.place c.index-enums-i.is in
     let all : length e.values ≤ c.loop-j.j =
     omega (arith, ap length c.as_slice-values.ensures, c.loop-j-test.false) in
     covers_row F 1 c.args.i (c.loop-j.j + 1) c.loop-j.lines.items c.loop-j.invariant

@@ -1,6 +1,6 @@
 use Rattle.std.proofs.Common.{◌≡◌, ◌∙◌, ◌+◌, ℕ, length, sym, ap, subst}
 use Rattle.std.specs.Fmt.{decimal}
-use Rattle.proto_file.specs.Order.{field_decl}
+use Rattle.proto_file.specs.Together.{field_decl}
 use Rattle.schema_offences.specs.Lengths.{at_most_64_bits, IsLengthAt}
 use Rattle.schema_offences.proofs.LineLengths.{is_kept, sums_three, field_line, no_form, no_number}
 use Rattle.schema_offences.proofs.lines.field_length.Goals as goal

@@ -1,8 +1,9 @@
 use Rattle.std.proofs.Common.{◌≡◌, ◌∙◌, ◌+◌, ◌<◌, rules, length, ℕ, sym, subst}
 use Rattle.std.proofs.lemmas.Grind.{get_or_default_zero}
-use Rattle.proto_file.specs.Order.{rpc_decl}
+use Rattle.proto_file.specs.Together.{rpc_decl}
 use Rattle.schema_offences.specs.Lengths.{at_most_64_bits, IsLengthAt}
 use Rattle.schema_offences.proofs.LineLengths.{message_in, sums_four, method_line, no_output}
+use Rattle.schema_offences.proofs.FullLengths.{file_kept}
 use Rattle.schema_offences.proofs.lines.method_length.Goals as goal
 
 pub returns-in_err-output : goal.returns-in_err-output
@@ -37,7 +38,7 @@ returns c = λ i j at rat count.
     let output = c.index-2.ensures
     ∙ get_or_default_zero kept.messages.items c.in_ok-output.output c.index-2.result.now in_b in
     method_line F kept c.requires.lengths i j c.args.index c.args.service.now c.args.rpc.now c.in_ok-input.input
-    c.in_ok-output.output a.0 b.0 c.saturating_add-4.result at rat count a.1 b.1 a.2 b.2
+    c.in_ok-output.output a.0 b.0 c.saturating_add-4.result at rat count c.requires.file a.1 b.1 a.2 b.2
     (sums_four _ c.digits-front.result _ c.len.result _ _ _ c.saturating_add.result c.saturating_add-2.result
     c.saturating_add-3.result c.saturating_add-4.result c.digits-front.ensures.is c.len.ensures
     (subst (λ (n : ℕ). c.saturating_add.result ≡ at_most_64_bits (12 + c.digits-front.result + n)) c.full.ensures
@@ -46,3 +47,9 @@ returns c = λ i j at rat count.
     c.saturating_add-3.ensures)
     (subst (λ (n : ℕ). c.saturating_add-4.result ≡ at_most_64_bits (c.saturating_add-3.result + n)) output
     c.saturating_add-4.ensures))
+
+pub full-requires : goal.full-requires
+full-requires c =
+    let F = c.args.scopes.now in
+    file_kept F (length F.messages) (length F.enums) c.args.lengths.now c.requires.lengths c.args.service.now.file
+    c.requires.file

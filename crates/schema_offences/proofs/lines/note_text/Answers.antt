@@ -4,13 +4,14 @@ use Rattle.proto_file.specs.declared.file.Span.{Span}
 use Rattle.schema_offences.specs.Meeting.{Meets, AtSome, OfElement, PassesIn}
 use Rattle.schema_offences.specs.Lengths.{IsPast}
 use Rattle.schema_offences.proofs.Meetings.{meets_as}
-use Rattle.schema_offences.proofs.LinesOne.{start_apart, line_one}
+use Rattle.schema_offences.proofs.Formed.{start_apart}
+use Rattle.schema_offences.proofs.LinesOne.{line_one}
 use Rattle.schema_offences.proofs.LinesPassing.{text_to, text_from}
 use Rattle.schema_offences.proofs.lines.note_text.Goals as goal
 
 pub returns : goal.returns
 returns c =
-    let F = c.args.file.now in
+    let F = c.args.files.now in
     let xs = c.add_methods.new.lines.items in
     let ys = c.sort_by_key.new.self.items in
     let up = IsNonDecreasingBy-from_sort_by_key (λ x. x.0.start) _ c.in_ok-sort_by_key.ensures.sorted

@@ -1,6 +1,6 @@
 use Rattle.std.proofs.Common.{◌+◌, ℕ, Option, sym, ap, ◌∙◌}
 use Rattle.proto_file.specs.declared.file.Word.{Word}
-use Rattle.schema_names.specs.Scopes.{package_parts}
+use Rattle.proto_file.specs.Joined.{package_parts}
 use Rattle.schema_offences.specs.Lengths.{at_most_64_bits, front_length}
 use Rattle.schema_offences.proofs.FullLengths.{package_length}
 use Rattle.schema_offences.proofs.lines.package_front.Goals as goal

@@ -1,5 +1,5 @@
-use Rattle.std.proofs.Common.{ℕ, List, [], ◌∷◌}
-use Rattle.std.specs.Prelude.{Some}
+use Rattle.std.proofs.Common.{ℕ, List}
+use Rattle.proto_file.specs.declared.joined.Home.TheVariants as home
 use Rattle.schema_names.specs.Scopes.{IsScope}
 use Rattle.schema_offences.specs.Members.{TypeOffends}
 use Rattle.schema_offences.specs.Meeting.{Meets, OfFirst, OfElement}
@@ -7,5 +7,5 @@ use Rattle.schema_offences.proofs.messages.note_all_types.Given as goal
 
 -- what stands against the elements up to here was met
 abbrev pub invariant-loop-i : goal.invariant-loop-i
-invariant-loop-i l = (scope : List (List ℕ)) → IsScope l.scopes (Some l.message) scope
-    → Meets (OfFirst l.i (OfElement l.fields (λ i. TypeOffends (l.scopes ∷ []) scope))) l.initial.first l.first
+invariant-loop-i l = (scope : List (List ℕ)) → IsScope l.scopes (home.Message l.message) scope
+    → Meets (OfFirst l.i (OfElement l.fields (λ i. TypeOffends l.scopes l.file scope))) l.initial.first l.first

@@ -3,4 +3,4 @@ use Rattle.schema_offences.proofs.messages.note_messages.Given as goal
 
 -- what stands against the elements up to here was met
 abbrev pub invariant-loop-i : goal.invariant-loop-i
-invariant-loop-i l = Meets (OfFirst l.i (OfElement l.fn.file.messages (MessageIn l.fn.file))) l.initial.first l.first
+invariant-loop-i l = Meets (OfFirst l.i (OfElement l.fn.files.messages (MessageIn l.fn.files))) l.initial.first l.first

@@ -1,4 +1,4 @@
-use Rattle.std.proofs.Common.{[], ◌∷◌, sym, subst}
+use Rattle.std.proofs.Common.{sym, subst}
 use Rattle.proto_file.specs.declared.file.FieldType.{FieldType}
 use Rattle.proto_file.specs.declared.file.FieldType.TheVariants.{NestedMap}
 use Rattle.schema_offences.specs.declared.first.First.{First}
@@ -13,28 +13,30 @@ use Rattle.schema_offences.proofs.messages.note_types.Goals.{in-Named, in-Map, i
 pub returns : goal.returns
 returns c scope h =
     let f = c.args.field.now in
-    let files = c.args.scopes.now ∷ [] in
-    let kind : Meets (KindOffends files scope f.kind) c.args.first.now c.match-field.first = elim c.match-field.branch [
+    let F = c.args.scopes.now in
+    let file = c.args.file in
+    let kind : Meets (KindOffends F file scope f.kind) c.args.first.now c.match-field.first =
+    elim c.match-field.branch [
       | in-Named w ↦
-          subst (λ (b : First). Meets (KindOffends files scope f.kind) c.args.first.now b) (sym w.first-is)
-          (subst (λ (k : FieldType). Meets (KindOffends files scope k) c.args.first.now w.note_type.new.first)
+          subst (λ (b : First). Meets (KindOffends F file scope f.kind) c.args.first.now b) (sym w.first-is)
+          (subst (λ (k : FieldType). Meets (KindOffends F file scope k) c.args.first.now w.note_type.new.first)
           (sym w.in-Named.is)
           (w.note_type.ensures scope h))
       | in-Map w ↦
-          subst (λ (b : First). Meets (KindOffends files scope f.kind) c.args.first.now b) (sym w.first-is)
-          (subst (λ (k : FieldType). Meets (KindOffends files scope k) c.args.first.now w.note_type-in-Map.new.first)
+          subst (λ (b : First). Meets (KindOffends F file scope f.kind) c.args.first.now b) (sym w.first-is)
+          (subst (λ (k : FieldType). Meets (KindOffends F file scope k) c.args.first.now w.note_type-in-Map.new.first)
           (sym w.in-Map.is)
-          (meets_then (KeyOffends files scope w.in-Map.key) (IsNoType files scope w.in-Map.value) c.args.first.now
+          (meets_then (KeyOffends F file scope w.in-Map.key) (IsNoType F file scope w.in-Map.value) c.args.first.now
           w.note_key.new.first
           w.note_type-in-Map.new.first (w.note_key.ensures scope h) (w.note_type-in-Map.ensures scope h)))
       | in-NestedMap w ↦
-          subst (λ (b : First). Meets (KindOffends files scope f.kind) c.args.first.now b) (sym w.first-is)
-          (subst (λ (k : FieldType). Meets (KindOffends files scope k) c.args.first.now c.args.first.now)
+          subst (λ (b : First). Meets (KindOffends F file scope f.kind) c.args.first.now b) (sym w.first-is)
+          (subst (λ (k : FieldType). Meets (KindOffends F file scope k) c.args.first.now c.args.first.now)
           (sym w.in-NestedMap.is)
-          (meets_none (KindOffends files scope NestedMap) c.args.first.now (λ q s p. p)))
+          (meets_none (KindOffends F file scope NestedMap) c.args.first.now (λ q s p. p)))
     ] in
-    meets_as _ (TypeOffends files scope f) c.args.first.now c.note_if.new.self
+    meets_as _ (TypeOffends F file scope f) c.args.first.now c.note_if.new.self
     (meets_then _ _ _ _ _ kind
     (meets_when (IsMisplaced f) c.is_misplaced_map.result MapPlace f.name.span c.match-field.first c.note_if.new.self
     c.is_misplaced_map.ensures.0 c.is_misplaced_map.ensures.1 c.note_if.ensures))
-    (type_to files scope f) (type_from files scope f)
+    (type_to F file scope f) (type_from F file scope f)

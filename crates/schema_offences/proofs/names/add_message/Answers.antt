@@ -1,7 +1,9 @@
-use Rattle.std.proofs.Common.{◌++◌, map, ap, ◌∙◌}
+use Rattle.std.proofs.Common.{◌++◌, map, ap, ◌∙◌, subst}
 use Rattle.std.proofs.lemmas.Result.{on_ok_weaker}
 use Rattle.schema_offences.specs.Entries.{entry, entries_of}
-use Rattle.schema_offences.proofs.EntryLists.{pushed, adds_message}
+use Rattle.proto_file.specs.Joined.{home_of}
+use Rattle.proto_file.specs.declared.joined.Home.{Home}
+use Rattle.schema_offences.proofs.EntryLists.{IsTheNumber, pushed, adds_message}
 use Rattle.schema_offences.proofs.names.add_message.Goals as goal
 
 pub returns-clause-names : goal.returns-clause-names
@@ -10,6 +12,9 @@ returns-clause-names c =
     let m = c.args.message.now in
     let k = c.number_in-outer.result in
     let l = c.number_in-inner.result in
+    let outer : IsTheNumber F (home_of m) k =
+    subst (λ (h : Home). IsTheNumber F h k) c.home.ensures
+    (c.number_in-outer.ensures.has, c.number_in-outer.ensures.one) in
     let one =
     pushed c.args.names.now.items c.push.new.self.items c.name_in.result (entry k m.name)
     c.in_ok-push.ensures.items c.name_in.ensures in
@@ -17,7 +22,7 @@ returns-clause-names c =
     c.in_ok-add_fields.ensures
     ∙ ap (λ xs. entries_of c.push.new.self.items ++ map (λ f. entry l f.name) xs) c.as_slice.ensures in
     on_ok_weaker c.add_oneofs.result
-    (λ oneofs. adds_message F c.args.i m k l (c.number_in-outer.ensures.has, c.number_in-outer.ensures.one)
+    (λ oneofs. adds_message F c.args.i m k l outer
     (c.number_in-inner.ensures.has, c.number_in-inner.ensures.one) _ _ _ _ one fields
     (oneofs ∙ ap (λ xs. entries_of c.add_fields.new.names.items ++ map (entry l) xs) c.as_slice-2.ensures))
     c.add_oneofs.ensures

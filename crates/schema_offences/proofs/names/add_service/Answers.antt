@@ -4,8 +4,8 @@ use Rattle.schema_offences.specs.Entries.{entry, entries_of}
 use Rattle.schema_offences.proofs.EntryLists.{pushed, adds_service}
 use Rattle.schema_offences.proofs.names.add_service.Goals as goal
 
-pub returns : goal.returns
-returns c =
+pub returns-clause-names : goal.returns-clause-names
+returns-clause-names c =
     let x = c.args.service.now in
     let k = c.number_in-outer.result in
     let l = c.args.scope in

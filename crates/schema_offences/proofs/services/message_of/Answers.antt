@@ -1,5 +1,6 @@
 use Rattle.std.proofs.Common.{ℕ, List, Some, subst, ap, ◌∙◌}
-use Rattle.schema_names.specs.Scopes.{of_file, package_of}
+use Rattle.proto_file.specs.Joined.{package_at}
+use Rattle.schema_names.specs.Scopes.{of_file}
 use Rattle.schema_names.specs.Finding.{IsAnswer}
 use Rattle.schema_offences.proofs.Formed.{start_apart, message_some, message_none, message_enum}
 use Rattle.schema_offences.proofs.services.message_of.Goals as goal
@@ -7,29 +8,32 @@ use Rattle.schema_offences.proofs.services.message_of.Goals as goal
 pub returns-in-Some-Message-clause-some : goal.returns-in-Some-Message-clause-some
 returns-in-Some-Message-clause-some c =
     let F = c.args.scopes.now in
+    let file = c.args.file in
     let name = c.args.word.now.name in
-    let answer : IsAnswer F (package_of F) name c.find.result =
-    subst (λ (n : List ℕ). IsAnswer F (package_of F) n c.find.result) c.as_slice.ensures
-    (c.find.ensures (package_of F) of_file) in
-    message_some F name c.find.result c.in-Some-Message.place
+    let answer : IsAnswer F file (package_at F file) name c.find.result =
+    subst (λ (n : List ℕ). IsAnswer F file (package_at F file) n c.find.result) c.as_slice.ensures
+    (c.find.ensures (package_at F file) (of_file file)) in
+    message_some F file name c.find.result c.in-Some-Message.place
     (c.in-Some-Message.is ∙ ap (λ n. Some n) c.in-Some-Message.field-0-is) answer
 
 pub returns-in-Some-Enum-clause-none : goal.returns-in-Some-Enum-clause-none
 returns-in-Some-Enum-clause-none c order =
     let F = c.args.scopes.now in
+    let file = c.args.file in
     let name = c.args.word.now.name in
-    let answer : IsAnswer F (package_of F) name c.find.result =
-    subst (λ (n : List ℕ). IsAnswer F (package_of F) n c.find.result) c.as_slice.ensures
-    (c.find.ensures (package_of F) of_file) in
-    message_enum F name c.find.result c.in-Some-Enum.field-0-0
+    let answer : IsAnswer F file (package_at F file) name c.find.result =
+    subst (λ (n : List ℕ). IsAnswer F file (package_at F file) n c.find.result) c.as_slice.ensures
+    (c.find.ensures (package_at F file) (of_file file)) in
+    message_enum F file name c.find.result c.in-Some-Enum.field-0-0
     (c.in-Some-Enum.is ∙ ap (λ n. Some n) c.in-Some-Enum.field-0-is) answer
-    (λ a b f g m n. (c.one_name.ensures F (package_of F) name a b f g (start_apart F order) m n).0)
+    (λ a b f g m n. (c.one_name.ensures F file (package_at F file) name a b f g (start_apart F order) m n).0)
 
 pub returns-in-None-clause-none : goal.returns-in-None-clause-none
 returns-in-None-clause-none c order =
     let F = c.args.scopes.now in
+    let file = c.args.file in
     let name = c.args.word.now.name in
-    let answer : IsAnswer F (package_of F) name c.find.result =
-    subst (λ (n : List ℕ). IsAnswer F (package_of F) n c.find.result) c.as_slice.ensures
-    (c.find.ensures (package_of F) of_file) in
-    message_none F name c.find.result c.in-None.is answer
+    let answer : IsAnswer F file (package_at F file) name c.find.result =
+    subst (λ (n : List ℕ). IsAnswer F file (package_at F file) n c.find.result) c.as_slice.ensures
+    (c.find.ensures (package_at F file) (of_file file)) in
+    message_none F file name c.find.result c.in-None.is answer

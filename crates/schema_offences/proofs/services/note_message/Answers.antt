@@ -1,5 +1,6 @@
-use Rattle.std.proofs.Common.{ℕ, List, [], ◌∷◌}
-use Rattle.schema_names.specs.Scopes.{a_message, Names, package_of}
+use Rattle.std.proofs.Common.{ℕ, List}
+use Rattle.proto_file.specs.Joined.{package_at}
+use Rattle.schema_names.specs.Scopes.{a_message, Names}
 use Rattle.schema_names.specs.Numbers.{IsFirstAt}
 use Rattle.schema_names.specs.declared.named.Named.TheVariants.{Message}
 use Rattle.schema_offences.specs.Members.{IsNoMessage}
@@ -10,11 +11,12 @@ use Rattle.schema_offences.proofs.services.note_message.Goals as goal
 pub returns : goal.returns
 returns c =
     let F = c.args.scopes.now in
+    let file = c.args.file in
     let w = c.args.word.now in
-    let P = IsNoMessage (F ∷ []) (package_of F) w.name in
-    let Q = λ (i : ℕ). (full : List (List ℕ)) × Names (F ∷ []) (package_of F) w.name a_message full
-    × IsFirstAt F (Message i) full in
+    let P = IsNoMessage F file (package_at F file) w.name in
+    let Q = λ (i : ℕ). (full : List (List ℕ)) × Names F file (package_at F file) w.name a_message full
+    × IsFirstAt F file (Message i) full in
     meets_unless P Q c.message_of.result c.is_none-unknown.result UnknownName w.span c.args.first.now c.note_if.new.self
     c.is_none-unknown.ensures (of_both P Q c.message_of.result c.message_of.ensures.some (c.message_of.ensures.none
-    c.requires))
+    c.requires.ordered))
     (λ i e q p. p q.0 q.1) c.note_if.ensures

@@ -1,6 +1,5 @@
-use Rattle.std.proofs.Common.{[], ◌∷◌}
 use Rattle.mrpc_table.specs.declared.limits.TheConstants.{MAX_METHODS}
-use Rattle.schema_names.specs.Scopes.{package_of}
+use Rattle.proto_file.specs.Joined.{package_at}
 use Rattle.schema_offences.specs.Members.{MethodOffends}
 use Rattle.schema_offences.specs.declared.reason.ResolveReason.TheVariants.{Limit}
 use Rattle.schema_offences.proofs.Meetings.{meets_then, meets_as, meets_least}
@@ -10,8 +9,9 @@ use Rattle.schema_offences.proofs.services.note_method.Goals as goal
 pub returns : goal.returns
 returns c =
     let F = c.args.scopes.now in
+    let file = c.args.file in
     let r = c.args.rpc.now in
-    meets_as (MethodParts (F ∷ []) (package_of F) c.args.i r) (MethodOffends (F ∷ []) (package_of F) c.args.i r)
+    meets_as (MethodParts F file (package_at F file) c.args.i r) (MethodOffends F file (package_at F file) c.args.i r)
     c.args.first.now
     c.note_message-2.new.first
     (meets_then _ _ _ _ _
@@ -21,4 +21,4 @@ returns c =
     c.note_long.ensures)
     c.note_message.ensures)
     c.note_message-2.ensures)
-    (method_to (F ∷ []) (package_of F) c.args.i r) (method_from (F ∷ []) (package_of F) c.args.i r)
+    (method_to F file (package_at F file) c.args.i r) (method_from F file (package_at F file) c.args.i r)

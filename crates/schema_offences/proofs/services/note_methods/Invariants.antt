@@ -1,6 +1,6 @@
 use Rattle.std.proofs.Common.{◌≡◌, ◌+◌, ◌-◌, ◌^◌}
 use Rattle.std.specs.Prelude.{min}
-use Rattle.schema_offences.specs.Sources.{rpcs_of}
+use Rattle.schema_offences.specs.Methods.{rpcs_of}
 use Rattle.schema_offences.specs.Meeting.{Meets, OfFirst, OfElement, MethodIn}
 use Rattle.schema_offences.proofs.Serving.{methods_of}
 use Rattle.schema_offences.proofs.services.note_methods.Given as goal
@@ -8,15 +8,15 @@ use Rattle.schema_offences.proofs.services.note_methods.Given as goal
 -- what stands against the methods up to here was met, and how many these are
 abbrev pub invariant-loop-service : goal.invariant-loop-service
 invariant-loop-service l = record {
-  meets : Meets (OfFirst (methods_of l.fn.file.services l.service-index) (OfElement (rpcs_of l.fn.file)
-      (MethodIn l.fn.file)))
+  meets : Meets (OfFirst (methods_of l.fn.files.services l.service-index) (OfElement (rpcs_of l.fn.files)
+      (MethodIn l.fn.files)))
       l.fn.first l.first;
-  count : l.methods ≡ min (methods_of l.fn.file.services l.service-index) (2 ^ 64 - 1);
+  count : l.methods ≡ min (methods_of l.fn.files.services l.service-index) (2 ^ 64 - 1);
 }
 
 abbrev pub invariant-loop-rpc : goal.invariant-loop-rpc
 invariant-loop-rpc l = record {
-  meets : Meets (OfFirst (methods_of l.fn.file.services l.service-index + l.rpc-index)
-      (OfElement (rpcs_of l.fn.file) (MethodIn l.fn.file))) l.fn.first l.first;
-  count : l.methods ≡ min (methods_of l.fn.file.services l.service-index + l.rpc-index) (2 ^ 64 - 1);
+  meets : Meets (OfFirst (methods_of l.fn.files.services l.service-index + l.rpc-index)
+      (OfElement (rpcs_of l.fn.files) (MethodIn l.fn.files))) l.fn.first l.first;
+  count : l.methods ≡ min (methods_of l.fn.files.services l.service-index + l.rpc-index) (2 ^ 64 - 1);
 }

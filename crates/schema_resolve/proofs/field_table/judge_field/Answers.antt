@@ -1,11 +1,19 @@
-use Rattle.std.proofs.Common.{◌<◌, length}
+use Rattle.std.proofs.Common.{◌<◌, ℕ, List, length, subst, sym}
 use Rattle.std.proofs.lemmas.Option.{slice_get_within}
-use Rattle.schema_resolve.proofs.CleanFiles.{scope_at}
+use Rattle.mrpc_table.specs.declared.table.Label.{Label}
+use Rattle.schema_offences.specs.Types.{HasForm}
+use Rattle.schema_resolve.proofs.CleanFiles.{scope_at, message_file}
 use Rattle.schema_resolve.proofs.FieldTables.{has_form, has_number}
 use Rattle.schema_resolve.proofs.field_table.judge_field.Goals as goal
 
-pub form_of-requires : goal.form_of-requires
-form_of-requires c =
+pub form_of-requires-clause-file : goal.form_of-requires-clause-file
+form_of-requires-clause-file c =
+    let s = c.requires.stands in
+    let P : ℕ → Type 0 = λ k. k < length c.args.scopes.now.heads in
+    subst P s.of_file (message_file c.args.scopes.now c.args.place s.message c.requires.formed s.at)
+
+pub form_of-requires-clause-message : goal.form_of-requires-clause-message
+form_of-requires-clause-message c =
     slice_get_within c.args.scopes.now.messages c.args.place c.requires.stands.message c.requires.stands.at
 
 pub unreachable-requires : goal.unreachable-requires
@@ -23,5 +31,6 @@ unreachable-requires-in_default-form_of c =
     let s = c.requires.stands in
     let l : c.args.place < length F.messages = slice_get_within F.messages c.args.place s.message s.at in
     let scope = scope_at c.requires.formed c.args.place l in
+    let P : ℕ → Type 0 = λ k. (label : Label) (word : List ℕ) → HasForm F k scope.0 c.args.decl.now label word → ⊥ in
     has_form F c.args.place s.message scope.0 c.args.decl.now c.requires.clean s.at scope.1 s.field
-    (let e = c.in_default-form_of.ensures in e scope.0 scope.1)
+    (subst P (sym s.of_file) (let e = c.in_default-form_of.ensures in e scope.0 scope.1))

@@ -8,7 +8,7 @@ use Rattle.proto_file.specs.declared.file.MessageDecl.{MessageDecl}
 use Rattle.schema_resolve.specs.Judged.{IsJudged, AreJudged}
 use Rattle.schema_resolve.specs.Joining.{AreMade}
 use Rattle.schema_resolve.specs.declared.field_table.Judged.{Judged}
-use Rattle.proto_file.specs.declared.file.File.{File}
+use Rattle.proto_file.specs.Joined.{Joined}
 use Rattle.schema_resolve.specs.Resolving.{IsClean}
 use Rattle.schema_resolve.proofs.CleanFiles.{item_at, in_list}
 use Rattle.schema_resolve.proofs.MessageTables.{made_none, made_more, judged_plain, judged_known, judged_oneof, few_fields, message_at}
@@ -19,22 +19,22 @@ by_number-requires-clause-clean c = subst IsClean (sym c.requires.scopes) c.requ
 
 pub by_number-requires-clause-here : goal.by_number-requires-clause-here
 by_number-requires-clause-here c =
-    let m = c.index-as_slice-place.result in
-    let P : File → Type 0 = λ F. slice_get F.messages c.args.place ≡ Some m in
+    let m = c.index-messages-place.result in
+    let P : Joined → Type 0 = λ F. slice_get F.messages c.args.place ≡ Some m in
     subst P (sym c.requires.scopes)
-    (item_at c.as_slice.result.now c.args.file.now.messages c.args.place m c.as_slice.ensures c.requires.within
-    c.index-as_slice-place.is)
+    (item_at c.messages.result.now c.args.files.now.messages c.args.place m c.messages.ensures c.requires.within
+    c.index-messages-place.is)
 
 pub loop-i-init : goal.loop-i-init
 loop-i-init c = made_none _ _ _ _ c.in_ok-oneofs.ensures.keeps c.in_ok-oneofs.ensures.none c.in_ok-fields.ensures
 
 -- the field that the loop reads
-pub record Read (F : File) (place : ℕ) (m : MessageDecl) (js : List Judged) (i : ℕ) (j : Judged) : Type 0 where
+pub record Read (F : Joined) (place : ℕ) (m : MessageDecl) (js : List Judged) (i : ℕ) (j : Judged) : Type 0 where
   pub at : slice_get js i ≡ Some j
-  pub is : IsJudged F place j.decl.now j
+  pub is : IsJudged F m.file place j.decl.now j
   pub inside : Contains m.fields j.decl.now
 
-read : (F : File) (place : ℕ) (m : MessageDecl) (js : List Judged) (i : ℕ) (j : Judged) → AreJudged F place m js
+read : (F : Joined) (place : ℕ) (m : MessageDecl) (js : List Judged) (i : ℕ) (j : Judged) → AreJudged F place m js
     → i < length js → j ≡ get_or js i j → Read F place m js i j
 read F place m js i j all l e =
     let at : slice_get js i ≡ Some j = slice_get_read js (length js) i j refl l e in
@@ -43,12 +43,12 @@ read F place m js i j all l e =
 
 pub field_in-requires-clause-oneof : goal.field_in-requires-clause-oneof
 field_in-requires-clause-oneof c =
-    let F = c.args.file.now in
+    let F = c.args.files.now in
     let place = c.args.place in
-    let m = c.index-as_slice-place.result in
+    let m = c.index-messages-place.result in
     let js = c.in_ok-sorted.sorted.items in
-    let at = item_at c.as_slice.result.now F.messages place m c.as_slice.ensures c.requires.within c.index-as_slice-place.is in
-    let P : File → Type 0 = λ G. AreJudged G place m js in
+    let at = item_at c.messages.result.now F.messages place m c.messages.ensures c.requires.within c.index-messages-place.is in
+    let P : Joined → Type 0 = λ G. AreJudged G place m js in
     let all : AreJudged F place m js = subst P c.requires.scopes c.in_ok-sorted.ensures in
     let j = c.index.result.now in
     let same : vec_len c.in_ok-sorted.sorted ≡ length js = search rules in
@@ -59,12 +59,12 @@ field_in-requires-clause-oneof c =
 
 pub field_in-requires-clause-few : goal.field_in-requires-clause-few
 field_in-requires-clause-few c =
-    let F = c.args.file.now in
+    let F = c.args.files.now in
     let place = c.args.place in
-    let m = c.index-as_slice-place.result in
+    let m = c.index-messages-place.result in
     let js = c.in_ok-sorted.sorted.items in
-    let at = item_at c.as_slice.result.now F.messages place m c.as_slice.ensures c.requires.within c.index-as_slice-place.is in
-    let P : File → Type 0 = λ G. AreJudged G place m js in
+    let at = item_at c.messages.result.now F.messages place m c.messages.ensures c.requires.within c.index-messages-place.is in
+    let P : Joined → Type 0 = λ G. AreJudged G place m js in
     let all : AreJudged F place m js = subst P c.requires.scopes c.in_ok-sorted.ensures in
     let j = c.index.result.now in
     let same : vec_len c.in_ok-sorted.sorted ≡ length js = search rules in
@@ -74,27 +74,27 @@ field_in-requires-clause-few c =
 
 pub field_in-requires-clause-known : goal.field_in-requires-clause-known
 field_in-requires-clause-known c =
-    let F = c.args.file.now in
+    let F = c.args.files.now in
     let place = c.args.place in
-    let m = c.index-as_slice-place.result in
+    let m = c.index-messages-place.result in
     let js = c.in_ok-sorted.sorted.items in
-    let at = item_at c.as_slice.result.now F.messages place m c.as_slice.ensures c.requires.within c.index-as_slice-place.is in
-    let P : File → Type 0 = λ G. AreJudged G place m js in
+    let at = item_at c.messages.result.now F.messages place m c.messages.ensures c.requires.within c.index-messages-place.is in
+    let P : Joined → Type 0 = λ G. AreJudged G place m js in
     let all : AreJudged F place m js = subst P c.requires.scopes c.in_ok-sorted.ensures in
     let j = c.index.result.now in
     let same : vec_len c.in_ok-sorted.sorted ≡ length js = search rules in
     let l : c.loop-i.i < length js = omega (arith, c.len-i-end.ensures) in
     let r = read F place m js c.loop-i.i j all l c.index.ensures in
-    judged_known F c.args.plan.now place j c.requires.formed c.requires.plan c.requires.within r.is
+    judged_known F c.args.plan.now m.file place j c.requires.formed c.requires.plan c.requires.within r.is
 
 pub loop-i-preserved : goal.loop-i-preserved
 loop-i-preserved c =
-    let F = c.args.file.now in
+    let F = c.args.files.now in
     let place = c.args.place in
-    let m = c.index-as_slice-place.result in
+    let m = c.index-messages-place.result in
     let js = c.in_ok-sorted.sorted.items in
-    let at = item_at c.as_slice.result.now F.messages place m c.as_slice.ensures c.requires.within c.index-as_slice-place.is in
-    let P : File → Type 0 = λ G. AreJudged G place m js in
+    let at = item_at c.messages.result.now F.messages place m c.messages.ensures c.requires.within c.index-messages-place.is in
+    let P : Joined → Type 0 = λ G. AreJudged G place m js in
     let all : AreJudged F place m js = subst P c.requires.scopes c.in_ok-sorted.ensures in
     let j = c.index.result.now in
     let same : vec_len c.in_ok-sorted.sorted ≡ length js = search rules in
@@ -102,17 +102,17 @@ loop-i-preserved c =
     let r = read F place m js c.loop-i.i j all l c.index.ensures in
     made_more c.args.plan.now c.as_slice-words.result.now js c.loop-i.i j c.loop-i.oneofs c.field_in.new.oneofs
     c.in_ok-field.field c.loop-i.fields c.push.new.self r.at
-    (judged_plain F place j c.requires.formed c.requires.within r.is) c.in_ok-field.ensures c.in_ok-push.ensures.ok
+    (judged_plain F m.file place j c.requires.formed c.requires.within r.is) c.in_ok-field.ensures c.in_ok-push.ensures.ok
     c.loop-i.invariant.0 c.loop-i.invariant.1
 
 pub returns : goal.returns
 returns c =
-    let F = c.args.file.now in
+    let F = c.args.files.now in
     let place = c.args.place in
-    let m = c.index-as_slice-place.result in
+    let m = c.index-messages-place.result in
     let js = c.in_ok-sorted.sorted.items in
-    let at = item_at c.as_slice.result.now F.messages place m c.as_slice.ensures c.requires.within c.index-as_slice-place.is in
-    let P : File → Type 0 = λ G. AreJudged G place m js in
+    let at = item_at c.messages.result.now F.messages place m c.messages.ensures c.requires.within c.index-messages-place.is in
+    let P : Joined → Type 0 = λ G. AreJudged G place m js in
     let all : AreJudged F place m js = subst P c.requires.scopes c.in_ok-sorted.ensures in
     let same : vec_len c.in_ok-sorted.sorted ≡ length js = search rules in
     let end : length js ≤ c.loop-i.i = omega (arith, c.len-i-end.ensures) in

@@ -17,7 +17,7 @@ returns c = λ T has.
     let places = c.args.plan.now.messages.places.items in
     let l : i < length places =
     place_within c.args.scopes.now c.args.plan.now i c.requires.plan (message_standing c.in-Some.ensures.some.2.stands).1 in
-    place_named c.args.scopes.now c.args.plan.now c.args.word.now.name i c.index.result.now c.in-Some.ensures.some.0
+    place_named c.args.scopes.now c.args.file c.args.plan.now c.args.word.now.name i c.index.result.now c.in-Some.ensures.some.0
     c.requires.plan c.in-Some.ensures.some.1 c.in-Some.ensures.some.2
     (slice_get_read places (length places) i c.index.result.now refl l c.index.ensures) T has
 

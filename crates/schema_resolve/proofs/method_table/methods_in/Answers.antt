@@ -1,7 +1,7 @@
 use Rattle.std.proofs.Common.{◌<◌, sym, ap, subst, length, arith, ◌++◌}
-use Rattle.proto_file.specs.Order.{IsOrdered}
-use Rattle.proto_file.specs.declared.file.File.{File}
-use Rattle.schema_offences.specs.Sources.{service_rpcs}
+use Rattle.proto_file.specs.Together.{IsOrdered}
+use Rattle.proto_file.specs.Joined.{Joined}
+use Rattle.schema_offences.specs.Methods.{service_rpcs}
 use Rattle.schema_resolve.specs.Resolving.{IsClean}
 use Rattle.schema_resolve.specs.InOrder.{AreMethods}
 use Rattle.schema_resolve.proofs.CleanFiles.{item_at}
@@ -19,11 +19,11 @@ add_methods-requires-clause-ordered c = subst IsOrdered (sym c.requires.scopes) 
 
 pub loop-i-preserved : goal.loop-i-preserved
 loop-i-preserved c =
-    let l : c.loop-i.i < length c.args.file.now.services = omega (arith, ap length c.as_slice-services.ensures) in
-    let at = item_at c.as_slice-services.result.now c.args.file.now.services c.loop-i.i c.index-services-i.result c.as_slice-services.ensures l c.index-services-i.is in
-    next_service c.args.file.now c.args.plan.now c.loop-i.i c.index-services-i.result c.loop-i.methods _ at
+    let l : c.loop-i.i < length c.args.files.now.services = omega (arith, ap length c.services-services.ensures) in
+    let at = item_at c.services-services.result.now c.args.files.now.services c.loop-i.i c.index-services-i.result c.services-services.ensures l c.index-services-i.is in
+    next_service c.args.files.now c.args.plan.now c.loop-i.i c.index-services-i.result c.loop-i.methods _ at
     (λ done h.
-    let P : File → Type 0 = λ F. AreMethods F c.args.plan.now done c.loop-i.methods in
-    let Q : File → Type 0 = λ F. AreMethods F c.args.plan.now (done ++ service_rpcs c.index-services-i.result) c.add_methods.new.methods in
+    let P : Joined → Type 0 = λ F. AreMethods F c.args.plan.now done c.loop-i.methods in
+    let Q : Joined → Type 0 = λ F. AreMethods F c.args.plan.now (done ++ service_rpcs c.index-services-i.result) c.add_methods.new.methods in
     subst Q c.requires.scopes (c.in_ok-add_methods.ensures done (subst P (sym c.requires.scopes) h)))
     c.loop-i.invariant

@@ -3,4 +3,4 @@ use Rattle.schema_resolve.specs.Placing.{AreEnumNames}
 use Rattle.schema_resolve.proofs.plan.enum_names.Given as goal
 
 abbrev pub invariant-loop-i : goal.invariant-loop-i
-invariant-loop-i l = (length l.enums.items ≡ l.i) × AreEnumNames l.file l.enums.items
+invariant-loop-i l = (length l.enums.items ≡ l.i) × AreEnumNames l.files l.enums.items

@@ -4,5 +4,5 @@ use Rattle.schema_resolve.proofs.plan.front_name.Goals as goal
 
 pub returns-in-Some : goal.returns-in-Some
 returns-in-Some c =
-    IfOk-weaker c.copied.result _ _ (λ name is. a_package c.args.file.now c.in-Some.package name c.in-Some.is is)
+    IfOk-weaker c.copied.result _ _ (λ name is. a_package c.args.head.now.package c.in-Some.package name c.in-Some.is is)
     c.copied.ensures

@@ -1,19 +1,72 @@
-use Rattle.std.proofs.lemmas.Result.{IfOk-weaker}
-use Rattle.schema_resolve.proofs.Answering.{only_this}
+use Rattle.std.proofs.Common.{◌≡◌, ◌∙◌, sym, subst}
+use Rattle.proto_file.specs.Joined.{Joined, alone}
+use Rattle.proto_file.specs.Together.{IsFormed, IsOrdered}
+use Rattle.schema_offences.specs.Offences.{offends}
+use Rattle.schema_resolve.specs.Tables.{IsTableOf}
+use Rattle.schema_resolve.specs.Resolving.{IsClean}
+use Rattle.schema_resolve.proofs.Answering.{stands_behind, is_alone}
 use Rattle.schema_resolve.proofs.resolver.resolve.Goals as goal
 
-pub resolved-requires : goal.resolved-requires
-resolved-requires c = record {
-  formed = c.file_is_ordered.ensures.formed c.requires.read.0 c.args.file.now c.requires.read.1;
-  ordered = c.file_is_ordered.ensures.ordered c.requires.read.0 c.args.file.now c.requires.read.1;
-}
+pub new-requires : goal.new-requires
+new-requires c =
+    let F = c.args.file.now in
+    let same : c.new-files.result ≡ alone F =
+    is_alone F c.new-files.result _ _ _ _ c.new-files.ensures (c.as_slice.ensures ∙ c.in_ok-heads.ensures)
+    c.as_slice-2.ensures c.as_slice-3.ensures c.as_slice-4.ensures in
+    stands_behind c.new-files.result
+    (subst IsFormed (sym same) (c.alone_is_ordered.ensures.formed c.requires.read.0 F c.requires.read.1))
 
-pub returns : goal.returns
-returns c = record {
-  resolves = c.resolved.ensures.resolves;
-  valid = IfOk-weaker c.resolved.result _ _ (λ t r. r.table.valid) c.resolved.ensures.resolves;
-  only = only_this c.args.file.now c.resolved.result
-      (λ t u a b. c.one_table.ensures c.requires.read.0 c.args.file.now t u c.requires.read.1 a.table b.table)
-      c.resolved.ensures.resolves c.resolved.ensures.offence;
-  offence = c.resolved.ensures.offence;
-}
+pub first_offence-requires-clause-formed : goal.first_offence-requires-clause-formed
+first_offence-requires-clause-formed c =
+    let F = c.args.file.now in
+    let same : c.new-files.result ≡ alone F =
+    is_alone F c.new-files.result _ _ _ _ c.new-files.ensures (c.as_slice.ensures ∙ c.in_ok-heads.ensures)
+    c.as_slice-2.ensures c.as_slice-3.ensures c.as_slice-4.ensures in
+    subst IsFormed (sym same) (c.alone_is_ordered.ensures.formed c.requires.read.0 F c.requires.read.1)
+
+pub first_offence-requires-clause-ordered : goal.first_offence-requires-clause-ordered
+first_offence-requires-clause-ordered c =
+    let F = c.args.file.now in
+    let same : c.new-files.result ≡ alone F =
+    is_alone F c.new-files.result _ _ _ _ c.new-files.ensures (c.as_slice.ensures ∙ c.in_ok-heads.ensures)
+    c.as_slice-2.ensures c.as_slice-3.ensures c.as_slice-4.ensures in
+    subst IsOrdered (sym same) (c.alone_is_ordered.ensures.ordered c.requires.read.0 F c.requires.read.1)
+
+pub table_of-requires-clause-formed : goal.table_of-requires-clause-formed
+table_of-requires-clause-formed c =
+    let F = c.args.file.now in
+    let same : c.new-files.result ≡ alone F =
+    is_alone F c.new-files.result _ _ _ _ c.new-files.ensures (c.as_slice.ensures ∙ c.in_ok-heads.ensures)
+    c.as_slice-2.ensures c.as_slice-3.ensures c.as_slice-4.ensures in
+    subst IsFormed (sym same) (c.alone_is_ordered.ensures.formed c.requires.read.0 F c.requires.read.1)
+
+pub table_of-requires-clause-ordered : goal.table_of-requires-clause-ordered
+table_of-requires-clause-ordered c =
+    let F = c.args.file.now in
+    let same : c.new-files.result ≡ alone F =
+    is_alone F c.new-files.result _ _ _ _ c.new-files.ensures (c.as_slice.ensures ∙ c.in_ok-heads.ensures)
+    c.as_slice-2.ensures c.as_slice-3.ensures c.as_slice-4.ensures in
+    subst IsOrdered (sym same) (c.alone_is_ordered.ensures.ordered c.requires.read.0 F c.requires.read.1)
+
+pub table_of-requires-clause-clean : goal.table_of-requires-clause-clean
+table_of-requires-clause-clean c =
+    let F = c.args.file.now in
+    let same : c.new-files.result ≡ alone F =
+    is_alone F c.new-files.result _ _ _ _ c.new-files.ensures (c.as_slice.ensures ∙ c.in_ok-heads.ensures)
+    c.as_slice-2.ensures c.as_slice-3.ensures c.as_slice-4.ensures in
+    subst IsClean (sym same) (λ q s o. c.in-None.ensures q s (offends o))
+
+pub returns-in-Some-clause-only : goal.returns-in-Some-clause-only
+returns-in-Some-clause-only c = λ t r.
+    absurd (r.clean c.in-Some.offence.reason c.in-Some.offence.span c.in-Some.ensures.offence)
+
+pub returns-clause-only : goal.returns-clause-only
+returns-clause-only c = λ t r.
+    let F = c.args.file.now in
+    let same : c.new-files.result ≡ alone F =
+    is_alone F c.new-files.result _ _ _ _ c.new-files.ensures (c.as_slice.ensures ∙ c.in_ok-heads.ensures)
+    c.as_slice-2.ensures c.as_slice-3.ensures c.as_slice-4.ensures in
+    let u = c.in_ok-table_of-in-None.field-0 in
+    let P : Joined → Type 0 = λ J. IsTableOf J u in
+    c.one_table.ensures (alone F) u t (c.alone_is_ordered.ensures.ordered c.requires.read.0 F c.requires.read.1)
+    (subst P same c.in_ok-table_of-in-None.ensures) r.table

@@ -4,4 +4,4 @@ use Rattle.schema_resolve.specs.InOrder.{IsEnumAt}
 use Rattle.schema_resolve.proofs.table.enums_in.Given as goal
 
 abbrev pub invariant-loop-i : goal.invariant-loop-i
-invariant-loop-i l = AreThoseInOrder (IsEnumAt l.file l.plan) (take l.i l.order) l.enums
+invariant-loop-i l = AreThoseInOrder (IsEnumAt l.files l.plan) (take l.i l.order) l.enums

@@ -7,6 +7,6 @@ pub returns : goal.returns
 returns c =
     IfOk-weaker c.made_table.result _ _
     (λ t made.
-    made_is_table c.args.file.now t c.requires.formed c.requires.ordered c.requires.clean made
-    (text_short c.args.file.now t c.requires.ordered c.requires.clean made))
+    made_is_table c.args.files.now t c.requires.formed c.requires.ordered c.requires.clean made
+    (text_short c.args.files.now t c.requires.ordered c.requires.clean made))
     c.made_table.ensures

@@ -1,62 +1,67 @@
-use Rattle.std.proofs.Common.{◌≡◌, ℕ, List, Option, Some, None, get_or, sym, ◌∙◌, ap, subst, ◌<◌, refl}
+use Rattle.std.proofs.Common.{◌≡◌, ◌+◌, ◌<◌, [], ◌∷◌, ◌++◌, Some, true, false, length, refl, sym, ◌∙◌, ap, subst}
 use Rattle.std.specs.Prelude.{slice_get}
-use Rattle.std.proofs.lemmas.Option.{slice_get-get_or}
-use Rattle.proto_file.specs.declared.file.MessageDecl.{MessageDecl}
-use Rattle.schema_names.specs.Numbers.{IsPlace}
-use Rattle.schema_names.specs.Finding.{number_at, Reaches, rank_of}
-use Rattle.schema_names.proofs.Looking.{kept, decided, undecided, stays_open, some_is, none_is, parent_place, parent_below, reaches_out}
+use Rattle.proto_file.specs.Joined.{Joined}
+use Rattle.proto_file.specs.declared.joined.Home.{Home}
+use Rattle.proto_file.specs.declared.joined.Home.TheVariants as home
+use Rattle.schema_names.specs.Scopes.{IsScope, IsThere, here}
+use Rattle.schema_names.specs.Numbers.{IsPlace, IsNumber}
+use Rattle.schema_names.specs.Deepest.{Reaches, rank_of}
+use Rattle.schema_names.proofs.ScopeLemmas.{item_at, message_place}
+use Rattle.schema_names.proofs.FindLemmas.{kept, home_below, reaches_out, reaches_start, file_decides}
 use Rattle.schema_names.proofs.scopes.Scopes.deciding.Goals as goal
 
-pub returns-then-is_some : goal.returns-then-is_some
-returns-then-is_some c scope h =
-    let k = kept c.self.inside c.self.view_is c.self.invariant in
-    let inv = c.loop-place.invariant in
-    let place : IsPlace c.args.self.now (Some c.in-Some.i) = subst (IsPlace c.args.self.now) c.in-Some.is inv.0 in
-    let r : Reaches c.args.self.now c.args.name.now scope (Some c.in-Some.i) = subst (Reaches c.args.self.now c.args.name.now scope) c.in-Some.is (inv.1 scope h) in
-    let e : c.number_in-scope.result ≡ number_at c.self.inside.numbers.items (Some c.in-Some.i) =
-    c.number_in-scope.ensures ∙ ap (λ (ns : List ℕ). number_at ns (Some c.in-Some.i)) c.deref.ensures.value in
-    let s = some_is c.get.result c.if-is_some.ensures in
-    decided k place r c.number_in-scope.result e s.0 (sym c.get.ensures ∙ s.1)
+pub outward-init : goal.outward-init
+outward-init c = (c.requires.home, λ s h. reaches_start h)
 
-pub loop-place-smaller : goal.loop-place-smaller
-loop-place-smaller c =
-    let k = kept c.self.inside c.self.view_is c.self.invariant in
-    let place : IsPlace c.args.self.now (Some c.in-Some.i) = subst (IsPlace c.args.self.now) c.in-Some.is c.loop-place.invariant.0 in
-    let ms : c.as_slice.result.now ≡ c.args.self.now.messages = c.as_slice.ensures ∙ ap (λ F. F.messages) c.self.view_is in
-    let at : slice_get c.args.self.now.messages c.in-Some.i ≡ Some (get_or c.as_slice.result.now c.in-Some.i c.index-as_slice-i.result) =
-    slice_get-get_or c.args.self.now.messages c.in-Some.i c.index-as_slice-i.result place ∙ ap (λ (xs : List MessageDecl). Some (get_or xs c.in-Some.i c.index-as_slice-i.result)) (sym ms) in
-    let less = parent_below c.in-Some.i (get_or c.as_slice.result.now c.in-Some.i c.index-as_slice-i.result) k.behind at (get_or c.as_slice.result.now c.in-Some.i c.index-as_slice-i.result).parent refl in
-    subst (λ (p : Option ℕ). rank_of (get_or c.as_slice.result.now c.in-Some.i c.index-as_slice-i.result).parent < rank_of p) (sym c.in-Some.is) less
+pub deciding_front-requires-clause-its_file : goal.deciding_front-requires-clause-its_file
+deciding_front-requires-clause-its_file c = subst (IsPlace c.args.self.now) c.in-File.is c.outward.invariant.0
 
-pub loop-place-preserved : goal.loop-place-preserved
-loop-place-preserved c =
+pub returns-in-File : goal.returns-in-File
+returns-in-File c scope h =
+    let r : Reaches c.args.self.now c.args.file c.args.name.now scope (home.File c.in-File.its_file) =
+    subst (Reaches c.args.self.now c.args.file c.args.name.now scope) c.in-File.is (c.outward.invariant.1 scope h) in
+    file_decides c.deciding_front.result r c.deciding_front.ensures
+
+pub number-scope-requires : goal.number-scope-requires
+number-scope-requires c =
+    let l : IsPlace c.args.self.now (home.Message c.in-Message.i) = subst (IsPlace c.args.self.now) c.in-Message.is c.outward.invariant.0 in
+    subst (λ (F : Joined). IsPlace F (home.Message c.in-Message.i)) (sym c.self.view_is) l
+
+pub returns-then-is_there : goal.returns-then-is_there
+returns-then-is_there c scope h =
+    let r : Reaches c.args.self.now c.args.file c.args.name.now scope (home.Message c.in-Message.i) =
+    subst (Reaches c.args.self.now c.args.file c.args.name.now scope) c.in-Message.is (c.outward.invariant.1 scope h) in
+    let number : IsNumber c.args.self.now r.reached c.number-scope.result =
+    subst (λ (F : Joined). IsNumber F r.reached c.number-scope.result) c.self.view_is
+    (c.number-scope.ensures.number r.reached (subst (λ (F : Joined). IsScope F (home.Message c.in-Message.i) r.reached) (sym c.self.view_is) r.stands)) in
+    let there : IsThere c.args.self.now c.args.file (r.reached ++ c.args.name.now ∷ []) = (c.if-is_there.ensures r.reached number).0 refl in
+    (r.reached, number, r.outward r.reached (here there))
+
+pub outward-smaller : goal.outward-smaller
+outward-smaller c =
     let k = kept c.self.inside c.self.view_is c.self.invariant in
-    let inv = c.loop-place.invariant in
-    let place : IsPlace c.args.self.now (Some c.in-Some.i) = subst (IsPlace c.args.self.now) c.in-Some.is inv.0 in
-    let ms : c.as_slice.result.now ≡ c.args.self.now.messages = c.as_slice.ensures ∙ ap (λ F. F.messages) c.self.view_is in
-    let at : slice_get c.args.self.now.messages c.in-Some.i ≡ Some (get_or c.as_slice.result.now c.in-Some.i c.index-as_slice-i.result) =
-    slice_get-get_or c.args.self.now.messages c.in-Some.i c.index-as_slice-i.result place ∙ ap (λ (xs : List MessageDecl). Some (get_or xs c.in-Some.i c.index-as_slice-i.result)) (sym ms) in
-    let e : c.number_in-scope.result ≡ number_at c.self.inside.numbers.items (Some c.in-Some.i) =
-    c.number_in-scope.ensures ∙ ap (λ (ns : List ℕ). number_at ns (Some c.in-Some.i)) c.deref.ensures.value in
-    let missing = sym c.get.ensures ∙ none_is c.get.result c.if-is_some.ensures in (
-      parent_place c.in-Some.i (get_or c.as_slice.result.now c.in-Some.i c.index-as_slice-i.result) k.behind at (get_or c.as_slice.result.now c.in-Some.i c.index-as_slice-i.result).parent refl,
+    let l : c.in-Message.i < length c.args.self.now.messages = subst (IsPlace c.args.self.now) c.in-Message.is c.outward.invariant.0 in
+    let at : slice_get c.args.self.now.messages c.in-Message.i ≡ Some c.index-messages-i.result =
+    item_at c.messages.result.now c.args.self.now.messages c.in-Message.i c.index-messages-i.result (c.messages.ensures ∙ ap (λ (F : Joined). F.messages) c.self.view_is) l c.index-messages-i.is in
+    let less : rank_of c.home-place.result < c.in-Message.i + 1 =
+    subst (λ (p : Home). rank_of p < c.in-Message.i + 1) (sym c.home-place.ensures) (home_below k.behind c.in-Message.i c.index-messages-i.result at) in
+    subst (λ (p : Home). rank_of c.home-place.result < rank_of p) (sym c.in-Message.is) less
+
+pub outward-preserved : goal.outward-preserved
+outward-preserved c =
+    let k = kept c.self.inside c.self.view_is c.self.invariant in
+    let l : c.in-Message.i < length c.args.self.now.messages = subst (IsPlace c.args.self.now) c.in-Message.is c.outward.invariant.0 in
+    let at : slice_get c.args.self.now.messages c.in-Message.i ≡ Some c.index-messages-i.result =
+    item_at c.messages.result.now c.args.self.now.messages c.in-Message.i c.index-messages-i.result (c.messages.ensures ∙ ap (λ (F : Joined). F.messages) c.self.view_is) l c.index-messages-i.is in (
+      subst (IsPlace c.args.self.now) (sym c.home-place.ensures) (message_place k.behind c.in-Message.i c.index-messages-i.result at),
       λ s h.
-          let r : Reaches c.args.self.now c.args.name.now s (Some c.in-Some.i) = subst (Reaches c.args.self.now c.args.name.now s) c.in-Some.is (inv.1 s h) in
-          reaches_out r (undecided k place r c.number_in-scope.result e missing) at,
+          let r : Reaches c.args.self.now c.args.file c.args.name.now s (home.Message c.in-Message.i) =
+          subst (Reaches c.args.self.now c.args.file c.args.name.now s) c.in-Message.is (c.outward.invariant.1 s h) in
+          let number : IsNumber c.args.self.now r.reached c.number-scope.result =
+          subst (λ (F : Joined). IsNumber F r.reached c.number-scope.result) c.self.view_is
+          (c.number-scope.ensures.number r.reached (subst (λ (F : Joined). IsScope F (home.Message c.in-Message.i) r.reached) (sym c.self.view_is) r.stands)) in
+          let not : IsThere c.args.self.now c.args.file (r.reached ++ c.args.name.now ∷ []) → ⊥ = λ t.
+          let z : false ≡ true = (c.if-is_there.ensures r.reached number).1 t in
+          cc in
+          subst (Reaches c.args.self.now c.args.file c.args.name.now s) (sym c.home-place.ensures) (reaches_out r not at),
     )
-
-pub returns-then-is_some-2 : goal.returns-then-is_some-2
-returns-then-is_some-2 c scope h =
-    let k = kept c.self.inside c.self.view_is c.self.invariant in
-    let inv = c.loop-place.invariant in
-    let s = some_is c.get-2.result c.if-is_some-2.ensures in
-    decided k inv.0 (inv.1 scope h) 0 (ap (number_at c.self.inside.numbers.items) (sym c.in_default.is)) s.0 (sym c.get-2.ensures ∙ s.1)
-
-pub returns-else-is_some-2 : goal.returns-else-is_some-2
-returns-else-is_some-2 c scope h =
-    let k = kept c.self.inside c.self.view_is c.self.invariant in
-    let inv = c.loop-place.invariant in
-    let missing = sym c.get-2.ensures ∙ none_is c.get-2.result c.if-is_some-2.ensures in
-    let r : Reaches c.args.self.now c.args.name.now scope None = subst (Reaches c.args.self.now c.args.name.now scope) c.in_default.is (inv.1 scope h) in
-    let place : IsPlace c.args.self.now None = tt in
-    stays_open r (undecided k place r 0 refl missing)

@@ -6,7 +6,7 @@ use Rattle.schema_names.proofs.scopes.Scopes.find_in.Given as goal
 abbrev pub invariant-loop-part : goal.invariant-loop-part
 invariant-loop-part l =
     (s : List (List ℕ)) → IsNumber l.self s l.fn.start
-    → (t : List (List ℕ)) × IsNumber l.self t l.number × (t ++ parts_of l.rest ≡ s ++ parts_of l.fn.name)
+    → (t : List (List ℕ)) × IsNumber l.self t l.scope × (t ++ parts_of l.rest ≡ s ++ parts_of l.fn.name)
 
 abbrev pub decreases-loop-part : goal.decreases-loop-part
 decreases-loop-part l = length l.rest

@@ -1,3 +1,6 @@
+use Rattle.std.proofs.Common.{ℕ}
+use Rattle.proto_file.specs.declared.file.EnumDecl.{EnumDecl}
+use Rattle.proto_file.specs.Joined.{enum_home_of}
 use Rattle.schema_offences.specs.Meeting.{Meets, OfFirst, OfElement}
 use Rattle.schema_offences.specs.Lengths.{IsLongName}
 use Rattle.schema_offences.proofs.lines.Lengths.note_enums.Given as goal
@@ -5,5 +8,5 @@ use Rattle.schema_offences.proofs.lines.Lengths.note_enums.Given as goal
 -- the long names up to here were met
 abbrev pub invariant-loop-i : goal.invariant-loop-i
 invariant-loop-i l =
-    Meets (OfFirst l.i (OfElement l.fn.file.enums (λ i e. IsLongName l.fn.self e.parent e.name)))
-    l.initial.first l.first
+    Meets (OfFirst l.i (OfElement l.fn.files.enums
+    (λ (i : ℕ) (e : EnumDecl). IsLongName l.fn.self (enum_home_of e) e.name))) l.initial.first l.first

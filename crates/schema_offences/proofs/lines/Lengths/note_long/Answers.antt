@@ -1,5 +1,6 @@
 use Rattle.std.proofs.Common.{◌⊎◌}
-use Rattle.std.specs.Prelude.{None}
+use Rattle.proto_file.specs.Joined.{home_of, enum_home_of}
+use Rattle.proto_file.specs.declared.joined.Home.TheVariants as home
 use Rattle.schema_offences.specs.Meeting.{AtSome, OfElement, LongIn}
 use Rattle.schema_offences.specs.Lengths.{IsLongName}
 use Rattle.schema_offences.proofs.Meetings.{meets_then, meets_as}
@@ -8,12 +9,12 @@ use Rattle.schema_offences.proofs.lines.Lengths.note_long.Goals as goal
 
 pub returns : goal.returns
 returns c =
-    let F = c.args.file.now in
+    let F = c.args.files.now in
     let kept = c.args.self.now in
     let exists = c.one_scope.ensures.exists in
-    let ms = AtSome (OfElement F.messages (λ i m. IsLongName kept m.parent m.name)) in
-    let es = AtSome (OfElement F.enums (λ i e. IsLongName kept e.parent e.name)) in
-    let xs = AtSome (OfElement F.services (λ i x. IsLongName kept None x.name)) in
+    let ms = AtSome (OfElement F.messages (λ i m. IsLongName kept (home_of m) m.name)) in
+    let es = AtSome (OfElement F.enums (λ i e. IsLongName kept (enum_home_of e) e.name)) in
+    let xs = AtSome (OfElement F.services (λ i x. IsLongName kept (home.File x.file) x.name)) in
     let a = c.args.first.now in
     let b = c.note_messages.new.first in
     let d = c.note_enums.new.first in

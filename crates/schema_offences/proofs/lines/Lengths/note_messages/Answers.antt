@@ -1,35 +1,40 @@
-use Rattle.std.proofs.Common.{◌≡◌, ◌<◌, ℕ, length, ap, arith, subst, sym}
+use Rattle.std.proofs.Common.{◌≡◌, ◌<◌, ℕ, length, ap, arith, sym, subst}
 use Rattle.std.specs.Prelude.{Some, slice_get}
 use Rattle.proto_file.specs.declared.file.MessageDecl.{MessageDecl}
-use Rattle.schema_offences.specs.Lengths.{IsLongName}
+use Rattle.proto_file.specs.Joined.{home_of}
+use Rattle.proto_file.specs.declared.joined.Home.{Home}
+use Rattle.schema_offences.specs.Meeting.{Meets}
+use Rattle.schema_offences.specs.Lengths.{IsLongName, IsKeptHome}
 use Rattle.schema_offences.proofs.Meetings.{meets_next, meets_elements, item_at}
-use Rattle.proto_file.specs.Order.{IsPlaceBelow}
-use Rattle.schema_offences.proofs.FullLengths.{message_below}
+use Rattle.schema_offences.proofs.FullLengths.{message_home_kept}
 use Rattle.schema_offences.proofs.lines.Lengths.note_messages.Goals as goal
 
 pub loop-i-preserved : goal.loop-i-preserved
 loop-i-preserved c =
-    let xs = c.args.file.now.messages in
-    let l : c.loop-i.i < length xs = omega (arith, ap length c.as_slice-all.ensures, c.loop-i-test.true) in
+    let xs = c.args.files.now.messages in
+    let l : c.loop-i.i < length xs = omega (arith, ap length c.messages-all.ensures, c.loop-i-test.true) in
     let at : slice_get xs c.loop-i.i ≡ Some c.index-all-i.result =
-    item_at c.as_slice-all.result.now xs c.loop-i.i c.index-all-i.result c.as_slice-all.ensures l c.index-all-i.is in
-    meets_next xs (λ (i : ℕ) (m : MessageDecl). IsLongName c.args.self.now m.parent m.name)
-    c.loop-i.i c.index-all-i.result c.args.first.now c.loop-i.first
-    c.note_full.new.first at c.loop-i.invariant c.note_full.ensures
+    item_at c.messages-all.result.now xs c.loop-i.i c.index-all-i.result c.messages-all.ensures l c.index-all-i.is in
+    meets_next xs (λ (i : ℕ) (m : MessageDecl). IsLongName c.args.self.now (home_of m) m.name) c.loop-i.i
+    c.index-all-i.result c.args.first.now c.loop-i.first c.note_full.new.first at c.loop-i.invariant
+    (subst (λ (h : Home). Meets (IsLongName c.args.self.now h c.index-all-i.result.name) c.loop-i.first
+    c.note_full.new.first) c.home.ensures c.note_full.ensures)
 
 pub returns : goal.returns
 returns c =
-    let xs = c.args.file.now.messages in
+    let xs = c.args.files.now.messages in
     let e : c.loop-i.i ≡ length xs =
-    omega (arith, ap length c.as_slice-all.ensures, c.loop-i-test.false, c.loop-i.auto.i-end) in
-    meets_elements xs (λ (i : ℕ) (m : MessageDecl). IsLongName c.args.self.now m.parent m.name) c.loop-i.i
+    omega (arith, ap length c.messages-all.ensures, c.loop-i-test.false, c.loop-i.auto.i-end) in
+    meets_elements xs (λ (i : ℕ) (m : MessageDecl). IsLongName c.args.self.now (home_of m) m.name) c.loop-i.i
     c.args.first.now c.loop-i.first e c.loop-i.invariant
 
 pub note_full-requires : goal.note_full-requires
 note_full-requires c =
-    let xs = c.args.file.now.messages in
-    let l : c.loop-i.i < length xs = omega (arith, ap length c.as_slice-all.ensures, c.loop-i-test.true) in
-    let at : slice_get xs c.loop-i.i ≡ Some c.index-all-i.result =
-    item_at c.as_slice-all.result.now xs c.loop-i.i c.index-all-i.result c.as_slice-all.ensures l c.index-all-i.is in
-    subst (λ (n : ℕ). IsPlaceBelow n c.index-all-i.result.parent) (sym c.requires.lengths.all_messages)
-    (message_below c.args.file.now c.requires.formed c.loop-i.i c.index-all-i.result at)
+    let F = c.args.files.now in
+    let x = c.index-all-i.result in
+    let l : c.loop-i.i < length F.messages = omega (arith, ap length c.messages-all.ensures, c.loop-i-test.true) in
+    let at : slice_get F.messages c.loop-i.i ≡ Some x =
+    item_at c.messages-all.result.now F.messages c.loop-i.i x c.messages-all.ensures l c.index-all-i.is in
+    subst (IsKeptHome c.args.self.now) (sym c.home.ensures)
+    (message_home_kept F (length F.messages) (length F.enums) c.args.self.now c.requires.lengths c.requires.formed
+    c.loop-i.i x at (omega arith))

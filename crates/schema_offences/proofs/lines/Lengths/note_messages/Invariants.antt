@@ -1,3 +1,6 @@
+use Rattle.std.proofs.Common.{ℕ}
+use Rattle.proto_file.specs.declared.file.MessageDecl.{MessageDecl}
+use Rattle.proto_file.specs.Joined.{home_of}
 use Rattle.schema_offences.specs.Meeting.{Meets, OfFirst, OfElement}
 use Rattle.schema_offences.specs.Lengths.{IsLongName}
 use Rattle.schema_offences.proofs.lines.Lengths.note_messages.Given as goal
@@ -5,5 +8,5 @@ use Rattle.schema_offences.proofs.lines.Lengths.note_messages.Given as goal
 -- the long names up to here were met
 abbrev pub invariant-loop-i : goal.invariant-loop-i
 invariant-loop-i l =
-    Meets (OfFirst l.i (OfElement l.fn.file.messages (λ i m. IsLongName l.fn.self m.parent m.name)))
-    l.initial.first l.first
+    Meets (OfFirst l.i (OfElement l.fn.files.messages
+    (λ (i : ℕ) (m : MessageDecl). IsLongName l.fn.self (home_of m) m.name))) l.initial.first l.first

@@ -1,4 +1,6 @@
-use Rattle.std.specs.Prelude.{None}
+use Rattle.std.proofs.Common.{ℕ}
+use Rattle.proto_file.specs.declared.file.ServiceDecl.{ServiceDecl}
+use Rattle.proto_file.specs.declared.joined.Home.TheVariants as home
 use Rattle.schema_offences.specs.Meeting.{Meets, OfFirst, OfElement}
 use Rattle.schema_offences.specs.Lengths.{IsLongName}
 use Rattle.schema_offences.proofs.lines.Lengths.note_services.Given as goal
@@ -6,4 +8,5 @@ use Rattle.schema_offences.proofs.lines.Lengths.note_services.Given as goal
 -- the long names up to here were met
 abbrev pub invariant-loop-i : goal.invariant-loop-i
 invariant-loop-i l =
-    Meets (OfFirst l.i (OfElement l.fn.file.services (λ i x. IsLongName l.fn.self None x.name))) l.initial.first l.first
+    Meets (OfFirst l.i (OfElement l.fn.files.services
+    (λ (i : ℕ) (x : ServiceDecl). IsLongName l.fn.self (home.File x.file) x.name))) l.initial.first l.first

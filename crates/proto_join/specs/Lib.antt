@@ -1,0 +1,5 @@
+pub mod Joining
+pub mod Placing
+pub mod Shifted
+pub mod Sound
+pub mod Texts

@@ -1,0 +1,130 @@
+//! The parts of declarations, behind other texts.
+
+ghost use Rattle.std.specs.Prelude.{◌≡◌, ℕ, ◌+◌, ◌-◌, ◌<◌, ◌^◌, All, map};
+ghost use Rattle.proto_join.specs.Shifted.{shift_span, shift_word, shift_number, shift_range, shift_type, shift_field, shift_value, shift_rpc};
+ghost use Rattle.proto_file.specs.Within.{IsSpanWithin, IsWordWithin, IsNumberWithin, IsRangeWithin, IsTypeWithin, IsFieldWithin, IsValueWithin, IsRpcWithin};
+
+use mrpc_table::Sequence;
+use proto_file::{FieldDecl, FieldType, Number, Range, RpcDecl, Span, ValueDecl, Word};
+
+/// What stands at a place in a text, and can be moved behind other texts.
+pub trait Shift {
+    ghost shifted: { ℕ → Self → Self };
+
+    ghost is_within: { ℕ → Self → Type 0 };
+
+    /// Moves it behind so many bytes, in place.
+    fn shift(&mut self, bytes: usize)
+        requires { is_within (2 ^ 64 - 1 - bytes) self.old }
+        ensures { self.new ≡ shifted bytes self.old };
+}
+
+/// Moves each item behind so many bytes, in place.
+pub fn shift_all<T: Shift>(items: Sequence<T>, bytes: usize) -> Sequence<T>
+    requires { All (T.is_within (2 ^ 64 - 1 - bytes)) items }
+    ensures { result ≡ map (T.shifted bytes) items }
+{
+    let mut items = items.into_vec();
+    for item in items.iter_mut() {
+        item.shift(bytes);
+    }
+    Sequence::from_vec(items)
+}
+
+fn shifted_span(span: Span, bytes: usize) -> Span
+    requires { IsSpanWithin (2 ^ 64 - 1 - bytes) span }
+    ensures { result ≡ shift_span bytes span }
+{
+    Span {
+        start: bytes + span.start,
+        end: bytes + span.end,
+        line: span.line,
+    }
+}
+
+/// A number behind so many bytes.
+pub fn shifted_number(number: Number, bytes: usize) -> Number
+    requires { IsNumberWithin (2 ^ 64 - 1 - bytes) number }
+    ensures { result ≡ shift_number bytes number }
+{
+    Number {
+        negative: number.negative,
+        value: number.value,
+        span: shifted_span(number.span, bytes),
+    }
+}
+
+impl Shift for Word {
+    ghost shifted = { shift_word };
+
+    ghost is_within = { IsWordWithin };
+
+    fn shift(&mut self, bytes: usize) {
+        self.span = shifted_span(self.span, bytes);
+    }
+}
+
+impl Shift for Range {
+    ghost shifted = { shift_range };
+
+    ghost is_within = { IsRangeWithin };
+
+    fn shift(&mut self, bytes: usize) {
+        self.first = shifted_number(self.first, bytes);
+        if let Some(last) = self.last {
+            self.last = Some(shifted_number(last, bytes));
+        }
+    }
+}
+
+impl Shift for FieldType {
+    ghost shifted = { shift_type };
+
+    ghost is_within = { IsTypeWithin };
+
+    fn shift(&mut self, bytes: usize) {
+        match self {
+            FieldType::Named(word) => word.shift(bytes),
+            FieldType::Map { key, value } => {
+                key.shift(bytes);
+                value.shift(bytes);
+            }
+            FieldType::NestedMap => {}
+        }
+    }
+}
+
+impl Shift for FieldDecl {
+    ghost shifted = { shift_field };
+
+    ghost is_within = { IsFieldWithin };
+
+    fn shift(&mut self, bytes: usize) {
+        self.name.shift(bytes);
+        self.number = shifted_number(self.number, bytes);
+        self.kind.shift(bytes);
+    }
+}
+
+impl Shift for ValueDecl {
+    ghost shifted = { shift_value };
+
+    ghost is_within = { IsValueWithin };
+
+    fn shift(&mut self, bytes: usize) {
+        self.name.shift(bytes);
+        self.number = shifted_number(self.number, bytes);
+    }
+}
+
+impl Shift for RpcDecl {
+    ghost shifted = { shift_rpc };
+
+    ghost is_within = { IsRpcWithin };
+
+    fn shift(&mut self, bytes: usize) {
+        self.name.shift(bytes);
+        self.input.shift(bytes);
+        self.output.shift(bytes);
+    }
+}

@@ -1,0 +1,10 @@
+mod Lists
+mod Ones
+mod Placed
+mod Rows
+mod Sizes
+mod Sounds
+mod Standing
+mod Taken
+mod TextsRead
+mod Whole

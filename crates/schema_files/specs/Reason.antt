@@ -1,0 +1,12 @@
+-- The words of printed faults.
+use Rattle.std.specs.Prelude.{ℕ, List}
+use Rattle.proto_imports.specs.Reason.{import_word}
+use Rattle.proto_schema.specs.Reason.{proto_word}
+use Rattle.schema_offences.specs.Reason.{resolve_word}
+use Rattle.schema_files.specs.declared.fault.FilesReason.{FilesReason}
+use Rattle.schema_files.specs.declared.fault.FilesReason.TheVariants.{Proto, Import, Resolve}
+
+abbrev pub files_word : FilesReason → List ℕ
+files_word (Proto q) = proto_word q
+files_word (Import q) = import_word q
+files_word (Resolve q) = resolve_word q

@@ -1,0 +1,59 @@
+-- What a set of proto files resolves to, and its first fault. The files that the first one reaches are resolved
+-- together, as if their texts stood one behind another.
+use Rattle.std.specs.Prelude.{◌≡◌, ℕ, ◌<◌, List, Some, slice_get}
+use Rattle.mrpc_table.specs.declared.table.Table.{Table}
+use Rattle.file_bundle.specs.Bundle.{File as PackedFile}
+use Rattle.proto_file.specs.declared.file.Span.{Span}
+use Rattle.proto_file.specs.declared.file.File.{File}
+use Rattle.proto_schema.specs.Faults.{IsTextOf, HasFault as HasTextFault}
+use Rattle.proto_schema.specs.declared.fault.ProtoReason.{ProtoReason}
+use Rattle.proto_imports.specs.Faults.{HasFault as HasImportFault}
+use Rattle.proto_imports.specs.Reaching.{IsReach}
+use Rattle.proto_imports.specs.declared.fault.ImportReason.{ImportReason}
+use Rattle.proto_imports.specs.declared.set.Member.{Member}
+use Rattle.proto_imports.specs.declared.set.Reach.{Reach}
+use Rattle.proto_join.specs.Joining.{joined, IsInText}
+use Rattle.proto_join.specs.declared.part.Part.{Part}
+use Rattle.schema_offences.specs.Offences.{HasFirst}
+use Rattle.schema_offences.specs.declared.reason.ResolveReason.{ResolveReason}
+use Rattle.schema_resolve.specs.Resolving.{ResolvesTogether}
+use Rattle.schema_files.specs.Joined.{ReadAs, AreParts}
+use Rattle.schema_files.specs.declared.fault.FilesReason.{FilesReason}
+use Rattle.schema_files.specs.declared.fault.FilesReason.TheVariants.{Proto, Import, Resolve}
+use Rattle.schema_files.specs.declared.fault.FilesFault.{FilesFault}
+use Rattle.schema_files.specs.declared.fault.FilesFault.TheVariants as fault
+
+-- the files that the first one reaches are joined to these parts
+pub record AreJoined (files : List PackedFile) (ps : List Part) : Type 0 where
+  pub members : List Member
+  pub reach : Reach
+  pub read : ReadAs files members
+  pub reached : IsReach members reach
+  pub parts : AreParts files members reach ps
+
+-- the files resolve to a table
+pub record FilesResolve (files : List PackedFile) (T : Table) : Type 0 where
+  pub parts : List Part
+  pub joins : AreJoined files parts
+  pub resolves : ResolvesTogether (joined parts) T
+
+-- a text that reads as a file
+abbrev pub IsRead : PackedFile → Type 0
+IsRead f = (F : File) × IsTextOf f.1 F
+
+-- The first fault of a set: its file, its line there and its reason. A text that is no proto file counts before imports
+-- at fault, and these before all that stands against the joined files.
+pub data HasFilesFault (files : List PackedFile) (file line : ℕ) : FilesReason → Type 0 where
+  unread : (f : PackedFile) (q : ProtoReason) (s : Span) → slice_get files file ≡ Some f → HasTextFault f.1 q s
+      → ((j : ℕ) (g : PackedFile) → j < file → slice_get files j ≡ Some g → IsRead g)
+      → line ≡ s.line → HasFilesFault files file line (Proto q)
+  import_at_fault : (members : List Member) (q : ImportReason) (s : Span) → ReadAs files members
+      → HasImportFault members q file s → line ≡ s.line → HasFilesFault files file line (Import q)
+  unresolved : (ps : List Part) (q : ResolveReason) (s : Span) (k : ℕ) (joins : AreJoined files ps)
+      → HasFirst (joined ps) q s → IsInText ps k s.start → slice_get joins.reach.order k ≡ Some file → line ≡ s.line
+      → HasFilesFault files file line (Resolve q)
+
+-- what a fault says of a set; want of memory says nothing
+abbrev pub IsFaultOf : List PackedFile → FilesFault → Type 0
+IsFaultOf files (fault.At file line reason) = HasFilesFault files file line reason
+IsFaultOf files fault.Memory = Unit {0}

@@ -1,0 +1,19 @@
+-- What a fault says of one text of a set.
+use Rattle.std.specs.Prelude.{◌≡◌, ℕ}
+use Rattle.file_bundle.specs.Bundle.{File as PackedFile}
+use Rattle.proto_file.specs.declared.file.Span.{Span}
+use Rattle.proto_schema.specs.Faults.{HasFault as HasTextFault}
+use Rattle.proto_schema.specs.declared.fault.ProtoReason.{ProtoReason}
+use Rattle.schema_files.specs.declared.fault.FilesReason.{FilesReason}
+use Rattle.schema_files.specs.declared.fault.FilesReason.TheVariants.{Proto}
+use Rattle.schema_files.specs.declared.fault.FilesFault.{FilesFault}
+use Rattle.schema_files.specs.declared.fault.FilesFault.TheVariants as fault
+
+-- the file's text has its first fault in this line, for this reason
+pub data HasUnread (f : PackedFile) (line : ℕ) : FilesReason → Type 0 where
+  unread_text : (q : ProtoReason) (s : Span) → HasTextFault f.1 q s → line ≡ s.line → HasUnread f line (Proto q)
+
+-- what a fault says of the file at a place; want of memory says nothing
+abbrev pub IsUnread : PackedFile → ℕ → FilesFault → Type 0
+IsUnread f place (fault.At file line reason) = (file ≡ place) × HasUnread f line reason
+IsUnread f place fault.Memory = Unit {0}

@@ -1,0 +1,79 @@
+//! What can be at fault with a set of files.
+
+ghost use Rattle.std.specs.Prelude.{◌≡◌};
+ghost use Rattle.schema_files.specs.Reason.{files_word};
+ghost use Rattle.schema_files.specs.declared.fault.FilesFault.TheVariants.{Memory as NoMemory};
+
+use mrpc_table::Memory;
+use proto_imports::ImportReason;
+use proto_schema::ProtoReason;
+use schema_offences::ResolveReason;
+use std::alloc::{AllocError, AllocFailed};
+use thiserror::Error;
+
+/// Why a set of files has no table. What stands against a text counts before all that stands against an import,
+/// and that before all that stands against a name or a number.
+#[derive(Clone, Copy, Debug, PartialEq, Eq, Error)]
+pub enum FilesReason {
+    /// A text is no proto file.
+    #[error("{0}")]
+    Proto(ProtoReason),
+    /// An import is at fault.
+    #[error("{0}")]
+    Import(ImportReason),
+    /// Something stands against a name or a number.
+    #[error("{0}")]
+    Resolve(ResolveReason),
+}
+
+impl FilesReason {
+    /// The word of a printed fault.
+    pub fn word(self) -> &'static str
+        ensures { result.now ≡ files_word self }
+    {
+        match self {
+            FilesReason::Proto(reason) => reason.word(),
+            FilesReason::Import(reason) => reason.word(),
+            FilesReason::Resolve(reason) => reason.word(),
+        }
+    }
+}
+
+/// Where a set of files is at fault.
+#[derive(Clone, Copy, Debug, PartialEq, Eq, Error)]
+pub enum FilesFault {
+    /// The first fault: the file's place in the set, from 0, the line in which it stands there, and its reason.
+    #[error("file {file}, line {line}: {reason}")]
+    At {
+        file: usize,
+        line: u64,
+        reason: FilesReason,
+    },
+    /// No memory was found.
+    #[error("out of memory")]
+    Memory,
+}
+
+impl From<Memory> for FilesFault {
+    ghost from_gives = { λ _ e. e ≡ NoMemory };
+
+    fn from(_: Memory) -> FilesFault {
+        FilesFault::Memory
+    }
+}
+
+impl From<AllocError> for FilesFault {
+    ghost from_gives = { λ _ e. e ≡ NoMemory };
+
+    fn from(_: AllocError) -> FilesFault {
+        FilesFault::Memory
+    }
+}
+
+impl<T: Drop> From<AllocFailed<T>> for FilesFault {
+    ghost from_gives = { λ _ e. e ≡ NoMemory };
+
+    fn from(_: AllocFailed<T>) -> FilesFault {
+        FilesFault::Memory
+    }
+}

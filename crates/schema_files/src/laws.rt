@@ -1,0 +1,73 @@
+//! Laws of sets of files. These functions do nothing; their clauses hold.
+
+ghost use Rattle.std.specs.Prelude.{◌≡◌, ℕ, List};
+ghost use Rattle.mrpc_table.specs.Valid.{AreDistinct};
+ghost use Rattle.mrpc_table.specs.declared.table.Table.{Table};
+ghost use Rattle.file_bundle.specs.Bundle.{File as PackedFile, paths_of};
+ghost use Rattle.proto_join.specs.Sound.{AreSound};
+ghost use Rattle.proto_join.specs.declared.part.Part.{Part};
+ghost use Rattle.schema_files.specs.Resolving.{AreJoined, FilesResolve, HasFilesFault};
+ghost use Rattle.schema_files.specs.declared.fault.FilesReason.{FilesReason};
+
+use proto_imports::{one_fault as one_import_fault, one_reach, reach_or_fault};
+use proto_join::{joined_is_ordered, places_apart};
+use proto_schema::{
+    file_is_ordered, file_is_within, file_or_fault, one_fault as one_text_fault, one_file,
+};
+use schema_offences::one_offence;
+use schema_resolve::one_table;
+
+/// The files of a set are joined to one list of parts at most.
+pub fn one_join()
+    ensures { (files : List PackedFile) (ps qs : List Part) → AreJoined files ps → AreJoined files qs → ps ≡ qs }
+{
+    one_file();
+    one_reach();
+}
+
+/// What the files of a set are joined to can be resolved together.
+pub fn joined_is_sound()
+    ensures { (files : List PackedFile) (ps : List Part) → AreJoined files ps → AreSound ps }
+{
+    file_is_ordered();
+    file_is_within();
+}
+
+/// A set of files has one table at most.
+pub fn one_files_table()
+    ensures { (files : List PackedFile) (t u : Table) → AreDistinct (paths_of files) → FilesResolve files t
+        → FilesResolve files u → t ≡ u }
+{
+    one_join();
+    joined_is_sound();
+    joined_is_ordered();
+    one_table();
+}
+
+/// A set of files has one first fault at most: two of them are of one file, in one line, and have one reason.
+pub fn one_files_fault()
+    ensures { (files : List PackedFile) (i j l m : ℕ) (q r : FilesReason) → AreDistinct (paths_of files)
+        → HasFilesFault files i l q → HasFilesFault files j m r → (i ≡ j) × (l ≡ m) × (q ≡ r) }
+{
+    one_file();
+    one_text_fault();
+    file_or_fault();
+    one_reach();
+    one_import_fault();
+    reach_or_fault();
+    joined_is_sound();
+    joined_is_ordered();
+    one_offence();
+    places_apart();
+}
+
+/// A set of files never has both a table and a first fault.
+pub fn table_or_files_fault()
+    ensures { (files : List PackedFile) (t : Table) (i l : ℕ) (q : FilesReason) → AreDistinct (paths_of files)
+        → FilesResolve files t → HasFilesFault files i l q → ⊥ }
+{
+    one_file();
+    file_or_fault();
+    one_reach();
+    reach_or_fault();
+}

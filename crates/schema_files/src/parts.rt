@@ -1,0 +1,100 @@
+//! The files that the first one of a set reaches, as they are joined.
+
+ghost use Rattle.std.specs.Prelude.{◌≡◌, ◌<◌, ℕ, List, Some, None, All, IfOk, length, map, slice_get, slice_set};
+ghost use Rattle.file_bundle.specs.Packed.{files_of};
+ghost use Rattle.proto_imports.specs.Reaching.{IsReach};
+ghost use Rattle.mrpc_table.specs.Valid.{AreDistinct};
+ghost use Rattle.schema_files.specs.Joined.{ReadAs, AreParts};
+ghost use Rattle.schema_files.specs.Placing.{ArePlaces, ArePlaced};
+
+use file_bundle::Packed;
+use mrpc_table::Memory;
+use proto_file::{File, Places};
+use proto_imports::{Member, Reach};
+use proto_join::Part;
+use std::alloc::Global;
+
+// The files of members, each one there.
+fn files_in(alloc: Global, members: Vec<Member>) -> Result<Vec<Option<File>>, Memory>
+    ensures { IfOk result (λ v. v.items ≡ map (λ m. Some m.file) members.items) }
+{
+    let mut files = Vec::with_capacity(alloc, members.len())?;
+    for member in members {
+        let Member { path: _, file } = member;
+        files.push(Some(file))?;
+    }
+    Ok(files)
+}
+
+// Takes the file at a place, which then is there no longer.
+fn take_file(files: &mut Vec<Option<File>>, place: usize) -> Option<File>
+    requires { place < length files.old.items }
+    ensures value { slice_get files.old.items place ≡ Some result }
+    ensures after { files.new.items ≡ slice_set files.old.items place None }
+{
+    files[place].take()
+}
+
+// Zeros for so many places.
+fn zeros(alloc: Global, count: usize) -> Result<Vec<usize>, Memory>
+    ensures { IfOk result (λ v. length v.items ≡ count) }
+{
+    let mut places = Vec::with_capacity(alloc, count)?;
+    for _ in 0..count {
+        places.push(0)?;
+    }
+    Ok(places)
+}
+
+// At which place of an order each one of so many stands.
+fn places_in(alloc: Global, order: &[usize], count: usize) -> Result<Vec<usize>, Memory>
+    requires within { All (λ i. i < count) order.now }
+    requires distinct { AreDistinct order.now }
+    ensures { IfOk result (λ v. ArePlaces order.now count v.items) }
+{
+    let mut places = zeros(alloc, count)?;
+    for place in 0..order.len() {
+        places[order[place]] = place;
+    }
+    Ok(places)
+}
+
+// The places of some of them.
+fn placed(alloc: Global, some: &[usize], places: &[usize]) -> Result<Places, Memory>
+    requires { All (λ i. i < length places.now) some.now }
+    ensures { IfOk result (ArePlaced places.now some.now) }
+{
+    let mut all = Places::with_room(alloc, some.len())?;
+    for i in some {
+        all.push(places[*i])?;
+    }
+    Ok(all)
+}
+
+/// The files that the first one of a set reaches, as they are joined: what each says, what it sees and how long its
+/// text is. What they say is moved.
+pub fn parts_of(
+    alloc: Global,
+    files: &[Packed<'_>],
+    members: Vec<Member>,
+    reach: &Reach,
+) -> Result<Vec<Part>, Memory>
+    requires some { 0 < length files.now }
+    requires read { ReadAs (files_of files.now) members.items }
+    requires reached { IsReach members.items reach.now }
+    ensures { IfOk result (λ v. AreParts (files_of files.now) members.items reach.now v.items) }
+{
+    let order = reach.order.as_slice();
+    let seen = reach.sees.as_slice();
+    let places = places_in(alloc, order, files.len())?;
+    let mut left = files_in(alloc, members)?;
+    let mut parts = Vec::with_capacity(alloc, order.len())?;
+    for k in 0..order.len() {
+        let i = order[k];
+        let sees = placed(alloc, seen[k].as_slice(), places.as_slice())?;
+        let file = take_file(&mut left, i).unwrap();
+        let size = files[i].text.len();
+        parts.push(Part { file, sees, size })?;
+    }
+    Ok(parts)
+}

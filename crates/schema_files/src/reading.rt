@@ -1,0 +1,52 @@
+//! What the texts of a set of files say.
+
+ghost use Rattle.std.specs.Prelude.{◌≡◌, IfOk, IfErr};
+ghost use Rattle.file_bundle.specs.Packed.{file_of, files_of};
+ghost use Rattle.schema_files.specs.Joined.{ReadsAs, ReadAs};
+ghost use Rattle.schema_files.specs.Resolving.{IsFaultOf};
+ghost use Rattle.schema_files.specs.Unread.{IsUnread};
+
+use crate::fault::{FilesFault, FilesReason};
+use file_bundle::Packed;
+use mrpc_table::Name;
+use proto_imports::Member;
+use proto_schema::{ProtoFault, read_proto};
+use std::alloc::Global;
+
+// How many bytes a text has at least, of which no memory holds the tokens.
+const MAX_READ: usize = 0x4000_0000_0000_0000;
+
+// What the file at a place says.
+fn member(alloc: Global, place: usize, packed: &Packed<'_>) -> Result<Member, FilesFault>
+    ensures read { IfOk result (ReadsAs (file_of packed.now)) }
+    ensures fault { IfErr result (IsUnread (file_of packed.now) place) }
+{
+    if packed.text.len() >= MAX_READ {
+        return Err(FilesFault::Memory);
+    }
+    match read_proto(alloc, packed.text) {
+        Ok(file) => {
+            let path = Name::from_slice(alloc, packed.path)?;
+            Ok(Member { path, file })
+        }
+        Err(ProtoFault::At { reason, line, .. }) => Err(FilesFault::At {
+            file: place,
+            line,
+            reason: FilesReason::Proto(reason),
+        }),
+        Err(ProtoFault::Memory) => Err(FilesFault::Memory),
+    }
+}
+
+/// What each file says, or the first one that is no proto file.
+pub fn members(alloc: Global, files: &[Packed<'_>]) -> Result<Vec<Member>, FilesFault>
+    ensures read { IfOk result (λ v. ReadAs (files_of files.now) v.items) }
+    ensures fault { IfErr result (IsFaultOf (files_of files.now)) }
+{
+    let mut members = Vec::with_capacity(alloc, files.len())?;
+    for i in 0..files.len() {
+        let member = member(alloc, i, &files[i])?;
+        members.push(member)?;
+    }
+    Ok(members)
+}

@@ -1,0 +1,126 @@
+//! The table of a set of files, or its first fault.
+
+ghost use Rattle.std.specs.Prelude.{◌≡◌, ◌<◌, ◌≤◌, ◌^◌, List, length, sum, map, sum_by, IfOk, IfErr, MatchResult};
+ghost use Rattle.mrpc_table.specs.Valid.{AreDistinct, IsValid};
+ghost use Rattle.mrpc_table.specs.declared.table.Table.{Table};
+ghost use Rattle.file_bundle.specs.Bundle.{paths_of};
+ghost use Rattle.file_bundle.specs.Packed.{files_of};
+ghost use Rattle.file_bundle.specs.Bundle.{File as PackedFile};
+ghost use Rattle.proto_imports.specs.Reaching.{HaveOwnPaths, IsReach};
+ghost use Rattle.proto_join.specs.Joining.{joined, sizes_of};
+ghost use Rattle.proto_join.specs.Sound.{AreSound};
+ghost use Rattle.schema_resolve.specs.Resolving.{ResolvesTogether};
+ghost use Rattle.schema_files.specs.Joined.{ReadAs};
+ghost use Rattle.schema_files.specs.Resolving.{AreJoined, FilesResolve, IsFaultOf};
+ghost use Rattle.schema_files.specs.declared.fault.FilesFault.TheVariants as faults;
+
+use crate::fault::{FilesFault, FilesReason};
+use crate::laws::{joined_is_sound, one_join, table_or_files_fault};
+use crate::parts::parts_of;
+use crate::reading::members;
+use file_bundle::{MAX_FILES, Packed};
+use mrpc_table::{Memory, Table};
+use proto_imports::{ImportFault, Member, Reach, reach};
+use proto_join::{Part, file_at, join, joined_is_ordered, places_apart};
+use schema_offences::offences_stand;
+use schema_resolve::{ResolveFault, resolve_together};
+use std::alloc::Global;
+
+// What the first file of a set reaches.
+fn reached(alloc: Global, members: &[Member]) -> Result<Reach, FilesFault>
+    requires some { 0 < length members.now }
+    requires few { length members.now ≤ MAX_FILES }
+    requires distinct { HaveOwnPaths members.now }
+    ensures reach { IfOk result (IsReach members.now) }
+    ensures fault { (files : List PackedFile) → ReadAs files members.now → IfErr result (IsFaultOf files) }
+{
+    match reach(alloc, members) {
+        Ok(reached) => Ok(reached),
+        Err(ImportFault::At { reason, file, span }) => Err(FilesFault::At {
+            file,
+            line: span.line,
+            reason: FilesReason::Import(reason),
+        }),
+        Err(ImportFault::Memory) => Err(FilesFault::Memory),
+    }
+}
+
+// How long the text of each part is.
+fn sizes(alloc: Global, parts: &[Part]) -> Result<Vec<usize>, Memory>
+    ensures { IfOk result (λ v. v.items ≡ sizes_of parts.now) }
+{
+    let mut sizes = Vec::with_capacity(alloc, parts.len())?;
+    for k in 0..parts.len() {
+        sizes.push(parts[k].size)?;
+    }
+    Ok(sizes)
+}
+
+// The table of files that are joined, or their first offence, where this is the order in which they are joined.
+fn resolve_parts(alloc: Global, order: &[usize], parts: Vec<Part>) -> Result<Table, FilesFault>
+    requires small { sum (sizes_of parts.items) < 2 ^ 64 }
+    requires sound { AreSound parts.items }
+    requires count { length order.now ≡ length parts.items }
+    ensures resolves { IfOk result (ResolvesTogether (joined parts.items)) }
+    ensures valid { IfOk result (λ t. IsValid t) }
+    ensures only { (t : Table) → ResolvesTogether (joined parts.items) t
+        → MatchResult result (λ u. u ≡ t) (λ e. e ≡ faults.Memory) }
+    ensures fault { (files : List PackedFile) (joins : AreJoined files parts.items) → joins.reach.order ≡ order.now
+        → IfErr result (IsFaultOf files) }
+{
+    joined_is_ordered();
+    places_apart();
+    offences_stand();
+    let sizes = sizes(alloc, parts.as_slice())?;
+    let union = join(alloc, parts)?;
+    match resolve_together(alloc, &union.files()) {
+        Ok(table) => Ok(table),
+        Err(
+            ResolveFault::At {
+                reason,
+                start,
+                line,
+                ..
+            },
+        ) => {
+            let place = file_at(sizes.as_slice(), start).unwrap();
+            Err(FilesFault::At {
+                file: order[place],
+                line,
+                reason: FilesReason::Resolve(reason),
+            })
+        }
+        Err(ResolveFault::Memory) => Err(FilesFault::Memory),
+    }
+}
+
+/// The table of the files that the first one reaches by imports, or the first fault of the set: the first text that is
+/// no proto file; else the first import that is missing, else the first that stands twice, else the first that closes a
+/// ring; else the offence that starts first in the first of the joined files that has one. Without memory it answers
+/// `Memory`.
+///
+/// The joined files are the first one and then the others that it reaches, by ascending path. The methods have indices
+/// from 0, along them.
+pub fn resolve_files(alloc: Global, files: &[Packed<'_>]) -> Result<Table, FilesFault>
+    requires some { 0 < length files.now }
+    requires few { length files.now ≤ MAX_FILES }
+    requires distinct { AreDistinct (paths_of (files_of files.now)) }
+    requires small { sum_by (λ f. length f.text.now) files.now < 2 ^ 63 }
+    // A table is what the files resolve to.
+    ensures resolves { IfOk result (FilesResolve (files_of files.now)) }
+    // It is valid.
+    ensures valid { IfOk result (λ t. IsValid t) }
+    // Files that resolve to a table give this table, unless memory runs out.
+    ensures only { (t : Table) → FilesResolve (files_of files.now) t
+        → MatchResult result (λ u. u ≡ t) (λ e. e ≡ faults.Memory) }
+    // A fault is the first one of the set.
+    ensures fault { IfErr result (IsFaultOf (files_of files.now)) }
+{
+    one_join();
+    joined_is_sound();
+    table_or_files_fault();
+    let members = members(alloc, files)?;
+    let reach = reached(alloc, members.as_slice())?;
+    let parts = parts_of(alloc, files, members, &reach)?;
+    resolve_parts(alloc, reach.order.as_slice(), parts)
+}

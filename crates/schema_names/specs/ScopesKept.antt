@@ -1,0 +1,15 @@
+-- What the names of files keep.
+use Rattle.std.specs.Prelude.{length}
+use Rattle.proto_file.specs.Joined.{Joined}
+use Rattle.schema_names.specs.Numbers.{StandBehind}
+use Rattle.schema_names.specs.Types.{KnowsTypes, declared_in}
+use Rattle.schema_names.specs.Below.{AreBusy}
+use Rattle.schema_names.specs.declared.scopes.Scopes.TheInside.{Inside}
+
+pub record Keeps (F : Joined) (s : Inside) : Type 0 where
+  pub behind : StandBehind F
+  pub its_types : KnowsTypes F (length F.messages) (length F.enums) (declared_in s.types)
+  pub its_fronts : AreBusy F (length F.heads) s.busy.items
+
+abbrev pub AreScopes : Inside → Type 0
+AreScopes s = Keeps s.places s

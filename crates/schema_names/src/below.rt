@@ -1,0 +1,122 @@
+//! What hangs below the fronts of packages.
+//!
+//! A package may have very many parts, and at most of its fronts nothing begins but its next part. The other fronts are
+//! few, and found once.
+
+ghost use Rattle.std.specs.Prelude.{◌≡◌, ◌<◌, IfOk, length};
+ghost use Rattle.schema_names.specs.Numbers.{StandBehind, scope_count};
+ghost use Rattle.schema_names.specs.Below.{with_front, is_one, Grows, Notes, Tells, IsBusy, AreBusy};
+
+use crate::places::Places;
+use mrpc_table::Memory;
+use proto_file::Home;
+use std::alloc::Global;
+
+/// What hangs below a scope.
+#[derive(Clone, Copy)]
+pub enum Below {
+    Nothing,
+    /// Fronts of packages of one full name, whose scope has this number.
+    One(usize),
+    /// Fronts of several full names, or types.
+    Several,
+}
+
+impl Below {
+    // With a front of a package.
+    fn with(self, scope: usize) -> Below
+        ensures { result ≡ with_front self scope }
+    {
+        match self {
+            Below::Nothing => Below::One(scope),
+            Below::One(other) => {
+                if other == scope {
+                    Below::One(other)
+                } else {
+                    Below::Several
+                }
+            }
+            Below::Several => Below::Several,
+        }
+    }
+
+    // Whether it is known to be fronts of one full name alone.
+    fn is_one(self) -> bool
+        ensures { result ≡ is_one self }
+    {
+        matches!(self, Below::One(_))
+    }
+}
+
+// Notes the fronts of a file's package, and that types stand in the package.
+fn note_package(places: &Places, file: usize, below: &mut [Below])
+    requires there { file < length places.now.heads }
+    requires all { length below.old ≡ scope_count places.now }
+    ensures grows { Grows below.old below.new }
+    ensures notes { Notes places.now file below.new }
+{
+    let depth = places.depth(file);
+    for n in 0..depth {
+        let outer = places.front(file, n);
+        let next = places.front(file, n + 1);
+        below[outer] = below[outer].with(next);
+    }
+    let package = places.front(file, depth);
+    below[package] = Below::Several;
+}
+
+// What hangs below each scope.
+fn hanging(alloc: Global, places: &Places) -> Result<Vec<Below>, Memory>
+    ensures all { IfOk result (λ v. length v.items ≡ scope_count places.now) }
+    ensures tells { IfOk result (λ v. Tells places.now v.items) }
+{
+    let mut below = vec![in alloc; Below::Nothing; places.count()]?;
+    for file in 0..places.heads().len() {
+        note_package(places, file, &mut below);
+    }
+    for i in 0..places.messages().len() {
+        let scope = places.number(Home::Message(i));
+        below[scope] = Below::Several;
+    }
+    Ok(below)
+}
+
+// The fronts of a file's package at which more may begin than its next part, by their number of parts, the longest
+// first.
+fn busy_fronts(
+    alloc: Global,
+    places: &Places,
+    below: &[Below],
+    file: usize,
+) -> Result<Vec<usize>, Memory>
+    requires there { file < length places.now.heads }
+    requires all { length below.now ≡ scope_count places.now }
+    requires tells { Tells places.now below.now }
+    requires behind { StandBehind places.now }
+    ensures { IfOk result (λ v. IsBusy places.now file v.items) }
+{
+    let mut busy = Vec::new(alloc);
+    for n in (0..places.depth(file) + 1).rev() {
+        let front = places.front(file, n);
+        if below[front].is_one() {
+            continue;
+        }
+        busy.push(n)?;
+    }
+    Ok(busy)
+}
+
+/// For each file, the fronts of its package at which more may begin than its next part, by their number of parts, the
+/// longest first.
+pub fn all_busy_fronts(alloc: Global, places: &Places) -> Result<Vec<Vec<usize>>, Memory>
+    requires { StandBehind places.now }
+    ensures { IfOk result (λ v. AreBusy places.now (length places.now.heads) v.items) }
+{
+    let below = hanging(alloc, places)?;
+    let count = places.heads().len();
+    let mut all = Vec::with_capacity(alloc, count)?;
+    for file in 0..count {
+        all.push(busy_fronts(alloc, places, &below, file)?)?;
+    }
+    Ok(all)
+}

@@ -1,0 +1,12 @@
+use Rattle.std.proofs.Common.{ℕ}
+use Rattle.proto_file.specs.declared.file.EnumDecl.{EnumDecl}
+use Rattle.proto_file.specs.Joined.{enum_home_of}
+use Rattle.schema_offences.specs.Meeting.{Meets, OfFirst, OfElement}
+use Rattle.schema_offences.specs.Entries.{IsPackageNamed}
+use Rattle.schema_offences.proofs.names.note_enum_packages.Given as goal
+
+-- those up to here that are packages, too, were met
+abbrev pub invariant-loop-i : goal.invariant-loop-i
+invariant-loop-i l =
+    Meets (OfFirst l.i (OfElement l.fn.files.enums
+    (λ (i : ℕ) (x : EnumDecl). IsPackageNamed l.fn.files (enum_home_of x) x.name))) l.initial.first l.first

@@ -1,0 +1,12 @@
+use Rattle.std.proofs.Common.{ℕ}
+use Rattle.proto_file.specs.declared.file.MessageDecl.{MessageDecl}
+use Rattle.proto_file.specs.Joined.{home_of}
+use Rattle.schema_offences.specs.Meeting.{Meets, OfFirst, OfElement}
+use Rattle.schema_offences.specs.Entries.{IsPackageNamed}
+use Rattle.schema_offences.proofs.names.note_message_packages.Given as goal
+
+-- those up to here that are packages, too, were met
+abbrev pub invariant-loop-i : goal.invariant-loop-i
+invariant-loop-i l =
+    Meets (OfFirst l.i (OfElement l.fn.files.messages
+    (λ (i : ℕ) (x : MessageDecl). IsPackageNamed l.fn.files (home_of x) x.name))) l.initial.first l.first

@@ -1,5 +1,0 @@
-use Rattle.schema_resolve.proofs.Answering.{stands_behind}
-use Rattle.schema_resolve.proofs.resolved.resolved.Goals as goal
-
-pub new-requires : goal.new-requires
-new-requires c = stands_behind c.args.file.now c.requires.formed
