@@ -592,8 +592,8 @@ fn number_at(bytes: &[u8], start: usize, tag: u32, kind: Kind) -> Option<(u64, u
     ensures ahead { IfSome result (λ e. start < e.1) }
     ensures within { IfSome result (λ e. e.1 ≤ length bytes.now) }
 {
-    let wire_type = kind.wire_type() as u8;
-    if tag % 8 != u32::from(wire_type) {
+    let wire_type = kind.wire_type();
+    if u64::from(tag % 8) != wire_type {
         return None;
     }
     element(bytes, start, wire_type)

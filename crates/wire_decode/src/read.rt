@@ -246,7 +246,7 @@ pub fn elements(
         (FaultsAs (λ reason at. (reason ≡ PackedLength) × (at ≡ start) × NoPiece kind bytes.now start)) }
 {
     payload_or_reason();
-    let wire_type = kind.wire_type() as u8;
+    let wire_type = kind.wire_type();
     values.reserve_exact(element_count(&bytes[start..], wire_type))?;
     let mut at = start;
     while at < bytes.len() {
@@ -261,7 +261,7 @@ pub fn elements(
 }
 
 /// How many elements of the wire type a packed piece has that is whole: so many find room.
-fn element_count(bytes: &[u8], wire_type: u8) -> usize {
+fn element_count(bytes: &[u8], wire_type: u64) -> usize {
     match wire_type {
         1 => bytes.len() / 8,
         5 => bytes.len() / 4,
@@ -281,7 +281,7 @@ fn ends_of_varints(bytes: &[u8]) -> usize
 }
 
 /// A number of the wire type at a place, and the place behind it.
-pub fn element(bytes: &[u8], at: usize, wire_type: u8) -> Option<(u64, usize)>
+pub fn element(bytes: &[u8], at: usize, wire_type: u64) -> Option<(u64, usize)>
     requires place { at ≤ length bytes.now }
     requires fixed { IsFixedOrVarint wire_type }
     ensures found { IfSome result
