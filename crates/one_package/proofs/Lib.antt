@@ -1,0 +1,8 @@
+mod Lists
+mod Alike
+mod Judged
+mod Together
+mod OneFile
+mod Looking
+mod Resolved
+mod Rows
