@@ -3,6 +3,7 @@
 ghost use Rattle.std.specs.Prelude.{◌≡◌, ◌≤◌, ◌<◌, List, [], ◌∷◌, ◌++◌, ℕ, length, IfOk};
 ghost use Rattle.mrpc_base.specs.Heap.{AfterLoads};
 ghost use Rattle.mrpc_table.specs.Valid.{IsValid};
+ghost use Rattle.mrpc_table.specs.declared.limits.TheConstants.{MAX_HEAP, MAX_LOADS, MIN_HEAP};
 ghost use Rattle.graph_form.specs.Malformed.{IsMalformed};
 ghost use Rattle.graph_copy.specs.Copies.{since, OnlyLoads, IsCopied};
 ghost use Rattle.graph_copy.specs.Answers.{IfCopied, IfMalformed, loads_of};
@@ -47,10 +48,10 @@ pub fn copy<W: Words>(
 ) -> Result<CopyResult, Memory>
     requires valid { IsValid table.now }
     requires known { msg < length table.now.messages }
-    requires least_heap { 4 ≤ W.size words.old }
-    requires greatest_heap { W.size words.old ≤ 65536 }
+    requires least_heap { MIN_HEAP ≤ W.size words.old }
+    requires greatest_heap { W.size words.old ≤ MAX_HEAP }
     requires least_limit { 1 ≤ limit }
-    requires greatest_limit { limit ≤ 16384 }
+    requires greatest_limit { limit ≤ MAX_LOADS }
 
     // Whatever the answer is, the heap has room made and these loads more, and nothing else.
     ensures size { W.size words.new ≡ W.size words.old }
@@ -87,7 +88,7 @@ fn copy_graph<W: Words>(
 ) -> Result<CopyResult, Memory>
     requires valid { IsValid table.now }
     requires least_heap { 1 ≤ W.size words.old }
-    requires greatest_heap { W.size words.old ≤ 65536 }
+    requires greatest_heap { W.size words.old ≤ MAX_HEAP }
     requires least_limit { 1 ≤ limit }
     requires room { limit ≤ W.room words.old }
     requires none { loads.old.items ≡ [] }

@@ -3,6 +3,7 @@
 ghost use Rattle.std.specs.Prelude.{◌≡◌, ◌≤◌, [], ◌++◌, length, IfOk, MatchOption};
 ghost use Rattle.mrpc_base.specs.Heap.{AfterLoads};
 ghost use Rattle.mrpc_table.specs.Valid.{IsValid};
+ghost use Rattle.mrpc_table.specs.declared.limits.TheConstants.{MAX_HEAP};
 ghost use Rattle.graph_form.specs.Loading.{LeadsTo};
 ghost use Rattle.graph_copy.specs.Expects.{expected, AllFit};
 ghost use Rattle.graph_copy.specs.Stops.{Stops};
@@ -25,7 +26,7 @@ pub fn take_words<W: Words>(
 ) -> Result<Option<Reason>, Memory>
     requires valid { IsValid table.now }
     requires size { walk.old.size ≡ W.size words.old }
-    requires small { walk.old.size ≤ 65536 }
+    requires small { walk.old.size ≤ MAX_HEAP }
     requires room { limit ≤ W.room words.old }
     requires fits { AllFit walk.old.size (expected table.now walk.old) }
     requires none { loads.old.items ≡ [] }
