@@ -1,6 +1,6 @@
 //! The copy of a message.
 
-ghost use Rattle.std.specs.Prelude.{◌≡◌, ◌≤◌, ◌<◌, List, [], ◌∷◌, ◌++◌, ℕ, length, IfOk};
+ghost use Rattle.std.specs.Prelude.{◌≡◌, ◌≤◌, ◌<◌, ◌+◌, List, [], ◌∷◌, ◌++◌, ℕ, length, IfOk};
 ghost use Rattle.mrpc_base.specs.Heap.{AfterLoads};
 ghost use Rattle.mrpc_table.specs.Valid.{IsValid};
 ghost use Rattle.mrpc_table.specs.declared.limits.TheConstants.{MAX_HEAP, MAX_LOADS, MIN_HEAP};
@@ -37,7 +37,8 @@ pub enum CopyResult {
 
 /// Copies the message of a type, by its place in the table, at an address of a heap: a tree of its own, from at most
 /// `limit` loads, each of a word that is loaded once for its place in the graph. `Reason::NoMethod` never comes. Room
-/// for `limit` loads is made before the first one. After `Memory` the loads that were made stand in the heap's list.
+/// for `limit` loads is made before the first one. After `Memory` the loads that were made stand in the heap's list;
+/// where it was that room that no memory was found for, the heap's reader is as it was.
 pub fn copy<W: Words>(
     alloc: Global,
     words: &mut W,
@@ -59,6 +60,10 @@ pub fn copy<W: Words>(
     ensures only_loads { OnlyLoads W.after_room W.after_load words.old
         (since (W.loads words.old) (W.loads words.new)) words.new }
     ensures few { length (since (W.loads words.old) (W.loads words.new)) ≤ limit }
+
+    // Where no room for `limit` loads was made, it stays as it was.
+    ensures unroomed { W.room words.new + length (since (W.loads words.old) (W.loads words.new)) < limit
+        → words.new ≡ words.old }
 
     ensures copied { IfOk result (IfCopied (IsCopied table.now (W.size words.old) msg addr
         (since (W.loads words.old) (W.loads words.new)))) }
@@ -97,6 +102,7 @@ fn copy_graph<W: Words>(
     ensures adds { W.loads words.new ≡ W.loads words.old ++ loads.new.items }
     ensures changes { AfterLoads W.after_load words.old loads.new.items words.new }
     ensures few { length loads.new.items ≤ limit }
+    ensures room { limit ≤ W.room words.new + length loads.new.items }
 
     ensures copied { IfOk result (IfCopied (IsCopied table.now (W.size words.old) msg addr loads.new.items)) }
     ensures malformed { IfOk result

@@ -1,6 +1,6 @@
 //! Loading: each word that is expected, once and in order, up to the first that offends or the limit.
 
-ghost use Rattle.std.specs.Prelude.{◌≡◌, ◌≤◌, [], ◌++◌, length, IfOk, MatchOption};
+ghost use Rattle.std.specs.Prelude.{◌≡◌, ◌≤◌, ◌+◌, [], ◌++◌, length, IfOk, MatchOption};
 ghost use Rattle.mrpc_base.specs.Heap.{AfterLoads};
 ghost use Rattle.mrpc_table.specs.Valid.{IsValid};
 ghost use Rattle.mrpc_table.specs.declared.limits.TheConstants.{MAX_HEAP};
@@ -35,6 +35,7 @@ pub fn take_words<W: Words>(
     ensures adds { W.loads words.new ≡ W.loads words.old ++ loads.new.items }
     ensures changes { AfterLoads W.after_load words.old loads.new.items words.new }
     ensures few { length loads.new.items ≤ limit }
+    ensures room { limit ≤ W.room words.new + length loads.new.items }
     ensures outcome { IfOk result (λ found. MatchOption found
         (LeadsTo table.now walk.old.size (expected table.now walk.old) loads.new.items [])
         (Stops table.now walk.old.size limit (expected table.now walk.old) loads.new.items)) }
