@@ -3,7 +3,7 @@ use Rattle.std.proofs.Common.{◌≡◌, ◌≢◌, ℕ, true, List, [], ◌∷�
 use Rattle.mrpc_table.specs.Names.{parts_of}
 use Rattle.proto_file.specs.Joined.{Joined}
 use Rattle.proto_file.specs.declared.file.Span.{Span}
-use Rattle.schema_names.specs.Scopes.{Sort, is_type, Declares, message as a_message_of, enum as an_enum_of, service, value, field, oneof, rpc, IsThere, Decides, here, outward, Means, absolute, relative}
+use Rattle.schema_names.specs.Scopes.{Sort, is_type, Declares, message as a_message_of, enum as an_enum_of, service, value, field, oneof, IsThere, Decides, here, outward, Means, absolute, relative}
 use Rattle.schema_names.specs.Numbers.{StandsAt, message, enum, IsOfFile, message_of, enum_of, sort_of}
 use Rattle.schema_names.specs.declared.named.Named.{Named}
 use Rattle.schema_names.specs.declared.named.Named.TheVariants.{Message, Enum}
@@ -35,7 +35,6 @@ declared_stands (service s c) typ = absurd cc
 declared_stands (value e v c d up) typ = absurd cc
 declared_stands (field m f c d up) typ = absurd cc
 declared_stands (oneof m o c d up) typ = absurd cc
-declared_stands (rpc s r c d) typ = absurd cc
 
 -- ---- deciding
 

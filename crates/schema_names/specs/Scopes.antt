@@ -12,7 +12,6 @@ use Rattle.proto_file.specs.declared.file.FieldDecl.{FieldDecl}
 use Rattle.proto_file.specs.declared.file.MessageDecl.{MessageDecl}
 use Rattle.proto_file.specs.declared.file.ValueDecl.{ValueDecl}
 use Rattle.proto_file.specs.declared.file.EnumDecl.{EnumDecl}
-use Rattle.proto_file.specs.declared.file.RpcDecl.{RpcDecl}
 use Rattle.proto_file.specs.declared.file.ServiceDecl.{ServiceDecl}
 use Rattle.proto_file.specs.declared.joined.Home.{Home}
 use Rattle.proto_file.specs.declared.joined.Home.TheVariants as home
@@ -40,7 +39,7 @@ is_type an_enum = true
 is_type no_type = false
 
 -- The file at a place declares this full name, here. The values of an enum stand beside it, in the scope that it stands
--- in.
+-- in. The rpcs of a service are in no scope but the service's own.
 pub data Declares (F : Joined) : ℕ → Sort → List (List ℕ) → Span → Type 0 where
   message : (m : MessageDecl) {outer : List (List ℕ)} → Contains F.messages m → IsScope F (home_of m) outer
       → Declares F m.file a_message (outer ++ m.name.name ∷ []) m.name.span
@@ -55,8 +54,6 @@ pub data Declares (F : Joined) : ℕ → Sort → List (List ℕ) → Span → T
       → Declares F m.file no_type (outer ++ m.name.name ∷ f.name.name ∷ []) f.name.span
   oneof : (m : MessageDecl) (o : Word) {outer : List (List ℕ)} → Contains F.messages m → Contains m.oneofs o
       → IsScope F (home_of m) outer → Declares F m.file no_type (outer ++ m.name.name ∷ o.name ∷ []) o.span
-  rpc : (s : ServiceDecl) (r : RpcDecl) → Contains F.services s → Contains s.rpcs r
-      → Declares F s.file no_type (package_at F s.file ++ s.name.name ∷ r.name.name ∷ []) r.name.span
 
 -- the package of a file has this full name, or begins with it
 pub record IsFront (F : Joined) (full : List (List ℕ)) : Type 0 where

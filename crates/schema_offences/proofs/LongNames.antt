@@ -127,7 +127,6 @@ module _ (F : Joined) (kept : Lengths) (formed : IsFormed F) (k : AreLengths F k
   type_from file sort full span q s (Scopes.value e v c d is) t l o = absurd cc
   type_from file sort full span q s (Scopes.field m f c d is) t l o = absurd cc
   type_from file sort full span q s (Scopes.oneof m w c d is) t l o = absurd cc
-  type_from file sort full span q s (Scopes.rpc x r c d) t l o = absurd cc
 
   span_from : (span : Span) (q : ResolveReason) (s : Span) → IsLongInFull F span → Is Limit span q s → LongParts q s
   span_from span q s (Offences.a_type file sort full d t l) o = type_from file sort full span q s d t l o

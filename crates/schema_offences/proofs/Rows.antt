@@ -1,7 +1,9 @@
 -- Small files with an offence of each reason, alone and resolved together, and files of which nothing is said.
-use Rattle.std.proofs.Common.{◌≡◌, ℕ, zero, suc, ◌<◌, false, List, [], ◌∷◌, codes, inr, refl, sym, ap, ◌∙◌, subst, arith}
+use Rattle.std.proofs.Common.{◌≡◌, ℕ, zero, suc, ◌<◌, ◌≤◌, true, false, List, [], ◌∷◌, ◌++◌, length, codes, inr, refl, sym, ap, ◌∙◌, subst, arith, length-append}
 use Rattle.std.specs.Prelude.{Option, Some, None, Contains, slice_get, pos}
+use Rattle.std.proofs.lemmas.Bool.{false≢true}
 use Rattle.std.proofs.lemmas.Option.{same_Some, none-some}
+use Rattle.mrpc_table.specs.Names.{is_short, is_short_full}
 use Rattle.mrpc_table.specs.declared.words.Decimal.TheVariants.{Small}
 use Rattle.mrpc_table.specs.declared.table.Kind.TheVariants.{Float as AFloat}
 use Rattle.proto_file.specs.declared.file.Span.{Span}
@@ -20,9 +22,9 @@ use Rattle.proto_file.specs.declared.file.File.{File}
 use Rattle.proto_file.specs.declared.joined.Head.{Head}
 use Rattle.proto_file.specs.declared.joined.Home.{Home}
 use Rattle.proto_file.specs.declared.joined.Home.TheVariants as home
-use Rattle.proto_file.specs.Joined.{Joined, alone, home_of}
+use Rattle.proto_file.specs.Joined.{Joined, alone, home_of, package_at}
 use Rattle.schema_names.specs.Scopes
-use Rattle.schema_names.specs.Scopes.{IsScope, of_file, of_message as in_message, Sort, a_message, no_type, message, service, rpc, Declares, IsFront, Finds}
+use Rattle.schema_names.specs.Scopes.{text_of, IsScope, of_file, of_message as in_message, Sort, a_message, no_type, is_type, message, Declares, IsFront, Finds}
 use Rattle.schema_offences.specs.Members.{MessageOffends, of_type, of_number, of_name, number_out_of_range, number_met_before, name_reserved, first_not_zero, bad_key, scalar_key, misplaced, nested, long_message, no_input, of_value}
 use Rattle.schema_offences.specs.Lines
 use Rattle.schema_offences.specs.Lines.{HasLine, PassesAt}
@@ -30,6 +32,7 @@ use Rattle.schema_offences.specs.Offences
 use Rattle.schema_offences.specs.Offences.{IsTwice, IsLongInFull, Offends, IsOffence, offends, ComesFirst, HasOffence}
 use Rattle.schema_offences.specs.declared.reason.ResolveReason.{ResolveReason}
 use Rattle.schema_offences.specs.declared.reason.ResolveReason.TheVariants.{UnknownName, NumberRange, DuplicateNumber, DuplicateName, Reserved, FirstEnum, MapKey, MapPlace, Limit, Import as HasImport}
+use Rattle.schema_offences.proofs.EntryLists.{contains_get}
 
 -- ---- files
 
@@ -237,24 +240,101 @@ front_row =
     (Offences.a_package 0 a_message (codes "p" ∷ []) (message _ (0, omega arith, refl) (of_file 0)) refl
     (record { file = 1; rest = codes "q" ∷ []; begins = refl })) (refl, refl)
 
--- package p; service S { rpc R (X) returns (X); } and package p.S; message R {}: the service is the first offence
+-- service S { rpc R (X) returns (X); rpc R (X) returns (X); }: the later one is the offence
+abbrev later_rpc : RpcDecl
+later_rpc = record { name = word (codes "R") 5; input = word (codes "X") 6; output = word (codes "X") 7 }
+
+abbrev two_of_one_name : ServiceDecl
+two_of_one_name = record { name = word (codes "S") 1; file = 0; rpcs = an_rpc ∷ later_rpc ∷ [] }
+
+rpc_row : IsOffence (file_of [] [] (two_of_one_name ∷ []) []) DuplicateName (at 5)
+rpc_row =
+    offends (Offences.twice (at 5)
+    (Offences.two_rpcs two_of_one_name an_rpc later_rpc (0, omega arith, refl) (0, omega arith, refl)
+    (1, omega arith, refl) refl (omega arith) refl) (refl, refl))
+
+-- ---- a service may have the full name of a package
+
+only_one : {X : Type 0} (x y : X) (i : ℕ) → slice_get (x ∷ []) i ≡ Some y → x ≡ y
+only_one x y zero e = same_Some x y e
+only_one x y (suc i) e = absurd (none-some y e)
+
+in_one_of : {X : Type 0} (x y : X) → Contains (x ∷ []) y → x ≡ y
+in_one_of x y c = let p = contains_get (x ∷ []) y c in only_one x y p.0 p.1
+
+file_scope : {F : Joined} {k : ℕ} {s : List (List ℕ)} → IsScope F (home.File k) s → s ≡ package_at F k
+file_scope (of_file k) = refl
+
+-- package p; service S { rpc R (X) returns (X); } and package p.S; message R {}: neither is declared twice
+abbrev r_of_package_s : MessageDecl
+r_of_package_s = message_at 1 (codes "R") 11
+
 abbrev of_package_s : Joined
 of_package_s =
-    two_files (Some (word (codes "p") 0)) (Some (word (codes "p.S") 10)) (message_at 1 (codes "R") 11 ∷ [])
-    (a_service ∷ [])
+    two_files (Some (word (codes "p") 0)) (Some (word (codes "p.S") 10)) (r_of_package_s ∷ []) (a_service ∷ [])
 
-service_row : Offends of_package_s DuplicateName (at 1)
-service_row =
-    Offences.twice (at 1)
-    (Offences.a_service_package a_service (0, omega arith, refl) (record { file = 1; rest = []; begins = refl }) refl)
-    (refl, refl)
+data IsOfThese (sort : Sort) (full : List (List ℕ)) (span : Span) : Type 0 where
+  the_service : sort ≡ no_type → length full ≡ 2 → span.start ≡ 1 → IsOfThese sort full span
+  the_message : length full ≡ 3 → span.start ≡ 11 → IsOfThese sort full span
 
-method_row : Offends of_package_s DuplicateName (at 11)
-method_row =
-    Offences.twice (at 11)
-    (Offences.declared 0 1 no_type a_message (codes "p" ∷ codes "S" ∷ codes "R" ∷ []) (at 2)
-    (rpc a_service an_rpc (0, omega arith, refl) (0, omega arith, refl))
-    (message _ (0, omega arith, refl) (of_file 1)) (omega arith)) (refl, refl)
+service_here : (s : ServiceDecl) → a_service ≡ s
+    → IsOfThese no_type (package_at of_package_s s.file ++ s.name.name ∷ []) s.name.span
+service_here s e =
+    subst (λ (x : ServiceDecl). IsOfThese no_type (package_at of_package_s x.file ++ x.name.name ∷ []) x.name.span) e
+    (the_service refl refl refl)
+
+message_here : (m : MessageDecl) (outer : List (List ℕ)) → r_of_package_s ≡ m → IsScope of_package_s (home_of m) outer
+    → IsOfThese a_message (outer ++ m.name.name ∷ []) m.name.span
+message_here m outer e is =
+    let scope : IsScope of_package_s (home.File 1) outer =
+    subst (λ (x : MessageDecl). IsScope of_package_s (home_of x) outer) (sym e) is in
+    let full : length (outer ++ codes "R" ∷ []) ≡ 3 =
+    ap (λ (o : List (List ℕ)). length (o ++ codes "R" ∷ [])) (file_scope scope) in
+    subst (λ (x : MessageDecl). IsOfThese a_message (outer ++ x.name.name ∷ []) x.name.span) e (the_message full refl)
+
+declared_these : {k : ℕ} {sort : Sort} {full : List (List ℕ)} {span : Span} → Declares of_package_s k sort full span
+    → IsOfThese sort full span
+declared_these (Scopes.message m {outer} c is) = message_here m outer (in_one_of r_of_package_s m c) is
+declared_these (Scopes.enum e c is) = absurd (nothing_in e c)
+declared_these (Scopes.service s c) = service_here s (in_one_of a_service s c)
+declared_these (Scopes.value e v c d is) = absurd (nothing_in e c)
+declared_these (Scopes.field m f c d is) =
+    absurd (nothing_in f (subst (λ (x : MessageDecl). Contains x.fields f) (sym (in_one_of r_of_package_s m c)) d))
+declared_these (Scopes.oneof m o c d is) =
+    absurd (nothing_in o (subst (λ (x : MessageDecl). Contains x.oneofs o) (sym (in_one_of r_of_package_s m c)) d))
+
+apart_here : {a b : Sort} {full : List (List ℕ)} {s t : Span} → IsOfThese a full s → IsOfThese b full t
+    → s.start < t.start → ⊥
+apart_here (the_service sort parts start) (the_service tort marts dart) l = omega arith
+apart_here (the_service sort parts start) (the_message marts dart) l = omega arith
+apart_here (the_message parts start) (the_service tort marts dart) l = omega arith
+apart_here (the_message parts start) (the_message marts dart) l = omega arith
+
+package_small : (k : ℕ) → length (package_at of_package_s k) ≤ 2
+package_small zero = omega arith
+package_small (suc zero) = omega arith
+package_small (suc (suc k)) = omega arith
+
+no_front : {sort : Sort} {full : List (List ℕ)} {span : Span} → IsOfThese sort full span → is_type sort ≡ true
+    → IsFront of_package_s full → ⊥
+no_front (the_service sort parts start) typ front = false≢true (sym (ap is_type sort) ∙ typ)
+no_front {full = full} (the_message parts start) typ front =
+    let n : length (package_at of_package_s front.file) ≡ length (full ++ front.rest) = ap length front.begins in
+    omega (arith, package_small front.file, length-append full front.rest)
+
+one_rpc : (s : ServiceDecl) (r x : RpcDecl) → a_service ≡ s → Contains s.rpcs r → Contains s.rpcs x
+    → r.name.span.start < x.name.span.start → ⊥
+one_rpc s r x e c d l =
+    let own : (y : RpcDecl) → Contains s.rpcs y → an_rpc ≡ y =
+    λ y g. in_one_of an_rpc y (subst (λ (z : ServiceDecl). Contains z.rpcs y) (sym e) g) in
+    let a : 2 ≡ r.name.span.start = ap (λ (y : RpcDecl). y.name.span.start) (own r c) in
+    let b : 2 ≡ x.name.span.start = ap (λ (y : RpcDecl). y.name.span.start) (own x d) in
+    omega arith
+
+service_row : (s : Span) → IsTwice of_package_s s → ⊥
+service_row s (Offences.declared j k a b full earlier d e l) = apart_here (declared_these d) (declared_these e) l
+service_row s (Offences.a_package k sort full d t front) = no_front (declared_these d) t front
+service_row s (Offences.two_rpcs x r u c d e name l is) = one_rpc x r u (in_one_of a_service x c) d e l
 
 -- ---- whole answers: a file of which nothing but imports is said
 
@@ -266,7 +346,6 @@ no_declaration imports file sort full s (Scopes.service x c) = nothing_in x c
 no_declaration imports file sort full s (Scopes.value e v c d is) = nothing_in e c
 no_declaration imports file sort full s (Scopes.field m f c d is) = nothing_in m c
 no_declaration imports file sort full s (Scopes.oneof m o c d is) = nothing_in m c
-no_declaration imports file sort full s (Scopes.rpc x r c d) = nothing_in x c
 
 no_line : (imports : List Import) (s : Span) (line : List ℕ)
     → HasLine (alone (file_of [] [] [] imports)) s line → ⊥
@@ -279,7 +358,7 @@ no_line imports s line (Lines.of_method x r i at a b) = none-some (x, r) at
 not_twice : (imports : List Import) (s : Span) → IsTwice (alone (file_of [] [] [] imports)) s → ⊥
 not_twice imports s (Offences.declared j k a b full earlier d e l) = no_declaration imports k b full s e
 not_twice imports s (Offences.a_package k sort full d t front) = no_declaration imports k sort full s d
-not_twice imports s (Offences.a_service_package x c front e) = nothing_in x c
+not_twice imports s (Offences.two_rpcs x r u c d e name l is) = nothing_in x c
 
 not_long : (imports : List Import) (s : Span) → IsLongInFull (alone (file_of [] [] [] imports)) s → ⊥
 not_long imports s (Offences.a_type k sort full d t l) = no_declaration imports k sort full s d
@@ -327,3 +406,70 @@ import_first = record {
   offence = import_row;
   first = λ r t o. import_comes r t o;
 }
+
+-- ---- whole answers: service p {} in a file without a package, the other file has package p
+
+abbrev service_p : ServiceDecl
+service_p = record { name = word (codes "p") 1; file = 0; rpcs = [] }
+
+abbrev with_package_p : Joined
+with_package_p = two_files None (Some (word (codes "p") 10)) [] (service_p ∷ [])
+
+declared_p : {k : ℕ} {sort : Sort} {full : List (List ℕ)} {span : Span} → Declares with_package_p k sort full span
+    → (sort ≡ no_type) × (span.start ≡ 1)
+declared_p (Scopes.message m c is) = absurd (nothing_in m c)
+declared_p (Scopes.enum e c is) = absurd (nothing_in e c)
+declared_p (Scopes.service s c) =
+    (refl, ap (λ (x : ServiceDecl). x.name.span.start) (sym (in_one_of service_p s c)))
+declared_p (Scopes.value e v c d is) = absurd (nothing_in e c)
+declared_p (Scopes.field m f c d is) = absurd (nothing_in m c)
+declared_p (Scopes.oneof m o c d is) = absurd (nothing_in m c)
+
+no_type_here : {k : ℕ} {sort : Sort} {full : List (List ℕ)} {span : Span} → Declares with_package_p k sort full span
+    → is_type sort ≡ true → ⊥
+no_type_here d typ = false≢true (sym (ap is_type (declared_p d).0) ∙ typ)
+
+p_not_twice : (s : Span) → IsTwice with_package_p s → ⊥
+p_not_twice s (Offences.declared j k a b full earlier d e l) = omega (arith, (declared_p d).1, (declared_p e).1, l)
+p_not_twice s (Offences.a_package k sort full d typ front) = no_type_here d typ
+p_not_twice s (Offences.two_rpcs x r u c d e name l is) =
+    nothing_in r (subst (λ (y : ServiceDecl). Contains y.rpcs r) (sym (in_one_of service_p x c)) d)
+
+p_not_long : (s : Span) → IsLongInFull with_package_p s → ⊥
+p_not_long s (Offences.a_type k sort full d typ l) = no_type_here d typ
+p_not_long s (Offences.a_service x c l e) =
+    let k : 255 < 1 =
+    subst (λ (y : ServiceDecl). 255 < length (text_of (package_at with_package_p y.file ++ y.name.name ∷ [])))
+    (sym (in_one_of service_p x c)) l in
+    omega arith
+
+p_no_line : (s : Span) (line : List ℕ) → HasLine with_package_p s line → ⊥
+p_no_line s line (Lines.of_message m c is) = nothing_in m c
+p_no_line s line (Lines.of_enum e c is) = nothing_in e c
+p_no_line s line (Lines.of_value e v h fits) = nothing_in e h.enum
+p_no_line s line (Lines.of_field m f n h e k form) = none-some m h.message
+p_no_line s line (Lines.of_method x r i at a b) = none-some (x, r) at
+
+p_short_package : (k : ℕ) (h : Head) (w : Word) → slice_get with_package_p.heads k ≡ Some h → h.package ≡ Some w
+    → is_short_full w.name ≡ true
+p_short_package zero h w at e =
+    absurd (none-some w (ap (λ (x : Head). x.package) (same_Some (head None) h at) ∙ e))
+p_short_package (suc zero) h w at e =
+    let name = word (codes "p") 10 in
+    let same : Some name ≡ Some w = ap (λ (x : Head). x.package) (same_Some (head (Some name)) h at) ∙ e in
+    ap (λ (x : Word). is_short_full x.name) (sym (same_Some name w same))
+p_short_package (suc (suc k)) h w at e = absurd (none-some h at)
+
+p_clean : (q : ResolveReason) (s : Span) → Offends with_package_p q s → ⊥
+p_clean q s (Offences.of_message i m at is o) = none-some m at
+p_clean q s (Offences.of_enum i e at o) = none-some e at
+p_clean q s (Offences.of_service i x at o) =
+    false≢true (sym o.0 ∙ ap (λ (y : ServiceDecl). is_short y.name.name) (sym (only_one service_p x i at)))
+p_clean q s (Offences.of_method i x r at o) = none-some (x, r) at
+p_clean q s (Offences.of_package k h w at e l is) = false≢true (sym l ∙ p_short_package k h w at e)
+p_clean q s (Offences.twice span t is) = p_not_twice span t
+p_clean q s (Offences.long_in_full span t is) = p_not_long span t
+p_clean q s (Offences.long_text span p is) =
+    p_no_line span p.own
+    (subst (λ (l : Span × List ℕ). HasLine with_package_p l.0 l.1) p.last.2
+    (p.are p.last.0 (span, p.own) p.last.1))

@@ -167,10 +167,6 @@ declared_stands F file sort full s (Scopes.oneof m w c d is) =
     let p = placed F.messages m c in
     let o = placed m.oneofs w d in
     (oneof_decl p.0 o.0, its_name, Together.oneof p.0 o.0 m w p.1 o.1 refl)
-declared_stands F file sort full s (Scopes.rpc x r c d) =
-    let p = placed F.services x c in
-    let o = placed x.rpcs r d in
-    (rpc_decl p.0 o.0, its_name, Together.rpc p.0 o.0 x r p.1 o.1 (Order.rpc_name refl))
 
 line_stands : (F : Joined) (s : Span) (line : List ℕ) → HasLine F s line → Stands F s
 line_stands F s line (Lines.of_message m c is) =
@@ -195,9 +191,10 @@ line_stands F s line (Lines.of_method x r i at a b) =
 twice_stands : (F : Joined) (s : Span) → IsTwice F s → Stands F s
 twice_stands F s (Offences.declared j k a b full earlier d e l) = declared_stands F k b full s e
 twice_stands F s (Offences.a_package k sort full d t front) = declared_stands F k sort full s d
-twice_stands F s (Offences.a_service_package x c front e) =
+twice_stands F s (Offences.two_rpcs x r t c d e name l is) =
     let p = placed F.services x c in
-    (service_decl p.0, its_name, Together.service p.0 x p.1 e)
+    let o = placed x.rpcs t e in
+    (rpc_decl p.0 o.0, its_name, Together.rpc p.0 o.0 x t p.1 o.1 (Order.rpc_name is))
 
 long_stands : (F : Joined) (s : Span) → IsLongInFull F s → Stands F s
 long_stands F s (Offences.a_type k sort full d t l) = declared_stands F k sort full s d

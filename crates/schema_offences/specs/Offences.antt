@@ -23,15 +23,17 @@ use Rattle.schema_offences.specs.declared.reason.ResolveReason.TheVariants.{Unkn
 
 -- ---- full names
 
--- what files declare twice, or what is a type or a service, and a package too, or a front of one
+-- what files declare twice, or what is a type, and a package too, or a front of one
 pub data IsTwice (F : Joined) (span : Span) : Type 0 where
   -- two things of one scope, at the later one
   declared : (j k : ℕ) (a b : Sort) (full : List (List ℕ)) (earlier : Span) → Declares F j a full earlier
       → Declares F k b full span → earlier.start < span.start → IsTwice F span
+  -- a type that is a package too
   a_package : (k : ℕ) (sort : Sort) (full : List (List ℕ)) → Declares F k sort full span → is_type sort ≡ true
       → IsFront F full → IsTwice F span
-  a_service_package : (s : ServiceDecl) → Contains F.services s
-      → IsFront F (package_at F s.file ++ s.name.name ∷ []) → span ≡ s.name.span → IsTwice F span
+  -- two rpcs of one service, at the later one
+  two_rpcs : (s : ServiceDecl) (r x : RpcDecl) → Contains F.services s → Contains s.rpcs r → Contains s.rpcs x
+      → r.name.name ≡ x.name.name → r.name.span.start < x.name.span.start → span ≡ x.name.span → IsTwice F span
 
 -- a message, enum or service whose full name has more than 255 bytes
 pub data IsLongInFull (F : Joined) (span : Span) : Type 0 where

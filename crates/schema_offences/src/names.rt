@@ -1,7 +1,7 @@
 //! Which names are declared twice in a scope.
 
 ghost use Rattle.std.specs.Prelude.{◌≡◌, ◌<◌, ◌+◌, ◌⊎◌, ◌↔◌, ◌++◌, ◌∷◌, [], ℕ, List, Option, Some, None, slice_get, length, map, true, IfOk, OnOk};
-ghost use Rattle.proto_file.specs.Together.{IsFormed, IsOrdered};
+ghost use Rattle.proto_file.specs.Together.{IsFormed};
 ghost use Rattle.proto_file.specs.Joined.{home_of, enum_home_of};
 ghost use Rattle.proto_file.specs.declared.joined.Home.TheVariants as home;
 ghost use Rattle.schema_names.specs.Numbers.{StandBehind, IsPlace, scope_count};
@@ -313,20 +313,7 @@ fn note_enum_packages<'a>(files: &Joined<'a>, scopes: &Scopes<'a>, first: &mut F
     }
 }
 
-fn note_service_packages<'a>(files: &Joined<'a>, scopes: &Scopes<'a>, first: &mut First)
-    requires formed { IsFormed files.now }
-    requires scopes { scopes.now ≡ files.now }
-    ensures { Meets (AtSome (OfElement files.now.services (λ i x. IsPackageNamed files.now (home.File x.file) x.name)))
-        first.old first.new }
-{
-    let services = files.services();
-    for i in 0..services.len() {
-        let service = &services[i];
-        note_package_name(scopes, Home::File(service.file), &service.name, first);
-    }
-}
-
-/// Meets each name that an earlier thing of its scope has, and each type or service that has the name of a package.
+/// Meets each name that an earlier thing of its scope has, and each type that has the name of a package.
 pub fn note_duplicates<'a>(
     alloc: Global,
     files: &Joined<'a>,
@@ -334,7 +321,6 @@ pub fn note_duplicates<'a>(
     first: &mut First,
 ) -> Result<(), Memory>
     requires formed { IsFormed files.now }
-    requires ordered { IsOrdered files.now }
     requires scopes { scopes.now ≡ files.now }
     ensures { OnOk result (Meets (TwiceIn files.now) first.old first.new) }
 {
@@ -348,6 +334,5 @@ pub fn note_duplicates<'a>(
     note_later(&names, &starts, first);
     note_message_packages(files, scopes, first);
     note_enum_packages(files, scopes, first);
-    note_service_packages(files, scopes, first);
     Ok(())
 }

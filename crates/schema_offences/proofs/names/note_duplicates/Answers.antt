@@ -1,6 +1,5 @@
 use Rattle.std.proofs.Common.{◌⊎◌, ap, subst}
 use Rattle.proto_file.specs.Joined.{home_of, enum_home_of}
-use Rattle.proto_file.specs.declared.joined.Home.TheVariants as home
 use Rattle.schema_offences.specs.Entries.{entries_of, IsLater, IsPackageNamed}
 use Rattle.schema_offences.specs.Meeting.{Meets, AtSome, OfElement}
 use Rattle.schema_offences.proofs.Formed.{stand_behind}
@@ -36,7 +35,6 @@ returns c =
     let later = AtSome (OfElement all (IsLater all)) in
     let ms = AtSome (OfElement F.messages (λ i m. IsPackageNamed F (home_of m) m.name)) in
     let es = AtSome (OfElement F.enums (λ i e. IsPackageNamed F (enum_home_of e) e.name)) in
-    let xs = AtSome (OfElement F.services (λ i x. IsPackageNamed F (home.File x.file) x.name)) in
     let met : Meets later c.args.first.now c.note_later.new.first =
     subst (λ ds. Meets (AtSome (OfElement (entries_of ds) (IsLater (entries_of ds))))
     c.args.first.now c.note_later.new.first)
@@ -45,7 +43,4 @@ returns c =
     c.note_message_packages.ensures in
     let two = meets_then (λ q s. later q s ⊎ ms q s) es c.args.first.now c.note_message_packages.new.first
     c.note_enum_packages.new.first one c.note_enum_packages.ensures in
-    let three = meets_then (λ q s. (later q s ⊎ ms q s) ⊎ es q s) xs c.args.first.now
-    c.note_enum_packages.new.first c.note_service_packages.new.first two c.note_service_packages.ensures in
-    meets_twice F all laws (stand_behind F c.requires.formed) c.requires.ordered numbered kept
-    c.args.first.now c.note_service_packages.new.first three
+    meets_twice F all laws numbered kept c.args.first.now c.note_enum_packages.new.first two
