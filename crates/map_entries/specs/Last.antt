@@ -21,7 +21,11 @@ key_cmp k i j = slice_cmp nat_cmp (key_code k i) (key_code k j)
 -- a pair at its key's place in ascending order; a key that is there stays as it is
 abbrev pub with_pair : Kind → Item → Item → Pairs → Pairs
 with_pair key k v no_pairs = pair k v no_pairs
-with_pair key k v (pair l w ps) = elim (key_cmp key k l) [ Less ↦ pair k v (pair l w ps) | Equal ↦ pair l w ps | Greater ↦ pair l w (with_pair key k v ps) ]
+with_pair key k v (pair l w ps) = elim (key_cmp key k l) [
+  | Less ↦ pair k v (pair l w ps)
+  | Equal ↦ pair l w ps
+  | Greater ↦ pair l w (with_pair key k v ps)
+]
 
 -- each key once, by ascending key, with the value of its last entry
 abbrev pub last_of_each : Kind → List (Item × Item) → Pairs

@@ -90,7 +90,8 @@ abbrev mutual
   pub entries_bytes : Table → ℕ → Kind → Kind → Pairs → List ℕ
   entries_bytes T n key k no_pairs = []
   entries_bytes T n key k (pair i j ps) =
-      (tag n wire_len ++ delimited ((tag 1 (wire_type_of key) ++ item_bytes T key i) ++ (tag 2 (wire_type_of k) ++ item_bytes T k j)))
+      (tag n wire_len
+      ++ delimited ((tag 1 (wire_type_of key) ++ item_bytes T key i) ++ (tag 2 (wire_type_of k) ++ item_bytes T k j)))
       ++ entries_bytes T n key k ps
 
 -- the encoding of a tree of the message at a place of the table

@@ -3,6 +3,7 @@
 use Rattle.std.specs.Prelude.{◌≡◌, ◌≢◌, ℕ, ◌+◌, ◌*◌, ◌/◌, ◌%◌, ◌^◌, ◌<◌, ◌≤◌, ◌⊎◌, List, [], ◌∷◌, length, drop, All, slice_range}
 use Rattle.std.specs.Int.{w32, w64, from_le_bytes}
 use Rattle.mrpc_table.specs.WireTypes.{wire_varint, wire_i64, wire_len, wire_i32}
+use Rattle.wire_base.specs.declared.varint.TheConstants.{MAX_VARINT}
 use Rattle.wire_base.specs.declared.records.Payload.{Payload}
 use Rattle.wire_base.specs.declared.records.Payload.TheVariants.{Varint, I64, I32, Len}
 use Rattle.wire_base.specs.declared.records.Record.{Record}
@@ -24,7 +25,7 @@ group_sum (b ∷ bs) = b % 128 + 128 * group_sum bs
 -- a varint of one to ten bytes; bits above 64 are dropped
 pub record IsVarint (bytes : List ℕ) (v : ℕ) : Type 0 where
   pub form : HasVarintForm bytes
-  pub short : length bytes ≤ 10
+  pub short : length bytes ≤ MAX_VARINT
   pub value : v ≡ group_sum bytes % 2 ^ 64
 
 -- a varint stands at this place, and the next place is behind it
@@ -34,12 +35,12 @@ pub record VarintAt (bytes : List ℕ) (at v next : ℕ) : Type 0 where
 
 -- ten bytes with the top bit set stand at this place
 pub record TooLongAt (bytes : List ℕ) (at : ℕ) : Type 0 where
-  pub ten : at + 10 ≤ length bytes
-  pub top : All (λ b. 128 ≤ b) (slice_range bytes at (at + 10))
+  pub ten : at + MAX_VARINT ≤ length bytes
+  pub top : All (λ b. 128 ≤ b) (slice_range bytes at (at + MAX_VARINT))
 
 -- the bytes end after fewer than ten bytes with the top bit set
 pub record EndsAt (bytes : List ℕ) (at : ℕ) : Type 0 where
-  pub fewer : length bytes < at + 10
+  pub fewer : length bytes < at + MAX_VARINT
   pub top : All (λ b. 128 ≤ b) (drop at bytes)
 
 -- why no varint stands at this place

@@ -5,8 +5,12 @@ ghost use Rattle.std.specs.Prelude.{◌≡◌, ℕ, ◌+◌, ◌%◌, ◌<◌, �
 ghost use Rattle.wire_base.specs.Records.{RecordAt, FaultAt, PayloadAt, NoPayloadAt, TagAt, IsWireType, IsWithin};
 ghost use Rattle.wire_base.specs.declared.records.Record.{Record};
 ghost use Rattle.wire_base.specs.declared.fault.WireFault.{WireFault};
+ghost use Rattle.wire_base.specs.declared.fault.WireReason.TheVariants.{Short};
+ghost use Rattle.wire_base.specs.declared.records.Payload.TheVariants.{Len};
+ghost use Rattle.mrpc_table.specs.WireTypes.{wire_len};
 
 use crate::fault::{WireFault, WireReason};
+use crate::fixed::{read_fixed32, read_fixed64};
 use crate::varint::read_varint;
 
 /// What a record has behind its tag.
@@ -118,12 +122,9 @@ fn i64_payload(bytes: &[u8], start: usize) -> Result<(Payload, usize), WireFault
     ensures found { IfOk result (λ p. PayloadAt bytes.now start 1 p.0 p.1) }
     ensures fault { IfErr result (λ f. (f.place ≡ start) × NoPayloadAt bytes.now start 1 f.reason) }
 {
-    match bytes[start..].first_chunk::<8>() {
-        Some(chunk) => Ok((Payload::I64(u64::from_le_bytes(*chunk)), start + 8)),
-        None => Err(WireFault {
-            reason: WireReason::Short,
-            place: start,
-        }),
+    match read_fixed64(bytes, start) {
+        Some((v, next)) => Ok((Payload::I64(v), next)),
+        None => Err(short(start)),
     }
 }
 
@@ -132,12 +133,9 @@ fn i32_payload(bytes: &[u8], start: usize) -> Result<(Payload, usize), WireFault
     ensures found { IfOk result (λ p. PayloadAt bytes.now start 5 p.0 p.1) }
     ensures fault { IfErr result (λ f. (f.place ≡ start) × NoPayloadAt bytes.now start 5 f.reason) }
 {
-    match bytes[start..].first_chunk::<4>() {
-        Some(chunk) => Ok((Payload::I32(u32::from_le_bytes(*chunk)), start + 4)),
-        None => Err(WireFault {
-            reason: WireReason::Short,
-            place: start,
-        }),
+    match read_fixed32(bytes, start) {
+        Some((v, next)) => Ok((Payload::I32(v), next)),
+        None => Err(short(start)),
     }
 }
 
@@ -146,14 +144,34 @@ fn len_payload(bytes: &[u8], start: usize) -> Result<(Payload, usize), WireFault
     ensures found { IfOk result (λ p. PayloadAt bytes.now start 2 p.0 p.1) }
     ensures fault { IfErr result (λ f. (f.place ≡ start) × NoPayloadAt bytes.now start 2 f.reason) }
 {
-    let (len, first) = read_varint(bytes, start)?;
+    let (first, end) = read_delimited(bytes, start)?;
+    Ok((Payload::Len { start: first, end }, end))
+}
+
+/// The bytes behind a length that stands at the place `at`: the place of the first one, and the place behind the last
+/// one. The fault's place is `at`.
+#[inline(always)]
+pub fn read_delimited(bytes: &[u8], at: usize) -> Result<(usize, usize), WireFault>
+    requires { at ≤ length bytes.now }
+    ensures found { IfOk result (λ r. PayloadAt bytes.now at wire_len (Len r.0 r.1) r.1) }
+    ensures fault { IfErr result (λ f. (f.place ≡ at) × NoPayloadAt bytes.now at wire_len f.reason) }
+    ensures ahead { IfOk result (λ r. at < r.0) }
+    ensures order { IfOk result (λ r. r.0 ≤ r.1) }
+    ensures within { IfOk result (λ r. r.1 ≤ length bytes.now) }
+{
+    let (len, first) = read_varint(bytes, at)?;
     if len > (bytes.len() - first) as u64 {
-        return Err(WireFault {
-            reason: WireReason::Short,
-            place: start,
-        });
+        return Err(short(at));
     }
-    let end = first + len as usize;
-    let payload = Payload::Len { start: first, end };
-    Ok((payload, end))
+    Ok((first, first + len as usize))
+}
+
+/// The bytes end inside what stands at the place.
+fn short(place: usize) -> WireFault
+    ensures { result ≡ record { reason = Short; place = place } }
+{
+    WireFault {
+        reason: WireReason::Short,
+        place,
+    }
 }

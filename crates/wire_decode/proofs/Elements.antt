@@ -8,7 +8,7 @@ use Rattle.mrpc_table.specs.declared.table.Kind.TheVariants.{Int32, Int64, Uint3
 use Rattle.mrpc_table.specs.WireTypes.{wire_type_of}
 use Rattle.wire_base.specs.Records.{PayloadAt, VarintAt}
 use Rattle.wire_base.specs.declared.records.Payload.{Payload}
-use Rattle.wire_base.specs.declared.records.Payload.TheVariants.{Varint, I64, I32}
+use Rattle.wire_base.specs.declared.records.Payload.TheVariants.{Varint, I64}
 use Rattle.wire_decode.proofs.WireLaws.{OnePayload}
 use Rattle.wire_decode.specs.Words.{AreElements, number_in, word_of}
 use Rattle.wire_decode.specs.Reads.{numbers}
@@ -20,10 +20,6 @@ IsElement bytes at w e = (p : Payload) × PayloadAt bytes at w p e.1 × (e.0 ≡
 pub eight-element : (bytes : List ℕ) (at w : ℕ) (r : Option (ℕ × ℕ)) → w ≡ 1 → IfSome r (λ e. PayloadAt bytes at 1 (I64 e.0) e.1) → IfSome r (IsElement bytes at w)
 eight-element bytes at w None is h = tt
 eight-element bytes at w (Some e) is h = (I64 e.0, (is, h.1, h.2, h.3), refl)
-
-pub four-element : (bytes : List ℕ) (at w : ℕ) (r : Option (ℕ × ℕ)) → w ≡ 5 → IfSome r (λ e. PayloadAt bytes at 5 (I32 e.0) e.1) → IfSome r (IsElement bytes at w)
-four-element bytes at w None is h = tt
-four-element bytes at w (Some e) is h = (I32 e.0, (is, h.1, h.2, h.3), refl)
 
 pub varint-element : (bytes : List ℕ) (at w : ℕ) (r : Option (ℕ × ℕ)) → w ≡ 0 → IfSome r (λ e. VarintAt bytes at e.0 e.1) → IfSome r (IsElement bytes at w)
 varint-element bytes at w None is h = tt

@@ -1,6 +1,6 @@
 -- The first fault of a byte string that isn't a message of the table: sound records stand one behind another up to
 -- a place, and there no record stands, or the payload of a known field fails.
-use Rattle.std.specs.Prelude.{◌≡◌, ℕ, suc, ◌<◌, true, false, List, [], ◌∷◌, length, take, Some, slice_range}
+use Rattle.std.specs.Prelude.{◌-◌, ◌≡◌, ℕ, suc, ◌<◌, true, false, List, [], ◌∷◌, length, take, Some, slice_range}
 use Rattle.std.specs.Str.{IsUtf8}
 use Rattle.mrpc_table.specs.Node.{Node}
 use Rattle.mrpc_table.specs.Normal.{fields_of, field_at}
@@ -8,6 +8,7 @@ use Rattle.mrpc_table.specs.declared.table.Kind.{Kind}
 use Rattle.mrpc_table.specs.declared.table.Kind.TheVariants.{Text, Message as OfMessage}
 use Rattle.mrpc_table.specs.declared.table.Label.TheVariants.{Map}
 use Rattle.mrpc_table.specs.declared.table.Field.{Field}
+use Rattle.mrpc_table.specs.declared.limits.TheConstants.{MAX_DEPTH}
 use Rattle.mrpc_table.specs.declared.table.Table.{Table}
 use Rattle.wire_base.specs.Records.{RecordAt, FaultAt}
 use Rattle.wire_base.specs.declared.records.Record.{Record}
@@ -81,7 +82,7 @@ mutual
 
 -- the first fault of the bytes as a message at a place of the table
 abbrev pub IsFirstFault : Table → ℕ → List ℕ → DecodeReason → ℕ → Type 0
-IsFirstFault T msg bytes reason place = FirstFault T 31 (fields_of T msg) bytes 0 reason place
+IsFirstFault T msg bytes reason place = FirstFault T (MAX_DEPTH - 1) (fields_of T msg) bytes 0 reason place
 
 -- the fault is one of these, unless no memory was found
 abbrev pub FaultsAs : (DecodeReason → ℕ → Type 0) → DecodeFault → Type 0

@@ -1,10 +1,12 @@
 -- What a byte string means as a message of a table (Protocol Buffers, "Encoding").
-use Rattle.std.specs.Prelude.{ℕ, List}
+use Rattle.std.specs.Prelude.{◌-◌, ℕ, List}
 use Rattle.mrpc_table.specs.Node.{Node}
 use Rattle.mrpc_table.specs.Normal.{fields_of}
+use Rattle.mrpc_table.specs.declared.limits.TheConstants.{MAX_DEPTH}
 use Rattle.mrpc_table.specs.declared.table.Table.{Table}
 use Rattle.wire_decode.specs.Meaning.{MeansIn}
 
--- the message at a place of the table that the bytes mean; 31 messages at most stand in one another inside
+-- the message at a place of the table that the bytes mean; MAX_DEPTH messages at most stand in one another, itself
+-- the first
 pub record Means (T : Table) (msg : ℕ) (bytes : List ℕ) (t : Node) : Type 0 where
-  pub meaning : MeansIn T 31 (fields_of T msg) bytes t
+  pub meaning : MeansIn T (MAX_DEPTH - 1) (fields_of T msg) bytes t

@@ -1,9 +1,10 @@
 //! Laws of the definitions. These functions do nothing; their clauses hold.
 
-ghost use Rattle.std.specs.Prelude.{◌≡◌, ◌<◌, ◌^◌, ◌⊎◌, ◌++◌, ℕ, List, length, All};
+ghost use Rattle.std.specs.Prelude.{◌≡◌, ◌-◌, ◌<◌, ◌^◌, ◌⊎◌, ◌++◌, ℕ, List, length, All};
 ghost use Rattle.mrpc_table.specs.Node.{Node, Item};
 ghost use Rattle.mrpc_table.specs.Normal.{IsNormal, fields_of};
 ghost use Rattle.mrpc_table.specs.Valid.{IsValid};
+ghost use Rattle.mrpc_table.specs.declared.limits.TheConstants.{MAX_DEPTH};
 ghost use Rattle.mrpc_table.specs.declared.table.Table.{Table};
 ghost use Rattle.mrpc_table.specs.declared.table.Field.{Field};
 ghost use Rattle.wire_base.specs.Encoding.{encoding};
@@ -74,11 +75,14 @@ pub fn meaning_of_encoding()
 pub fn meaning_of_joined_strings()
     ensures reads { (T : Table) (room : ℕ) (fs : List Field) (a b : List ℕ) (t u : Node) → Reads T room fs a 0 t
         → Reads T room fs b 0 u → Reads T room fs (a ++ b) 0 (join_fields t u) }
-    ensures merges { (T : Table) (msg : ℕ) (a b : List ℕ) (t u : Node) → Reads T 31 (fields_of T msg) a 0 t
-        → Reads T 31 (fields_of T msg) b 0 u → Merges T msg (a ++ b) (merged T 32 msg (join_fields t u)) }
+    ensures merges { (T : Table) (msg : ℕ) (a b : List ℕ) (t u : Node)
+        → Reads T (MAX_DEPTH - 1) (fields_of T msg) a 0 t
+        → Reads T (MAX_DEPTH - 1) (fields_of T msg) b 0 u
+        → Merges T msg (a ++ b) (merged T MAX_DEPTH msg (join_fields t u)) }
     ensures means { (T : Table) (msg : ℕ) (a b : List ℕ) (t u : Node) → AllAscend T
-        → Reads T 31 (fields_of T msg) a 0 t → Reads T 31 (fields_of T msg) b 0 u
-        → Means T msg (a ++ b) (merged T 32 msg (join_fields t u)) }
+        → Reads T (MAX_DEPTH - 1) (fields_of T msg) a 0 t
+        → Reads T (MAX_DEPTH - 1) (fields_of T msg) b 0 u
+        → Means T msg (a ++ b) (merged T MAX_DEPTH msg (join_fields t u)) }
 
     // The payloads of a singular message mean together what their joined bytes mean.
     ensures payloads { (T : Table) (room : ℕ) (fs : List Field) (strings : List (List ℕ)) (messages : List Item)
@@ -95,9 +99,9 @@ pub fn rules_and_reader_agree()
     ensures meant { (T : Table) (msg : ℕ) (bytes : List ℕ) (t : Node) → AllAscend T → Merges T msg bytes t
         → Means T msg bytes t }
     ensures met { (T : Table) (msg : ℕ) (bytes : List ℕ) (reason : DecodeReason) (place : ℕ)
-        → IsFirstFault T msg bytes reason place → Faults T 31 (fields_of T msg) bytes 0 reason place }
+        → IsFirstFault T msg bytes reason place → Faults T (MAX_DEPTH - 1) (fields_of T msg) bytes 0 reason place }
     ensures first { (T : Table) (msg : ℕ) (bytes : List ℕ) (reason : DecodeReason) (place : ℕ)
-        → Faults T 31 (fields_of T msg) bytes 0 reason place → IsFirstFault T msg bytes reason place }
+        → Faults T (MAX_DEPTH - 1) (fields_of T msg) bytes 0 reason place → IsFirstFault T msg bytes reason place }
 {
     payload_or_reason();
     record_or_fault();
@@ -108,7 +112,7 @@ pub fn one_merging()
     ensures one { (T : Table) (msg : ℕ) (bytes : List ℕ) (t u : Node) → Merges T msg bytes t → Merges T msg bytes u
         → t ≡ u }
     ensures not_both { (T : Table) (msg : ℕ) (bytes : List ℕ) (t : Node) (reason : DecodeReason) (place : ℕ)
-        → Merges T msg bytes t → Faults T 31 (fields_of T msg) bytes 0 reason place → ⊥ }
+        → Merges T msg bytes t → Faults T (MAX_DEPTH - 1) (fields_of T msg) bytes 0 reason place → ⊥ }
 {
     payload_or_reason();
     record_or_fault();

@@ -1,19 +1,21 @@
 //! The decoder: the message that Protocol Buffers bytes mean, or the first fault in them.
 //!
 //! The format is that of the Protocol Buffers encoding guide. Where the records come in the order of
-//! the fields, as encoders write them, they are read straight into the tree, in vectors of earlier trees where some were
-//! taken back ([`Spare`]). Others are read in one pass into the contents of their records, in order; then each field
-//! has its value from its own records, and the tree comes with its fields by ascending number. All takes time in
+//! the fields, as encoders write them, they are read straight into the tree, in vectors of earlier trees where some
+//! were taken back ([`Spare`]). Others are read in one pass into the contents of their records, in order; then each
+//! field has its value from its own records, and the tree comes with its fields by ascending number. All takes time in
 //! proportion to the bytes, but for sorting the entries of maps. `specs/Meaning.antt` says what bytes mean, rule by
-//! rule, and `specs/Faults.antt` which fault is the first one. It stands on `mrpc_table` and `wire_base`. The layers
-//! above use one contract: the answer is the meaning, or the first fault exactly where there is no meaning.
+//! rule, and `specs/Faults.antt` which fault is the first one. It stands on `mrpc_table`, `map_entries` and
+//! `wire_base`. The layers above use one contract: the answer is the meaning, or the first fault exactly where there is
+//! no meaning.
 #![tactic(auto)]
 
-ghost use Rattle.std.specs.Prelude.{◌≡◌, ◌<◌, ◌≤◌, length, IfOk, IfErr, MatchResult};
+ghost use Rattle.std.specs.Prelude.{◌≡◌, ◌-◌, ◌<◌, ◌≤◌, length, IfOk, IfErr, MatchResult};
 ghost use Rattle.mrpc_table.specs.Valid.{IsValid};
 ghost use Rattle.mrpc_table.specs.Normal.{IsNormal};
 ghost use Rattle.mrpc_table.specs.Node.{Node};
 ghost use Rattle.mrpc_table.specs.Ascending.{AllAscend};
+ghost use Rattle.mrpc_table.specs.declared.limits.TheConstants.{MAX_DEPTH};
 ghost use Rattle.wire_decode.specs.Means.{Means};
 ghost use Rattle.wire_decode.specs.Merges.{Merges};
 ghost use Rattle.wire_decode.specs.Faults.{IsFirstFault, FaultsAs};
@@ -39,12 +41,9 @@ pub use laws::{
     meaning_is_normal, meaning_of_encoding, meaning_of_joined_strings, meaning_or_fault, one_fault,
     one_meaning, rules_and_reader_agree,
 };
-use mrpc_table::{Table, Tree};
+use mrpc_table::{MAX_DEPTH, Table, Tree};
 pub use reuse::Spare;
 use std::alloc::Global;
-
-/// How many messages may stand in one another, the outermost counting 1.
-const MAX_DEPTH: u32 = 32;
 
 /// The message at the place `msg` of the table that the bytes mean, as a tree in normal form.
 ///
@@ -101,7 +100,7 @@ fn decoded(
     requires { AllAscend table.now }
     ensures means { IfOk result (λ t. Merges table.now msg bytes.now t) }
     ensures fault { IfErr result
-        (FaultsAs (Faults table.now 31 (fields_in table.now msg) bytes.now 0)) }
+        (FaultsAs (Faults table.now (MAX_DEPTH - 1) (fields_in table.now msg) bytes.now 0)) }
     ensures only { (t : Node) → Merges table.now msg bytes.now t
         → MatchResult result (λ u. u ≡ t) (λ f. f ≡ DecodeFault.Memory) }
 {
@@ -118,7 +117,7 @@ fn merged_records(alloc: Global, bytes: &[u8], table: &Table, msg: u32) -> Resul
     requires { AllAscend table.now }
     ensures means { IfOk result (λ t. Merges table.now msg bytes.now t) }
     ensures fault { IfErr result
-        (FaultsAs (Faults table.now 31 (fields_in table.now msg) bytes.now 0)) }
+        (FaultsAs (Faults table.now (MAX_DEPTH - 1) (fields_in table.now msg) bytes.now 0)) }
     ensures only { (t : Node) → Merges table.now msg bytes.now t
         → MatchResult result (λ u. u ≡ t) (λ f. f ≡ DecodeFault.Memory) }
 {

@@ -25,7 +25,7 @@ use mrpc_table::{
     Entries, Field, FieldValue, Kind, Label, Numbered, Table, Tree, Value, Values, find_field,
 };
 use std::alloc::Global;
-use wire_base::{read_tag, read_varint};
+use wire_base::{read_delimited, read_tag};
 
 /// The fields of the message, from the place `start` to the end of the bytes, where its records come in order.
 /// `room` more messages may stand in one another inside. Vectors come from `spare` where it has some.
@@ -592,8 +592,8 @@ fn number_at(bytes: &[u8], start: usize, tag: u32, kind: Kind) -> Option<(u64, u
     ensures ahead { IfSome result (λ e. start < e.1) }
     ensures within { IfSome result (λ e. e.1 ≤ length bytes.now) }
 {
-    let wire_type = kind.wire_type() as u8;
-    if tag % 8 != u32::from(wire_type) {
+    let wire_type = kind.wire_type();
+    if u64::from(tag % 8) != wire_type {
         return None;
     }
     element(bytes, start, wire_type)
@@ -607,9 +607,5 @@ fn span_at(bytes: &[u8], start: usize) -> Option<(usize, usize)>
     ensures order { IfSome result (λ r. r.0 ≤ r.1) }
     ensures within { IfSome result (λ r. r.1 ≤ length bytes.now) }
 {
-    let (len, first) = read_varint(bytes, start).ok()?;
-    if len > (bytes.len() - first) as u64 {
-        return None;
-    }
-    Some((first, first + len as usize))
+    read_delimited(bytes, start).ok()
 }

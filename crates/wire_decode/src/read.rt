@@ -12,7 +12,6 @@ ghost use Rattle.wire_decode.specs.Words.{AreElements, number_in, suits, word_of
 ghost use Rattle.wire_decode.specs.Reads.{Reads, Holds, numbers, is_message};
 ghost use Rattle.wire_decode.specs.Parts.{IsPiece, NoPiece, IsFixedOrVarint, IsEntry, NoEntry, IsInner, NoInner};
 ghost use Rattle.std.specs.Str.{IsUtf8};
-ghost use Rattle.wire_base.specs.declared.records.Payload.TheVariants.{I64, I32};
 ghost use Rattle.wire_decode.specs.FaultWalk.{Faults, Fails, reason_of};
 ghost use Rattle.wire_decode.specs.Faults.{FaultsAs};
 ghost use Rattle.wire_decode.specs.declared.fault.DecodeReason.TheVariants.{PackedLength, Utf8};
@@ -23,7 +22,10 @@ use mrpc_table::{
     Bytes, Field, FieldValue, Kind, Label, Name, Numbered, Table, Tree, Value, Values, find_field,
 };
 use std::alloc::Global;
-use wire_base::{Payload, WireFault, WireReason, payload_or_reason, read_record, read_varint};
+use wire_base::{
+    Payload, WireFault, WireReason, payload_or_reason, read_fixed32, read_fixed64, read_record,
+    read_varint,
+};
 
 /// The contents of the records of known fields, from the place `start` to the end of the bytes.
 /// `room` more messages may stand in one another inside.
@@ -246,7 +248,7 @@ pub fn elements(
         (FaultsAs (λ reason at. (reason ≡ PackedLength) × (at ≡ start) × NoPiece kind bytes.now start)) }
 {
     payload_or_reason();
-    let wire_type = kind.wire_type() as u8;
+    let wire_type = kind.wire_type();
     values.reserve_exact(element_count(&bytes[start..], wire_type))?;
     let mut at = start;
     while at < bytes.len() {
@@ -261,7 +263,7 @@ pub fn elements(
 }
 
 /// How many elements of the wire type a packed piece has that is whole: so many find room.
-fn element_count(bytes: &[u8], wire_type: u8) -> usize {
+fn element_count(bytes: &[u8], wire_type: u64) -> usize {
     match wire_type {
         1 => bytes.len() / 8,
         5 => bytes.len() / 4,
@@ -281,7 +283,7 @@ fn ends_of_varints(bytes: &[u8]) -> usize
 }
 
 /// A number of the wire type at a place, and the place behind it.
-pub fn element(bytes: &[u8], at: usize, wire_type: u8) -> Option<(u64, usize)>
+pub fn element(bytes: &[u8], at: usize, wire_type: u64) -> Option<(u64, usize)>
     requires place { at ≤ length bytes.now }
     requires fixed { IsFixedOrVarint wire_type }
     ensures found { IfSome result
@@ -291,14 +293,16 @@ pub fn element(bytes: &[u8], at: usize, wire_type: u8) -> Option<(u64, usize)>
     ensures none { IfNone result ((p : Payload) (next : ℕ) → PayloadAt bytes.now at wire_type p next → ⊥) }
 {
     if wire_type == 1 {
-        eight_bytes(bytes, at)
+        read_fixed64(bytes, at)
     } else if wire_type == 5 {
-        four_bytes(bytes, at)
+        let (v, next) = read_fixed32(bytes, at)?;
+        Some((u64::from(v), next))
     } else {
         varint(bytes, at)
     }
 }
 
+/// The value of the varint at a place, and the place behind it.
 fn varint(bytes: &[u8], at: usize) -> Option<(u64, usize)>
     requires { at ≤ length bytes.now }
     ensures found { IfSome result (λ e. VarintAt bytes.now at e.0 e.1) }
@@ -307,27 +311,5 @@ fn varint(bytes: &[u8], at: usize) -> Option<(u64, usize)>
     match read_varint(bytes, at) {
         Ok(found) => Some(found),
         Err(_) => None,
-    }
-}
-
-fn eight_bytes(bytes: &[u8], at: usize) -> Option<(u64, usize)>
-    requires { at ≤ length bytes.now }
-    ensures found { IfSome result (λ e. PayloadAt bytes.now at 1 (I64 e.0) e.1) }
-    ensures none { IfNone result (length bytes.now < at + 8) }
-{
-    match bytes[at..].first_chunk::<8>() {
-        Some(chunk) => Some((u64::from_le_bytes(*chunk), at + 8)),
-        None => None,
-    }
-}
-
-fn four_bytes(bytes: &[u8], at: usize) -> Option<(u64, usize)>
-    requires { at ≤ length bytes.now }
-    ensures found { IfSome result (λ e. PayloadAt bytes.now at 5 (I32 e.0) e.1) }
-    ensures none { IfNone result (length bytes.now < at + 4) }
-{
-    match bytes[at..].first_chunk::<4>() {
-        Some(chunk) => Some((u64::from(u32::from_le_bytes(*chunk)), at + 4)),
-        None => None,
     }
 }

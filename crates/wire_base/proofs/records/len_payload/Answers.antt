@@ -1,7 +1,7 @@
-use Rattle.std.proofs.Common.{arith, refl}
-use Rattle.wire_base.specs.Records.{short_len}
+use Rattle.std.proofs.lemmas.Result.{err_from_is_err_and}
 use Rattle.wire_base.proofs.records.len_payload.Goals as goal
 
-pub returns-then-len-bytes-clause-fault : goal.returns-then-len-bytes-clause-fault
-returns-then-len-bytes-clause-fault c =
-    (refl, short_len c.in_ok-len.len c.in_ok-len.first refl refl c.in_ok-len.ensures.found (omega arith))
+pub returns-in_err-first-clause-fault : goal.returns-in_err-first-clause-fault
+returns-in_err-first-clause-fault c =
+    let same = err_from_is_err_and c.from_residual.result c.from_residual.ensures.1 in
+    rw (same.1, same.2) c.in_err-first.ensures.fault

@@ -2,7 +2,7 @@ use Rattle.std.proofs.Common.{◌≡◌, ◌+◌, ◌-◌, ◌≤◌, ◌∙◌,
 use Rattle.std.specs.Int.{w64, from_le_bytes}
 use Rattle.std.specs.List.{slice_range}
 use Rattle.std.proofs.lemmas.List.{take-take, length-take, length-drop}
-use Rattle.wire_decode.proofs.read.eight_bytes.Goals as goal
+use Rattle.wire_base.proofs.fixed.read_fixed64.Goals as goal
 
 pub returns-in-Some-clause-found : goal.returns-in-Some-clause-found
 returns-in-Some-clause-found c =
