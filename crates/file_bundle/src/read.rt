@@ -25,8 +25,8 @@ pub fn is_bundle(input: &[u8]) -> bool
     input.starts_with(FIRST_LINE)
 }
 
-/// The files of a set, where they stand in the input. The first is the root. The error is the first fault of an input that
-/// is no set, or `Memory`.
+/// The files of a set, where they stand in the input. The first is the root. The error is the first fault of an input
+/// that is no set, or `Memory`.
 pub fn read_bundle<'a>(alloc: Global, input: &'a [u8]) -> Result<Vec<Packed<'a>>, BundleFault>
     requires { IsBundle input.now }
     // What is read is the set that the input is.

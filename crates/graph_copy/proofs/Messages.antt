@@ -1,16 +1,13 @@
 -- What a valid table says of the message at a place.
-use Rattle.std.proofs.Common.{◌≡◌, ◌≢◌, ℕ, suc, ◌+◌, ◌^◌, ◌≤◌, List, [], ◌∷◌, length, All, cond, Option, Some, None, refl, ap, subst, ◌∙◌, arith, slice_get, option_map, unwrap_or, inl, inr}
+use Rattle.std.proofs.Common.{◌≡◌, ◌≢◌, ℕ, ◌^◌, ◌≤◌, List, [], ◌∷◌, length, All, cond, Option, Some, None, refl, ap, subst, ◌∙◌, arith, slice_get, option_map, unwrap_or, inl, inr}
 use Rattle.std.proofs.lemmas.Option.{slice_get_cases}
 use Rattle.std.proofs.lemmas.Bool.{ne_eqb}
 use Rattle.std.proofs.lemmas.List.Elements.{All-head, All-tail}
 use Rattle.mrpc_table.specs.Normal.{fields_of, field_at}
-use Rattle.mrpc_table.specs.Valid.{IsValid, IsMessage, IsField, Joins, OneofsFollow}
-use Rattle.mrpc_table.specs.declared.table.Label.{Label}
-use Rattle.mrpc_table.specs.declared.table.Label.TheVariants.{Plain, Optional, Repeated, Packed, Map, Member}
+use Rattle.mrpc_table.specs.Valid.{IsValid, IsMessage, IsField}
 use Rattle.mrpc_table.specs.declared.table.Field.{Field}
 use Rattle.mrpc_table.specs.declared.table.Message.{Message}
 use Rattle.mrpc_table.specs.declared.table.Table.{Table}
-use Rattle.graph_form.specs.Roles.{oneofs_of, own_slots, size_words}
 
 all_got : {X : Type 0} (P : X → Type 0) (xs : List X) (i : ℕ) (x : X) → All P xs → slice_get xs i ≡ Some x → P x
 all_got P xs i x all got =

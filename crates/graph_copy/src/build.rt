@@ -7,6 +7,7 @@ ghost use Rattle.mrpc_table.specs.Node.{Node, no_fields};
 ghost use Rattle.mrpc_table.specs.Normal.{fields_of};
 ghost use Rattle.mrpc_table.specs.Valid.{IsValid};
 ghost use Rattle.mrpc_table.specs.View.{item_of, items_of, pairs_of, content_of};
+ghost use Rattle.mrpc_table.specs.declared.limits.TheConstants.{MAX_DEPTH};
 ghost use Rattle.mrpc_table.specs.declared.table.Kind.{Kind};
 ghost use Rattle.mrpc_table.specs.declared.table.Table.{Table};
 ghost use Rattle.graph_form.specs.Roles.{run_length, elements_address, entries_address, case_word, plain_role, optional_role, slot_role, cases_from, node_words, own_slots, oneofs_of};
@@ -74,7 +75,7 @@ fn node(
     room: u32,
 ) -> Result<Tree, Memory>
     requires { IsValid table.now }
-    ensures { IfOk result (λ t. (place depth : ℕ) → depth + room ≡ 32
+    ensures { IfOk result (λ t. (place depth : ℕ) → depth + room ≡ MAX_DEPTH
         → Takes table.now (node_words table.now message depth place) tape.old.loads.now tape.new.loads.now
         (λ P. t ≡ tree_of table.now message P)) }
 {
@@ -96,7 +97,7 @@ fn slots(
     found: &mut Numbered,
 ) -> Result<(), Memory>
     requires { IsValid table.now }
-    ensures { OnOk result ((place depth : ℕ) → depth + room ≡ 32
+    ensures { OnOk result ((place depth : ℕ) → depth + room ≡ MAX_DEPTH
         → TakesSlots table.now (fields_of table.now message) (own_slots (fields_of table.now message)) depth place
         tape.old.loads.now tape.new.loads.now found.old.items found.new.items) }
 {
@@ -122,7 +123,7 @@ fn members(
     found: &mut Numbered,
 ) -> Result<(), Memory>
     requires { IsValid table.now }
-    ensures { OnOk result ((place depth : ℕ) → depth + room ≡ 32
+    ensures { OnOk result ((place depth : ℕ) → depth + room ≡ MAX_DEPTH
         → Takes table.now (cases_from (oneofs_of table.now message) (fields_of table.now message) 0 depth place)
         tape.old.loads.now tape.new.loads.now
         (λ P. insert_all found.old.items (slots_tree table.now (fields_of table.now message) [] P)
@@ -145,7 +146,7 @@ fn member(
     found: &mut Numbered,
 ) -> Result<(), Memory>
     requires { IsValid table.now }
-    ensures { OnOk result ((place depth oneof : ℕ) → depth + room ≡ 32
+    ensures { OnOk result ((place depth oneof : ℕ) → depth + room ≡ MAX_DEPTH
         → TakesWord table.now (case_word (fields_of table.now message) oneof depth, place)
         tape.old.loads.now tape.new.loads.now
         (λ w. (t : Node) → insert_all found.old.items (with_member table.now (fields_of table.now message) w t)
@@ -187,7 +188,7 @@ fn slot(
     room: u32,
 ) -> Result<Option<FieldValue>, Memory>
     requires { IsValid table.now }
-    ensures { IfOk result (λ c. (place depth : ℕ) → depth + room ≡ 32
+    ensures { IfOk result (λ c. (place depth : ℕ) → depth + room ≡ MAX_DEPTH
         → TakesWord table.now (slot_role label kind depth, place) tape.old.loads.now tape.new.loads.now
         (λ w. option_map content_of c ≡ slot_content table.now label kind w)) }
 {
@@ -239,7 +240,7 @@ fn elements(
     room: u32,
 ) -> Result<Values, Memory>
     requires { IsValid table.now }
-    ensures { IfOk result (λ vs. (place depth : ℕ) → depth + room ≡ 32
+    ensures { IfOk result (λ vs. (place depth : ℕ) → depth + room ≡ MAX_DEPTH
         → Takes table.now ((elements_address kind count depth, place) ∷ []) tape.old.loads.now tape.new.loads.now
         (λ P. items_of vs.items ≡ elements_at table.now kind P)) }
 {
@@ -263,7 +264,7 @@ fn entries(
     room: u32,
 ) -> Result<Entries, Memory>
     requires { IsValid table.now }
-    ensures { IfOk result (λ es. (place depth : ℕ) → depth + room ≡ 32
+    ensures { IfOk result (λ es. (place depth : ℕ) → depth + room ≡ MAX_DEPTH
         → Takes table.now ((entries_address key kind count depth, place) ∷ []) tape.old.loads.now tape.new.loads.now
         (λ P. pairs_of es.items ≡ last_of_each key (entries_at table.now key kind P))) }
 {
@@ -288,7 +289,7 @@ fn item(
     room: u32,
 ) -> Result<Value, Memory>
     requires { IsValid table.now }
-    ensures { IfOk result (λ v. (place depth : ℕ) → depth + room ≡ 32
+    ensures { IfOk result (λ v. (place depth : ℕ) → depth + room ≡ MAX_DEPTH
         → TakesWord table.now (plain_role kind depth true, place) tape.old.loads.now tape.new.loads.now
         (λ w. item_of v ≡ plain_item table.now kind w)) }
 {
@@ -308,7 +309,8 @@ fn value(
     room: u32,
 ) -> Result<Value, Memory>
     requires { IsValid table.now }
-    ensures { IfOk result (λ v. (place depth : ℕ) (needed : Bool) → depth + room ≡ 32 → IsTrue needed ⊎ (first ≢ 0)
+    ensures { IfOk result (λ v. (place depth : ℕ) (needed : Bool) → depth + room ≡ MAX_DEPTH
+        → IsTrue needed ⊎ (first ≢ 0)
         → TakesBehind table.now (plain_role kind depth needed, place) first tape.old.loads.now tape.new.loads.now
         (λ P. item_of v ≡ plain_item table.now kind (word place first P))) }
 {

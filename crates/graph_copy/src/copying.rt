@@ -1,8 +1,9 @@
 //! The copy of a message.
 
-ghost use Rattle.std.specs.Prelude.{◌≡◌, ◌≤◌, ◌<◌, List, [], ◌∷◌, ◌++◌, ℕ, length, IfOk};
+ghost use Rattle.std.specs.Prelude.{◌≡◌, ◌≤◌, ◌<◌, ◌+◌, List, [], ◌∷◌, ◌++◌, ℕ, length, IfOk};
 ghost use Rattle.mrpc_base.specs.Heap.{AfterLoads};
 ghost use Rattle.mrpc_table.specs.Valid.{IsValid};
+ghost use Rattle.mrpc_table.specs.declared.limits.TheConstants.{MAX_HEAP, MAX_LOADS, MIN_HEAP};
 ghost use Rattle.graph_form.specs.Malformed.{IsMalformed};
 ghost use Rattle.graph_copy.specs.Copies.{since, OnlyLoads, IsCopied};
 ghost use Rattle.graph_copy.specs.Answers.{IfCopied, IfMalformed, loads_of};
@@ -36,7 +37,8 @@ pub enum CopyResult {
 
 /// Copies the message of a type, by its place in the table, at an address of a heap: a tree of its own, from at most
 /// `limit` loads, each of a word that is loaded once for its place in the graph. `Reason::NoMethod` never comes. Room
-/// for `limit` loads is made before the first one. After `Memory` the loads that were made stand in the heap's list.
+/// for `limit` loads is made before the first one. After `Memory` the loads that were made stand in the heap's list;
+/// where it was that room that no memory was found for, the heap's reader is as it was.
 pub fn copy<W: Words>(
     alloc: Global,
     words: &mut W,
@@ -47,10 +49,10 @@ pub fn copy<W: Words>(
 ) -> Result<CopyResult, Memory>
     requires valid { IsValid table.now }
     requires known { msg < length table.now.messages }
-    requires least_heap { 4 ≤ W.size words.old }
-    requires greatest_heap { W.size words.old ≤ 65536 }
+    requires least_heap { MIN_HEAP ≤ W.size words.old }
+    requires greatest_heap { W.size words.old ≤ MAX_HEAP }
     requires least_limit { 1 ≤ limit }
-    requires greatest_limit { limit ≤ 16384 }
+    requires greatest_limit { limit ≤ MAX_LOADS }
 
     // Whatever the answer is, the heap has room made and these loads more, and nothing else.
     ensures size { W.size words.new ≡ W.size words.old }
@@ -58,6 +60,10 @@ pub fn copy<W: Words>(
     ensures only_loads { OnlyLoads W.after_room W.after_load words.old
         (since (W.loads words.old) (W.loads words.new)) words.new }
     ensures few { length (since (W.loads words.old) (W.loads words.new)) ≤ limit }
+
+    // Where no room for `limit` loads was made, it stays as it was.
+    ensures unroomed { W.room words.new + length (since (W.loads words.old) (W.loads words.new)) < limit
+        → words.new ≡ words.old }
 
     ensures copied { IfOk result (IfCopied (IsCopied table.now (W.size words.old) msg addr
         (since (W.loads words.old) (W.loads words.new)))) }
@@ -87,7 +93,7 @@ fn copy_graph<W: Words>(
 ) -> Result<CopyResult, Memory>
     requires valid { IsValid table.now }
     requires least_heap { 1 ≤ W.size words.old }
-    requires greatest_heap { W.size words.old ≤ 65536 }
+    requires greatest_heap { W.size words.old ≤ MAX_HEAP }
     requires least_limit { 1 ≤ limit }
     requires room { limit ≤ W.room words.old }
     requires none { loads.old.items ≡ [] }
@@ -96,6 +102,7 @@ fn copy_graph<W: Words>(
     ensures adds { W.loads words.new ≡ W.loads words.old ++ loads.new.items }
     ensures changes { AfterLoads W.after_load words.old loads.new.items words.new }
     ensures few { length loads.new.items ≤ limit }
+    ensures room { limit ≤ W.room words.new + length loads.new.items }
 
     ensures copied { IfOk result (IfCopied (IsCopied table.now (W.size words.old) msg addr loads.new.items)) }
     ensures malformed { IfOk result

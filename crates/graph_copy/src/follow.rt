@@ -1,9 +1,10 @@
 //! What a word that was loaded leads to: it is judged, and what stands behind it is expected next.
 
-ghost use Rattle.std.specs.Prelude.{◌≡◌, ◌≤◌, ◌<◌, ◌+◌, ◌*◌, ◌^◌, ◌↔◌, ℕ, List, [], ◌∷◌, IfOk, OnOk, IsTrue, if◌then◌else◌};
+ghost use Rattle.std.specs.Prelude.{◌≡◌, ◌≤◌, ◌<◌, ◌+◌, ◌*◌, ◌^◌, ◌↔◌, [], ◌∷◌, IfOk, OnOk, IsTrue, if◌then◌else◌};
 ghost use Rattle.std.specs.Str.{IsUtf8};
 ghost use Rattle.mrpc_table.specs.Normal.{fields_of};
 ghost use Rattle.mrpc_table.specs.Valid.{IsValid};
+ghost use Rattle.mrpc_table.specs.declared.limits.TheConstants.{MAX_HEAP};
 ghost use Rattle.mrpc_table.specs.declared.table.Table.{Table};
 ghost use Rattle.graph_form.specs.Roles.{run_word, link, case_word, behind, elements_from, entries_from};
 ghost use Rattle.graph_form.specs.Placed.{IsFine};
@@ -27,7 +28,7 @@ impl Walk {
         value: u64,
     ) -> Result<Option<Reason>, Memory>
         requires valid { IsValid table.now }
-        requires size { self.old.size ≤ 65536 }
+        requires size { self.old.size ≤ MAX_HEAP }
         requires no_run { self.old.run ≡ None }
         requires fits { Fits self.old.size (next_word table.now self.old.bytes.items next) }
         ensures follows { IfOk result
@@ -48,7 +49,7 @@ impl Walk {
         value: u64,
     ) -> Result<Option<Reason>, Memory>
         requires valid { IsValid table.now }
-        requires size { self.old.size ≤ 65536 }
+        requires size { self.old.size ≤ MAX_HEAP }
         requires no_run { self.old.run ≡ None }
         requires fits { Fits self.old.size (role_of table.now role, place) }
         ensures follows { IfOk result (Follows table.now (role_of table.now role, place) value self.old self.new) }
@@ -64,7 +65,7 @@ impl Walk {
     /// What stands behind a word that doesn't offend is expected.
     fn lead(&mut self, table: &Table, role: Role, place: u64, value: u64) -> Result<(), Memory>
         requires valid { IsValid table.now }
-        requires size { self.old.size ≤ 65536 }
+        requires size { self.old.size ≤ MAX_HEAP }
         requires no_run { self.old.run ≡ None }
         requires fits { Fits self.old.size (role_of table.now role, place) }
         requires fine { IsFine table.now self.old.size (role_of table.now role) value }
@@ -161,7 +162,7 @@ impl Walk {
         value: u64,
     ) -> Result<(), Memory>
         requires valid { IsValid table.now }
-        requires size { self.old.size ≤ 65536 }
+        requires size { self.old.size ≤ MAX_HEAP }
         requires no_run { self.old.run ≡ None }
         requires fine { IsFine table.now self.old.size (link message depth needed) value }
         ensures expected { OnOk result

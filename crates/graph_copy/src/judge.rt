@@ -4,6 +4,7 @@ ghost use Rattle.std.specs.Prelude.{◌≡◌, ◌≤◌, ◌↔◌, ℕ, IsTrue
 ghost use Rattle.mrpc_table.specs.Normal.{fields_of};
 ghost use Rattle.mrpc_table.specs.Valid.{IsValid};
 ghost use Rattle.mrpc_table.specs.Words.{IsWordForm};
+ghost use Rattle.mrpc_table.specs.declared.limits.TheConstants.{MAX_HEAP};
 ghost use Rattle.mrpc_table.specs.declared.table.Table.{Table};
 ghost use Rattle.graph_form.specs.Roles.{link, case_word, size_words};
 ghost use Rattle.graph_form.specs.Placed.{LiesIn};
@@ -26,7 +27,7 @@ pub fn lies_in(size: u64, place: u64, words: u64) -> bool
 pub fn offence(table: &Table, size: u64, role: Role, value: u64) -> Option<Reason>
     requires valid { IsValid table.now }
     requires least { 1 ≤ size }
-    requires most { size ≤ 65536 }
+    requires most { size ≤ MAX_HEAP }
     ensures { Judged table.now size (role_of table.now role) value result }
 {
     match role {

@@ -1,11 +1,11 @@
 //! What a table says of a message.
 
-ghost use Rattle.std.specs.Prelude.{◌≡◌, ◌<◌, ◌≤◌, ◌+◌, [], ◌∷◌, length, drop, IfNone, IfSome, Some, None, slice_get, slice_index_or};
+ghost use Rattle.std.specs.Prelude.{◌≡◌, ◌<◌, ◌≤◌, ◌+◌, [], ◌∷◌, length, drop, IfNone, IfSome, Some, None, slice_index_or};
 ghost use Rattle.std.specs.Option.{option_copied};
 ghost use Rattle.mrpc_table.specs.Normal.{fields_of, field_at};
 ghost use Rattle.mrpc_table.specs.Valid.{IsValid};
 ghost use Rattle.mrpc_table.specs.declared.table.Field.{Field};
-ghost use Rattle.graph_form.specs.Roles.{own_slots, oneofs_of, size_words, is_member};
+ghost use Rattle.graph_form.specs.Roles.{own_slots, is_member};
 
 use graph_form::is_member;
 use mrpc_table::{Field, Table};

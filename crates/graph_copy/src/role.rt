@@ -1,6 +1,6 @@
 //! What a word of a graph is for.
 
-ghost use Rattle.std.specs.Prelude.{◌≡◌, ◌≤◌};
+ghost use Rattle.std.specs.Prelude.{◌≡◌};
 ghost use Rattle.mrpc_table.specs.declared.table.Table.{Table};
 ghost use Rattle.graph_form.specs.Roles.{plain_role, optional_role, slot_role};
 ghost use Rattle.graph_copy.specs.Shapes.{shape_of};

@@ -1,8 +1,9 @@
 //! Loading: each word that is expected, once and in order, up to the first that offends or the limit.
 
-ghost use Rattle.std.specs.Prelude.{◌≡◌, ◌≤◌, [], ◌++◌, length, IfOk, MatchOption};
+ghost use Rattle.std.specs.Prelude.{◌≡◌, ◌≤◌, ◌+◌, [], ◌++◌, length, IfOk, MatchOption};
 ghost use Rattle.mrpc_base.specs.Heap.{AfterLoads};
 ghost use Rattle.mrpc_table.specs.Valid.{IsValid};
+ghost use Rattle.mrpc_table.specs.declared.limits.TheConstants.{MAX_HEAP};
 ghost use Rattle.graph_form.specs.Loading.{LeadsTo};
 ghost use Rattle.graph_copy.specs.Expects.{expected, AllFit};
 ghost use Rattle.graph_copy.specs.Stops.{Stops};
@@ -25,7 +26,7 @@ pub fn take_words<W: Words>(
 ) -> Result<Option<Reason>, Memory>
     requires valid { IsValid table.now }
     requires size { walk.old.size ≡ W.size words.old }
-    requires small { walk.old.size ≤ 65536 }
+    requires small { walk.old.size ≤ MAX_HEAP }
     requires room { limit ≤ W.room words.old }
     requires fits { AllFit walk.old.size (expected table.now walk.old) }
     requires none { loads.old.items ≡ [] }
@@ -34,6 +35,7 @@ pub fn take_words<W: Words>(
     ensures adds { W.loads words.new ≡ W.loads words.old ++ loads.new.items }
     ensures changes { AfterLoads W.after_load words.old loads.new.items words.new }
     ensures few { length loads.new.items ≤ limit }
+    ensures room { limit ≤ W.room words.new + length loads.new.items }
     ensures outcome { IfOk result (λ found. MatchOption found
         (LeadsTo table.now walk.old.size (expected table.now walk.old) loads.new.items [])
         (Stops table.now walk.old.size limit (expected table.now walk.old) loads.new.items)) }

@@ -2,6 +2,7 @@
 
 ghost use Rattle.std.specs.Prelude.{◌≡◌, ◌≤◌, ◌+◌, ℕ, List, [], ◌∷◌, ◌++◌, IfOk, OnOk, MatchOption};
 ghost use Rattle.mrpc_table.specs.Valid.{IsValid};
+ghost use Rattle.mrpc_table.specs.declared.limits.TheConstants.{MAX_HEAP};
 ghost use Rattle.mrpc_table.specs.declared.table.Table.{Table};
 ghost use Rattle.graph_form.specs.Roles.{size_words, node_words, elements_from, entries_from};
 ghost use Rattle.graph_copy.specs.Expects.{expected, frame_words, stack_words, next_word, AllFit};
@@ -10,7 +11,7 @@ ghost use Rattle.graph_copy.specs.Opens.{Opens};
 use crate::look_up::next_slot;
 use crate::role::{Role, plain_role, slot_role};
 use crate::stack::Stack;
-use graph_form::oneofs_of;
+use graph_form::{element_words, oneofs_of};
 use mrpc_table::{Kind, Memory, Table};
 use std::alloc::Global;
 
@@ -130,7 +131,7 @@ impl Walk {
         requires valid { IsValid table.now }
         requires words { words ≡ size_words table.now message }
         requires lies { place + words ≤ self.old.size }
-        requires size { self.old.size ≤ 65536 }
+        requires size { self.old.size ≤ MAX_HEAP }
         requires no_run { self.old.run ≡ None }
         ensures expected { OnOk result
             (expected table.now self.new ≡ node_words table.now message depth place ++ expected table.now self.old) }
@@ -159,7 +160,7 @@ impl Walk {
     pub fn next(&mut self, table: &Table) -> Result<Option<Next>, Memory>
         requires valid { IsValid table.now }
         requires fits { AllFit self.old.size (expected table.now self.old) }
-        requires size { self.old.size ≤ 65536 }
+        requires size { self.old.size ≤ MAX_HEAP }
         ensures word { IfOk result (λ found. MatchOption found (expected table.now self.old ≡ [])
             (λ next. expected table.now self.old
             ≡ next_word table.now self.new.bytes.items next ∷ expected table.now self.new)) }
@@ -182,7 +183,7 @@ impl Walk {
     fn open(&mut self, table: &Table, frame: Frame) -> Result<Option<(Role, u64)>, Memory>
         requires valid { IsValid table.now }
         requires fits { AllFit self.old.size (frame_words table.now frame) }
-        requires size { self.old.size ≤ 65536 }
+        requires size { self.old.size ≤ MAX_HEAP }
         ensures found { IfOk result
             (Opens table.now (frame_words table.now frame) self.old.frames self.new.frames) }
         ensures size { self.new.size ≡ self.old.size }
@@ -229,7 +230,7 @@ impl Walk {
     ) -> Result<Option<(Role, u64)>, Memory>
         requires valid { IsValid table.now }
         requires fits { AllFit self.old.size (frame_words table.now (Frame.Slots message from depth place)) }
-        requires size { self.old.size ≤ 65536 }
+        requires size { self.old.size ≤ MAX_HEAP }
         ensures found { IfOk result
             (Opens table.now (frame_words table.now (Frame.Slots message from depth place))
             self.old.frames self.new.frames) }
@@ -264,7 +265,7 @@ impl Walk {
     ) -> Result<Option<(Role, u64)>, Memory>
         requires valid { IsValid table.now }
         requires fits { AllFit self.old.size (frame_words table.now (Frame.Oneofs message oneof depth place)) }
-        requires size { self.old.size ≤ 65536 }
+        requires size { self.old.size ≤ MAX_HEAP }
         ensures found { IfOk result
             (Opens table.now (frame_words table.now (Frame.Oneofs message oneof depth place))
             self.old.frames self.new.frames) }
@@ -297,7 +298,7 @@ impl Walk {
         place: u64,
     ) -> Result<Option<(Role, u64)>, Memory>
         requires fits { AllFit self.old.size (elements_from left kind depth place) }
-        requires size { self.old.size ≤ 65536 }
+        requires size { self.old.size ≤ MAX_HEAP }
         ensures found { IfOk result (λ found. (T : Table)
             → Opens T (elements_from left kind depth place) self.old.frames self.new.frames found) }
         ensures size { self.new.size ≡ self.old.size }
@@ -325,7 +326,7 @@ impl Walk {
         place: u64,
     ) -> Result<Option<(Role, u64)>, Memory>
         requires fits { AllFit self.old.size (entries_from left key kind depth place) }
-        requires size { self.old.size ≤ 65536 }
+        requires size { self.old.size ≤ MAX_HEAP }
         ensures found { IfOk result (λ found. (T : Table)
             → Opens T (entries_from left key kind depth place) self.old.frames self.new.frames found) }
         ensures size { self.new.size ≡ self.old.size }

@@ -4,6 +4,7 @@ use Rattle.std.specs.Prelude.{◌≡◌, ◌≢◌, ◌⊎◌, ℕ, ◌+◌, ◌
 use Rattle.std.specs.Str.{IsUtf8}
 use Rattle.mrpc_table.specs.Normal.{field_at}
 use Rattle.mrpc_table.specs.Words.{IsWordForm}
+use Rattle.mrpc_table.specs.declared.limits.TheConstants.{MAX_DEPTH}
 use Rattle.mrpc_table.specs.declared.table.Kind.TheVariants.{Text}
 use Rattle.mrpc_table.specs.declared.table.Label.TheVariants.{Member}
 use Rattle.mrpc_table.specs.declared.table.Field.{Field}
@@ -42,7 +43,7 @@ Offends T H (run_address k bytes) v Address = LiesIn H v (run_words bytes) → �
 Offends T H (run_word k left before) v Narrow = (left < 8) × (2 ^ (8 * left) ≤ v)
 Offends T H (run_word Text left before) v Utf8 = (left ≤ 8) × (IsUtf8 (before ++ take left (word_bytes v)) → ⊥)
 Offends T H (link m depth needed) v Address = ((v ≢ 0) ⊎ IsTrue needed) × (LiesIn H v (size_words T m) → ⊥)
-Offends T H (link m depth needed) v Depth = (v ≢ 0) × (32 ≤ depth)
+Offends T H (link m depth needed) v Depth = (v ≢ 0) × (MAX_DEPTH ≤ depth)
 Offends T H (count k depth) v Length = H ≤ v * element_words k
 Offends T H (elements_address k elements depth) v Address = LiesIn H v (elements * element_words k) → ⊥
 Offends T H (entry_count key k depth) v Length = H ≤ 4 * v

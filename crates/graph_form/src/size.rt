@@ -3,6 +3,7 @@
 ghost use Rattle.std.specs.Prelude.{◌≡◌, ◌<◌, ◌≤◌, ◌+◌, ◌*◌, length, IfNone, IfSome, IsSome, None, Some, slice_get};
 ghost use Rattle.mrpc_table.specs.Valid.{IsValid};
 ghost use Rattle.mrpc_table.specs.Normal.{fields_of, field_at};
+ghost use Rattle.mrpc_table.specs.declared.limits.TheConstants.{MAX_FIELDS};
 ghost use Rattle.graph_form.specs.Roles.{element_words, has_own_slot, is_member, oneofs_of, own_slots, run_words, size_words, slots_before, slot_of};
 
 use mrpc_table::{Field, Kind, Label, Message, Table};
@@ -20,7 +21,7 @@ pub fn size_words(table: &Table, msg: u32) -> u64
 pub fn oneofs_of(table: &Table, msg: u32) -> u32
     requires { IsValid table.now }
     ensures number { result ≡ oneofs_of table.now msg }
-    ensures few { result ≤ 128 }
+    ensures few { result ≤ MAX_FIELDS }
 {
     match message_at(table, msg) {
         Some(message) => message.oneofs.len() as u32,

@@ -19,7 +19,8 @@ abbrev mutual
   fields_words T fs no_fields = 0
   fields_words T fs (field n c t) = content_words T (member_kind fs n) c + fields_words T fs t
 
-  -- what a field has beside its slot: each element has a word, or two where it is a run, and each entry of a map has four
+  -- what a field has beside its slot: each element has a word, or two where it is a run, and each entry of a map has
+  -- four
   pub content_words : Table → Kind → Content → ℕ
   content_words T k (one i) = item_words T k i
   content_words T k (many is) = many_words T k is

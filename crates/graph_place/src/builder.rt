@@ -1,17 +1,16 @@
 //! The list of the words of a message, each at its place.
 
-ghost use Rattle.std.specs.Prelude.{◌≡◌, ◌≢◌, ◌≤◌, ◌<◌, ◌+◌, ◌*◌, ◌^◌, ℕ, Bool, true, false, List, [], ◌∷◌, ◌++◌, length, All, IfOk, OnOk, Some, IsTrue, Option};
+ghost use Rattle.std.specs.Prelude.{◌≡◌, ◌≢◌, ◌≤◌, ◌<◌, ◌+◌, ◌*◌, ◌^◌, ℕ, Bool, true, false, List, [], ◌∷◌, ◌++◌, length, IfOk, OnOk, Some};
 ghost use Rattle.std.specs.Str.{IsUtf8};
 ghost use Rattle.mrpc_table.specs.Node.{Node, one};
 ghost use Rattle.mrpc_table.specs.Normal.{fields_of, field_at, HasFields, OneMemberEach, IsItem, AreItems, ArePairs, depth, content_depth, item_depth, items_depth, pairs_depth};
 ghost use Rattle.mrpc_table.specs.Valid.{IsValid, IsField};
 ghost use Rattle.mrpc_table.specs.View.{item_of, items_of, pairs_of, content_of};
+ghost use Rattle.mrpc_table.specs.declared.limits.TheConstants.{MAX_DEPTH};
 ghost use Rattle.mrpc_table.specs.declared.table.Kind.{Kind};
 ghost use Rattle.mrpc_table.specs.declared.table.Field.{Field};
-ghost use Rattle.mrpc_table.specs.declared.table.Label.TheVariants.{Map};
 ghost use Rattle.mrpc_table.specs.declared.table.Table.{Table};
 ghost use Rattle.graph_form.specs.Roles.{Expected, elements_address, entries_address, case_word, plain_role, optional_role, slot_role, slots_from, cases_from, node_words, own_slots, oneofs_of, is_member, member_kind, element_words, run_words};
-ghost use Rattle.graph_form.specs.Placed.{Placed};
 ghost use Rattle.graph_form.specs.Forgotten.{run_at, slot_content, slots_tree, with_field, with_member, elements_at, entries_at, tree_of};
 ghost use Rattle.graph_place.specs.Content.{content_at};
 ghost use Rattle.graph_place.specs.Laid.{Puts, PutsWord, Begun, HoldsItem, members, found_words, listed, IsMemberOf, HoldsContent, run_words_of, NoMessage, run_expected, HasBytes};
@@ -72,7 +71,7 @@ impl Builder {
         requires from_one { 1 ≤ self.old.free }
         requires room { self.old.free + tree_words table.now message tree.now < 2 ^ 64 }
         ensures free { OnOk result (self.new.free ≡ self.old.free + tree_words table.now message tree.now) }
-        ensures puts { OnOk result ((H level : ℕ) → self.new.free ≤ H → level + depth tree.now ≤ 33
+        ensures puts { OnOk result ((H level : ℕ) → self.new.free ≤ H → level + depth tree.now ≤ MAX_DEPTH + 1
             → Puts table.now H (node_words table.now message level self.old.free)
             self.old.free self.old.free self.old.free self.new.free self.old.words.items self.new.words.items
             (λ P. tree_of table.now message P ≡ tree.now)) }
@@ -95,7 +94,7 @@ impl Builder {
             + fields_words table.now (fields_of table.now message) (members (fields_of table.now message) tree.now)
             ≡ self.old.free + fields_words table.now (fields_of table.now message) tree.now) }
         ensures puts { OnOk result (let fs = fields_of table.now message in
-            (H level : ℕ) (others : Expected) → self.new.free ≤ H → level + depth tree.now ≤ 33
+            (H level : ℕ) (others : Expected) → self.new.free ≤ H → level + depth tree.now ≤ MAX_DEPTH + 1
             → Begun table.now H (slots_from (own_slots fs) level at ++ others) others
             at (at + 2 * length (own_slots fs)) self.old.free self.new.free self.old.words.items self.new.words.items
             (λ P. slots_tree table.now fs (own_slots fs) P ≡ tree.now)
@@ -132,7 +131,7 @@ impl Builder {
         ensures free { is_member field.now.label ≡ false → OnOk result (self.new.free
             ≡ self.old.free + found_words table.now field.now.kind (content_at field.now.number tree.now)) }
         ensures puts { is_member field.now.label ≡ false → OnOk result ((H level : ℕ)
-            → self.new.free ≤ H → level + depth tree.now ≤ 33
+            → self.new.free ≤ H → level + depth tree.now ≤ MAX_DEPTH + 1
             → PutsWord table.now H (slot_role field.now.label field.now.kind level, place)
             (place + 2) self.old.free self.new.free self.old.words.items self.new.words.items
             (λ w. slot_content table.now field.now.label field.now.kind w ≡ content_at field.now.number tree.now)) }
@@ -166,7 +165,7 @@ impl Builder {
         ensures free { OnOk result (self.new.free ≡ self.old.free
             + fields_words table.now (fields_of table.now message) (members (fields_of table.now message) tree.now)) }
         ensures puts { OnOk result (let fs = fields_of table.now message in
-            (H level : ℕ) → self.new.free ≤ H → level + depth tree.now ≤ 33
+            (H level : ℕ) → self.new.free ≤ H → level + depth tree.now ≤ MAX_DEPTH + 1
             → Puts table.now H (cases_from (oneofs_of table.now message) fs 0 level at)
             at (at + 3 * oneofs_of table.now message) self.old.free self.new.free
             self.old.words.items self.new.words.items
@@ -201,7 +200,7 @@ impl Builder {
             < 2 ^ 64 }
         ensures free { OnOk result (self.new.free ≡ self.old.free
             + found_words table.now (member_kind (fields_of table.now message) member) (content_at member tree.now)) }
-        ensures puts { OnOk result ((H level oneof : ℕ) → self.new.free ≤ H → level + depth tree.now ≤ 33
+        ensures puts { OnOk result ((H level oneof : ℕ) → self.new.free ≤ H → level + depth tree.now ≤ MAX_DEPTH + 1
             → IsMemberOf (fields_of table.now message) oneof tree.now member
             → PutsWord table.now H (case_word (fields_of table.now message) oneof level, place)
             (place + 3) self.old.free self.new.free self.old.words.items self.new.words.items
@@ -237,7 +236,7 @@ impl Builder {
         ensures free { OnOk result (self.new.free
             ≡ self.old.free + content_words table.now kind (content_of content.now)) }
         ensures puts { OnOk result ((H level : ℕ) → self.new.free ≤ H
-            → level + content_depth (content_of content.now) ≤ 33
+            → level + content_depth (content_of content.now) ≤ MAX_DEPTH + 1
             → PutsWord table.now H (slot_role label kind level, place)
             (place + 2) self.old.free self.new.free self.old.words.items self.new.words.items
             (λ w. slot_content table.now label kind w ≡ Some (content_of content.now))) }
@@ -275,7 +274,7 @@ impl Builder {
         ensures free { OnOk result (self.new.free
             ≡ self.old.free + many_words table.now kind (items_of values.now.items)) }
         ensures puts { OnOk result ((H level : ℕ) → self.new.free ≤ H
-            → level + items_depth (items_of values.now.items) ≤ 33
+            → level + items_depth (items_of values.now.items) ≤ MAX_DEPTH + 1
             → Puts table.now H ((elements_address kind (length values.now.items) level, place) ∷ [])
             place (place + 1) self.old.free self.new.free self.old.words.items self.new.words.items
             (λ P. elements_at table.now kind P ≡ items_of values.now.items)) }
@@ -310,7 +309,7 @@ impl Builder {
         ensures free { OnOk result (self.new.free
             ≡ self.old.free + pairs_words table.now kind (pairs_of entries.now.items)) }
         ensures puts { OnOk result ((H level : ℕ) → self.new.free ≤ H
-            → level + pairs_depth (pairs_of entries.now.items) ≤ 33
+            → level + pairs_depth (pairs_of entries.now.items) ≤ MAX_DEPTH + 1
             → Puts table.now H ((entries_address key kind (length entries.now.items) level, place) ∷ [])
             place (place + 1) self.old.free self.new.free self.old.words.items self.new.words.items
             (λ P. entries_at table.now key kind P ≡ listed (pairs_of entries.now.items))) }
@@ -336,7 +335,7 @@ impl Builder {
         requires room { self.old.free + item_words table.now kind (item_of value.now) < 2 ^ 64 }
         ensures free { OnOk result (self.new.free ≡ self.old.free + item_words table.now kind (item_of value.now)) }
         ensures puts { OnOk result ((H level : ℕ) (needed : Bool) → self.new.free ≤ H
-            → level + item_depth (item_of value.now) ≤ 33
+            → level + item_depth (item_of value.now) ≤ MAX_DEPTH + 1
             → PutsWord table.now H (plain_role kind level needed, place)
             (place + element_words kind) self.old.free self.new.free self.old.words.items self.new.words.items
             (HoldsItem table.now kind (item_of value.now))) }

@@ -1,14 +1,14 @@
 //! What a table and a tree say of a message.
 
-ghost use Rattle.std.specs.Prelude.{◌≡◌, ◌≢◌, ◌≤◌, ◌<◌, ◌+◌, ◌*◌, ℕ, length, IfNone, IfSome, MatchOption, Some, None, slice_get, slice_index, if◌then◌else◌};
-ghost use Rattle.std.specs.Option.{option_copied};
+ghost use Rattle.std.specs.Prelude.{◌≡◌, ◌≢◌, ◌<◌, ◌*◌, ℕ, length, IfNone, IfSome, Some, None, slice_index, if◌then◌else◌};
 ghost use Rattle.mrpc_table.specs.Node.{Item, one};
-ghost use Rattle.mrpc_table.specs.Normal.{fields_of, field_at};
+ghost use Rattle.mrpc_table.specs.Normal.{fields_of};
 ghost use Rattle.mrpc_table.specs.Valid.{IsValid};
 ghost use Rattle.mrpc_table.specs.View.{content_of, item_of};
+ghost use Rattle.mrpc_table.specs.declared.limits.TheConstants.{MAX_FIELDS};
 ghost use Rattle.mrpc_table.specs.declared.table.Label.TheVariants.{Member};
 ghost use Rattle.mrpc_table.specs.Weight.{weight, content_weight, item_weight};
-ghost use Rattle.graph_form.specs.Roles.{own_slots, oneofs_of, size_words, is_member, member_kind};
+ghost use Rattle.graph_form.specs.Roles.{member_kind};
 ghost use Rattle.graph_place.specs.Content.{content_at, Ascends, is_of, is_member_of, member_of};
 
 use mrpc_table::{FieldValue, Kind, Label, MAX_FIELDS, Table, Tree, Value};
@@ -69,7 +69,7 @@ pub fn members_of(table: &Table, message: u32, tree: &Tree) -> [u32; MAX_FIELDS]
 /// Notes a number in the place of the oneof of which its field is a member.
 fn note_number(members: &mut [u32], table: &Table, message: u32, number: u32)
     requires valid { IsValid table.now }
-    requires places { length members.old ≡ 128 }
+    requires places { length members.old ≡ MAX_FIELDS }
     ensures { (oneof : ℕ) → slice_index members.new oneof
         ≡ (if is_member_of (fields_of table.now message) oneof number then number else slice_index members.old oneof) }
 {

@@ -7,7 +7,7 @@ ghost use Rattle.mrpc_table.specs.View.{item_of, items_of, pairs_of, content_of}
 ghost use Rattle.graph_place.specs.Size.{capped, tree_words, content_words, item_words, many_words, pairs_words, key_words};
 
 use crate::look_up::kind_of;
-use graph_form::size_words;
+use graph_form::{element_words, run_words, size_words};
 use mrpc_table::{Entries, FieldValue, Kind, Table, Tree, Value, Values};
 
 /// How many words a normal tree of the message at the place `msg` of the table takes in a heap, or 2^64 - 1 where it is

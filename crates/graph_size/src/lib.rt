@@ -8,6 +8,7 @@
 
 ghost use Rattle.std.specs.Prelude.{ℕ, ◌*◌, ◌≤◌, length};
 ghost use Rattle.mrpc_table.specs.Valid.{IsValid};
+ghost use Rattle.mrpc_table.specs.declared.limits.TheConstants.{MAX_LOADS};
 ghost use Rattle.mrpc_table.specs.declared.table.Table.{Table};
 ghost use Rattle.wire_base.specs.Encoding.{encoding};
 ghost use Rattle.graph_form.specs.Placed.{Placed, loads, IsSound};
@@ -22,7 +23,7 @@ use wire_base::varint_is_read_back;
 /// load (`proofs/Rows.antt`).
 pub fn copies_are_short()
     ensures { (T : Table) (H msg address : ℕ) (P : Placed) → IsValid T → IsSound T H msg address P
-        → length (loads P) ≤ 16384 → length (encoding T msg (tree_of T msg P)) ≤ 16 * length (loads P) }
+        → length (loads P) ≤ MAX_LOADS → length (encoding T msg (tree_of T msg P)) ≤ 16 * length (loads P) }
 {
     varint_is_read_back();
 }

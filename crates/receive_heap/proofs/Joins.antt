@@ -10,7 +10,8 @@ use Rattle.std.proofs.lemmas.List.Edits.{length-remove, get_or-remove_below, get
 use Rattle.std.proofs.lemmas.List.Quantifiers.{all_pairs_remove}
 use Rattle.receive_heap.specs.declared.holes.Span.{Span}
 use Rattle.receive_heap.specs.Layout.{AreApart}
-use Rattle.receive_heap.specs.Parts.{AreHoles, Stands, IsClearBehind, IsClearBefore, MeetsNone, most_words}
+use Rattle.receive_heap.specs.Parts.{AreHoles, Stands, IsClearBehind, IsClearBefore, MeetsNone}
+use Rattle.mrpc_table.specs.declared.limits.TheConstants.{MAX_HEAP}
 
 pub parted : (holes : List Span) (at : ℕ) → AreApart holes → IsPartitionedBy (λ hole. nat_lt hole.at at) holes
 parted holes at apart i j d le lt low =
@@ -29,7 +30,7 @@ pub holes_removed : (holes : List Span) (i : ℕ) → i < length holes → AreHo
 holes_removed holes i lt are = record {
   apart = all_pairs_remove (λ hole later. hole.at + hole.words < later.at) holes i lt are.apart;
   some = all_remove (λ hole. 1 ≤ hole.words) holes i are.some;
-  small = all_remove (λ hole. hole.at + hole.words ≤ most_words) holes i are.small;
+  small = all_remove (λ hole. hole.at + hole.words ≤ MAX_HEAP) holes i are.small;
 }
 
 pub same_hole : (holes : List Span) (i : ℕ) (a b : Span) → i < length holes → a ≡ get_or holes i a → b ≡ get_or holes i b → a ≡ b
@@ -52,8 +53,8 @@ pub stands_joined : (holes : List Span) (i : ℕ) (s h : Span) → AreHoles hole
     → Stands (remove holes i) i (record { at = s.at; words = s.words + h.words })
 stands_joined holes i s h are stands lt is touch =
     let n = length-remove holes i lt in
-    let top = All-get_or (λ hole. hole.at + hole.words ≤ most_words) holes i h lt are.small in
-    let top2 : h.at + h.words ≤ most_words = subst (λ x. x.at + x.words ≤ most_words) (sym is) top in
+    let top = All-get_or (λ hole. hole.at + hole.words ≤ MAX_HEAP) holes i h lt are.small in
+    let top2 : h.at + h.words ≤ MAX_HEAP = subst (λ x. x.at + x.words ≤ MAX_HEAP) (sym is) top in
     record {
       within = omega (arith, n, lt);
       words = omega (arith, stands.words);
@@ -157,11 +158,11 @@ holes_inserted holes i s are stands behind before = record {
       (cases_lt j i))
       (cases_lt k i);
   some = all_insert (λ hole. 1 ≤ hole.words) holes i s stands.words are.some;
-  small = all_insert (λ hole. hole.at + hole.words ≤ most_words) holes i s stands.small are.small;
+  small = all_insert (λ hole. hole.at + hole.words ≤ MAX_HEAP) holes i s stands.small are.small;
 }
 
 -- a span that meets no hole stands behind those that begin before it
-pub stands_between : (holes : List Span) (i : ℕ) (s : Span) → AreHoles holes → 1 ≤ s.words → s.at + s.words ≤ most_words → MeetsNone holes s
+pub stands_between : (holes : List Span) (i : ℕ) (s : Span) → AreHoles holes → 1 ≤ s.words → s.at + s.words ≤ MAX_HEAP → MeetsNone holes s
     → i ≤ length holes → AllWithin (λ hole. hole.at < s.at) holes 0 i → AllWithin (λ hole. s.at ≤ hole.at) holes i (length holes) → Stands holes i s
 stands_between holes i s are some small none within low high = record {
   within = within;

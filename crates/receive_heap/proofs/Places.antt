@@ -11,7 +11,8 @@ use Rattle.std.proofs.lemmas.Map.Entries.{sum_by-remove_entry}
 use Rattle.receive_heap.specs.declared.holes.Span.{Span}
 use Rattle.receive_heap.specs.declared.extents.Block.{Block}
 use Rattle.receive_heap.specs.Layout.{Layout, IsPartition, AreApart, has_place, owners_of}
-use Rattle.receive_heap.specs.Parts.{AreHoles, MeetsNone, most_words}
+use Rattle.receive_heap.specs.Parts.{AreHoles, MeetsNone}
+use Rattle.mrpc_table.specs.declared.limits.TheConstants.{MAX_HEAP}
 
 abbrev one_of : ℕ → ℕ → ℕ → ℕ
 one_of at words place = cond (has_place at words place) 1 0
@@ -49,11 +50,11 @@ hole_behind layout is some i d lt =
     (λ (le : 1 ≤ h.at). le)
     (cases_lt h.at 1)
 
-pub are_holes : (layout : Layout) → IsPartition layout → layout.words ≤ most_words → AreApart layout.holes → All (λ hole. 1 ≤ hole.words) layout.holes → AreHoles layout.holes
+pub are_holes : (layout : Layout) → IsPartition layout → layout.words ≤ MAX_HEAP → AreApart layout.holes → All (λ hole. 1 ≤ hole.words) layout.holes → AreHoles layout.holes
 are_holes layout is most apart some = record {
   apart = apart;
   some = some;
-  small = All-from_get_or (λ hole. hole.at + hole.words ≤ most_words) layout.holes (record { at = 0; words = 0 })
+  small = All-from_get_or (λ hole. hole.at + hole.words ≤ MAX_HEAP) layout.holes (record { at = 0; words = 0 })
       (λ i lt. let w = hole_within layout is some i (record { at = 0; words = 0 }) lt in omega (arith, w, most));
 }
 

@@ -1,13 +1,10 @@
 -- How the lists of holes and of held blocks are kept.
 use Rattle.std.specs.Prelude.{◌≡◌, ℕ, ◌+◌, ◌<◌, ◌≤◌, ◌⊎◌, cond, List, All, length, slice_index_or}
 use Rattle.std.specs.List.{AllWithin, count_by}
+use Rattle.mrpc_table.specs.declared.limits.TheConstants.{MAX_HEAP}
 use Rattle.receive_heap.specs.declared.holes.Span.{Span}
 use Rattle.receive_heap.specs.declared.extents.Block.{Block}
 use Rattle.receive_heap.specs.Layout.{Layout, AreApart, has_place, IsPartition}
-
--- the words of a heap at most
-abbrev pub most_words : ℕ
-most_words = 65536
 
 -- how many of the holes have a place
 abbrev pub holes_at : List Span → ℕ → ℕ
@@ -21,7 +18,7 @@ one_at span place = cond (has_place span.at span.words place) 1 0
 pub record AreHoles (holes : List Span) : Type 0 where
   pub apart : AreApart holes
   pub some : All (λ hole. 1 ≤ hole.words) holes
-  pub small : All (λ hole. hole.at + hole.words ≤ most_words) holes
+  pub small : All (λ hole. hole.at + hole.words ≤ MAX_HEAP) holes
 
 -- the hole at an index is the first with so many words
 pub record FitsAt (holes : List Span) (words index : ℕ) : Type 0 where
@@ -33,7 +30,7 @@ pub record FitsAt (holes : List Span) (words index : ℕ) : Type 0 where
 pub record Stands (holes : List Span) (index : ℕ) (span : Span) : Type 0 where
   pub within : index ≤ length holes
   pub words : 1 ≤ span.words
-  pub small : span.at + span.words ≤ most_words
+  pub small : span.at + span.words ≤ MAX_HEAP
   pub before : (k : ℕ) (d : Span) → k < index
       → (slice_index_or holes k d).at + (slice_index_or holes k d).words ≤ span.at
   pub behind : (k : ℕ) (d : Span) → index ≤ k → k < length holes → span.at + span.words ≤ (slice_index_or holes k d).at
@@ -63,7 +60,7 @@ IsEntry next entry = (entry.1.number ≡ entry.0) × (1 ≤ entry.0) × (entry.0
 
 -- what is kept of the parts of a heap
 pub record Keeps (layout : Layout) (entries : List (ℕ × Block)) (capacity : ℕ) : Type 0 where
-  pub words : layout.words ≤ most_words
+  pub words : layout.words ≤ MAX_HEAP
   pub next : 1 ≤ layout.next
   pub partition : IsPartition layout
   pub apart : AreApart layout.holes

@@ -1,6 +1,7 @@
 //! Held blocks and holes.
 
 ghost use Rattle.std.specs.Prelude.{◌≡◌, ◌≢◌, ◌<◌, ◌≤◌, ◌+◌, ◌-◌, ◌^◌, ◌↔◌, ◌++◌, ◌∷◌, [], ℕ, All, Some, IfSome, IfNone, IfOk, OnOk, IfErr, OnErr, IsErr};
+ghost use Rattle.mrpc_table.specs.declared.limits.TheConstants.{MAX_HEAP, MIN_HEAP};
 ghost use Rattle.receive_heap.specs.Layout.{IsSound, IsFirstFit, IsLargest, IsNoHole, SaysLargest, IsWithout};
 
 use crate::Span;
@@ -85,8 +86,8 @@ impl Model for Extents {
 impl Extents {
     /// The places of a heap of so many words, 4 to 65536. Those from 1 on are one hole.
     pub fn open(alloc: Global, words: u64) -> Result<Extents, Memory>
-        requires least { 4 ≤ words }
-        requires most { words ≤ 65536 }
+        requires least { MIN_HEAP ≤ words }
+        requires most { words ≤ MAX_HEAP }
         ensures size { IfOk result (λ extents. extents.words ≡ words) }
         ensures hole { IfOk result (λ extents. extents.holes ≡ record { at = 1; words = words - 1 } ∷ []) }
         ensures held { IfOk result (λ extents. extents.held ≡ []) }

@@ -2,6 +2,7 @@
 ghost use Rattle.std.specs.Prelude.{◌≡◌, ◌<◌, ◌≤◌, ◌+◌, ℕ, All, MatchOption, length, vec_len};
 ghost use Rattle.std.specs.Vec.{vec_capacity};
 ghost use Rattle.std.specs.List.{AllWithin};
+ghost use Rattle.mrpc_table.specs.declared.limits.TheConstants.{MAX_HEAP};
 ghost use Rattle.receive_heap.specs.Layout.{IsLargest};
 ghost use Rattle.receive_heap.specs.Parts.{AreHoles, FitsAt, Stands, IsClearBehind, IsClearBefore, HaveSamePlaces, MeetsNone, holes_at, one_at, front_of};
 
@@ -63,7 +64,7 @@ pub(crate) fn cut(holes: &mut Vec<Span>, index: usize, words: u64)
 pub(crate) fn free(holes: &mut Vec<Span>, span: Span)
     requires holes { AreHoles holes.old.items }
     requires some { 1 ≤ span.words }
-    requires small { span.at + span.words ≤ 65536 }
+    requires small { span.at + span.words ≤ MAX_HEAP }
     requires apart { MeetsNone holes.old.items span }
     requires room { vec_len holes.old < vec_capacity holes.old }
     ensures holes { AreHoles holes.new.items }

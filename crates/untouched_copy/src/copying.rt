@@ -3,6 +3,7 @@
 ghost use Rattle.std.specs.Prelude.{◌≡◌, ◌<◌, ◌≤◌, ◌++◌, ℕ, List, IfOk, length, map};
 ghost use Rattle.mrpc_base.specs.Heap.{AfterLoads};
 ghost use Rattle.mrpc_table.specs.Valid.{IsValid};
+ghost use Rattle.mrpc_table.specs.declared.limits.TheConstants.{MAX_HEAP, MAX_LOADS, MIN_HEAP};
 ghost use Rattle.graph_form.specs.Forgotten.{tree_of};
 ghost use Rattle.graph_form.specs.Malformed.{IsMalformed};
 ghost use Rattle.graph_form.specs.Placed.{Placed, loads, IsSound};
@@ -29,10 +30,10 @@ pub fn copy_message(
 ) -> Result<CopyResult, Memory>
     requires valid { IsValid table.now }
     requires known { msg < length table.now.messages }
-    requires least_heap { 4 ≤ reader.old.heap.words }
-    requires greatest_heap { reader.old.heap.words ≤ 65536 }
+    requires least_heap { MIN_HEAP ≤ reader.old.heap.words }
+    requires greatest_heap { reader.old.heap.words ≤ MAX_HEAP }
     requires least_limit { 1 ≤ limit }
-    requires greatest_limit { limit ≤ 16384 }
+    requires greatest_limit { limit ≤ MAX_LOADS }
 
     // A graph that stands after so many stores as the reader knows, and to which no later store goes, whatever list of
     // stores goes on from what the reader knows now, is copied, by as many loads as it has words.

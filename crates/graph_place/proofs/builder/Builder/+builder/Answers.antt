@@ -6,6 +6,7 @@ use Rattle.std.proofs.lemmas.Result.{on_ok_weaker}
 use Rattle.mrpc_table.specs.Node.{one}
 use Rattle.mrpc_table.specs.Normal.{fields_of, IsItem}
 use Rattle.mrpc_table.specs.View.{item_of, items_of, pairs_of, content_of}
+use Rattle.mrpc_table.specs.Words.{key_kind}
 use Rattle.mrpc_table.specs.Weight.{weight, content_weight, item_weight, items_weight, pairs_weight}
 use Rattle.mrpc_table.specs.declared.tree.FieldValue.{FieldValue}
 use Rattle.mrpc_table.specs.declared.tree.Value.{Value}
@@ -314,15 +315,15 @@ item-returns-in_ok-put-in-Run-clause-puts t c =
 
 pub item-node-requires : goal.item-node-requires
 item-node-requires t c =
-    let whole = node_words_is c.args.table.now c.args.kind c.args.value.now c.in-Node.tree c.message_of.result c.in-Node.is c.message_of.ensures in
+    let whole = node_words_is c.args.table.now c.args.kind c.args.value.now c.in-Node.tree c.message.result c.in-Node.is c.message.ensures in
     let weighs : item_weight (item_of c.args.value.now) ≡ 1 + weight c.in-Node.tree = ap (λ (x : Value). item_weight (item_of x)) c.in-Node.is in (
       omega (arith, weighs, c.decreases),
       (
         c.requires.valid,
         (
-          node_fields c.args.table.now c.args.kind c.args.value.now c.in-Node.tree c.message_of.result c.in-Node.is c.requires.item c.message_of.ensures,
+          node_fields c.args.table.now c.args.kind c.args.value.now c.in-Node.tree c.message.result c.in-Node.is c.requires.item c.message.ensures,
           (
-            node_oneofs c.args.table.now c.args.kind c.args.value.now c.in-Node.tree c.message_of.result c.in-Node.is c.requires.item c.message_of.ensures,
+            node_oneofs c.args.table.now c.args.kind c.args.value.now c.in-Node.tree c.message.result c.in-Node.is c.requires.item c.message.ensures,
             (omega (arith, c.requires.from_one, c.requires.slot, c.put-in-Node.ensures.free), omega (arith, whole, c.requires.room, c.put-in-Node.ensures.free)),
           ),
         ),
@@ -331,13 +332,13 @@ item-node-requires t c =
 
 pub item-returns-in_ok-put-in-Node-clause-free : goal.item-returns-in_ok-put-in-Node-clause-free
 item-returns-in_ok-put-in-Node-clause-free t c =
-    let whole = node_words_is c.args.table.now c.args.kind c.args.value.now c.in-Node.tree c.message_of.result c.in-Node.is c.message_of.ensures in
+    let whole = node_words_is c.args.table.now c.args.kind c.args.value.now c.in-Node.tree c.message.result c.in-Node.is c.message.ensures in
     on_ok_weaker c.node.result (λ size. omega (arith, size, whole, c.put-in-Node.ensures.free)) c.node.ensures.free
 
 pub item-returns-in_ok-put-in-Node-clause-puts : goal.item-returns-in_ok-put-in-Node-clause-puts
 item-returns-in_ok-put-in-Node-clause-puts t c =
     on_ok_both c.node.result
-    (λ size puts. item_node c.args.table.now c.args.kind c.args.value.now c.in-Node.tree c.message_of.result c.args.place c.args.self.now.free c.put-in-Node.new.self.free c.node.new.self.free c.args.self.now.words.items c.put-in-Node.new.self.words.items c.node.new.self.words.items c.in-Node.is c.requires.item c.message_of.ensures c.requires.from_one c.requires.slot (omega (arith, c.requires.room)) c.put-in-Node.ensures.free size
+    (λ size puts. item_node c.args.table.now c.args.kind c.args.value.now c.in-Node.tree c.message.result c.args.place c.args.self.now.free c.put-in-Node.new.self.free c.node.new.self.free c.args.self.now.words.items c.put-in-Node.new.self.words.items c.node.new.self.words.items c.in-Node.is c.requires.item c.message.ensures c.requires.from_one c.requires.slot (omega (arith, c.requires.room)) c.put-in-Node.ensures.free size
     c.in_ok-put-in-Node.ensures.words puts)
     c.node.ensures.free c.node.ensures.puts
 
@@ -453,7 +454,7 @@ slot-overflow_add-place-in-Pairs t c =
 
 pub slot-entries-requires : goal.slot-entries-requires
 slot-entries-requires t c =
-    let h = key_given c.args.table.now c.args.label c.args.kind c.key_kind.result c.args.content.now c.in-Pairs.entries c.in-Pairs.is c.requires.content c.key_kind.ensures in
+    let h = key_given c.args.table.now c.args.label c.args.kind c.key.result c.args.content.now c.in-Pairs.entries c.in-Pairs.is c.requires.content (λ key e. c.key.ensures ∙ ap key_kind e) in
     let whole : content_words c.args.table.now c.args.kind (content_of c.args.content.now) ≡ pairs_words c.args.table.now c.args.kind (pairs_of c.in-Pairs.entries.items) = ap (λ (x : FieldValue). content_words c.args.table.now c.args.kind (content_of x)) c.in-Pairs.is in
     let weighs : content_weight (content_of c.args.content.now) ≡ pairs_weight (pairs_of c.in-Pairs.entries.items) = ap (λ (x : FieldValue). content_weight (content_of x)) c.in-Pairs.is in
     (omega (arith, weighs, c.decreases), (c.requires.valid, (h.3, (h.1, (omega arith, (omega (arith, c.requires.slot, c.put-in-Pairs.ensures.free), omega (arith, whole, c.requires.room, c.put-in-Pairs.ensures.free)))))))
@@ -467,7 +468,7 @@ pub slot-returns-in_ok-put-in-Pairs-clause-puts : goal.slot-returns-in_ok-put-in
 slot-returns-in_ok-put-in-Pairs-clause-puts t c =
     let count : c.len-in-Pairs.result ≡ length c.in-Pairs.entries.items = omega (arith, c.len-in-Pairs.ensures) in
     on_ok_both c.entries.result
-    (λ size puts. slot_pairs_put c.args.table.now c.args.label c.args.kind c.key_kind.result c.args.content.now c.in-Pairs.entries c.args.place c.args.self.now.free c.put-in-Pairs.new.self.free c.entries.new.self.free c.args.self.now.words.items c.put-in-Pairs.new.self.words.items c.entries.new.self.words.items c.in-Pairs.is c.requires.content c.key_kind.ensures (omega (arith, c.len-in-Pairs.ensures, c.len-in-Pairs.type_inv)) c.requires.slot c.put-in-Pairs.ensures.free size
+    (λ size puts. slot_pairs_put c.args.table.now c.args.label c.args.kind c.key.result c.args.content.now c.in-Pairs.entries c.args.place c.args.self.now.free c.put-in-Pairs.new.self.free c.entries.new.self.free c.args.self.now.words.items c.put-in-Pairs.new.self.words.items c.entries.new.self.words.items c.in-Pairs.is c.requires.content (λ key e. c.key.ensures ∙ ap key_kind e) (omega (arith, c.len-in-Pairs.ensures, c.len-in-Pairs.type_inv)) c.requires.slot c.put-in-Pairs.ensures.free size
     (c.in_ok-put-in-Pairs.ensures.words ∙ ap (λ n. c.args.self.now.words.items ++ (c.args.place, n) ∷ []) count) puts)
     c.entries.ensures.free c.entries.ensures.puts
 
