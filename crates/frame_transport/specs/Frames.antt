@@ -5,6 +5,7 @@ use Rattle.std.specs.List.{flat_map}
 use Rattle.byteorder.specs.Endian.{big_number}
 use Rattle.frame_transport.specs.Bytes.{frame_bytes}
 use Rattle.frame_transport.specs.declared.format.Frame.{Frame}
+use Rattle.frame_transport.specs.declared.format.TheConstants.{MAX_PAYLOAD}
 use Rattle.frame_transport.specs.declared.fault.FeedFault.{FeedFault}
 use Rattle.frame_transport.specs.declared.fault.FeedFault.TheVariants.{Version, Kind, TooLong}
 
@@ -20,7 +21,7 @@ HasVersion kind version = (version ≡ 1) ⊎ ((kind ≡ 3) × (version ≡ 2))
 pub record IsFrame (f : Frame) : Type 0 where
   pub kind : IsKind f.kind
   pub version : HasVersion f.kind f.version
-  pub short : length f.payload ≤ 262144
+  pub short : length f.payload ≤ MAX_PAYLOAD
   pub method : f.method < 2 ^ 16
   pub conn : f.conn < 2 ^ 32
   pub number : f.number < 2 ^ 32
@@ -55,11 +56,11 @@ version_in bytes = slice_index bytes 5
 -- A frame that begins with these bytes at this place is at fault: its length is too long, or else its kind is none, or
 -- else its kind hasn't its version. Each field counts as soon as it is there.
 pub data IsFaultAt (place : ℕ) (bytes : List ℕ) (fault : FeedFault) : Type 0 where
-  long : 4 ≤ length bytes → 262144 < length_in bytes → fault ≡ TooLong place (length_in bytes)
+  long : 4 ≤ length bytes → MAX_PAYLOAD < length_in bytes → fault ≡ TooLong place (length_in bytes)
       → IsFaultAt place bytes fault
-  no_kind : 5 ≤ length bytes → length_in bytes ≤ 262144 → (IsKind (kind_in bytes) → ⊥)
+  no_kind : 5 ≤ length bytes → length_in bytes ≤ MAX_PAYLOAD → (IsKind (kind_in bytes) → ⊥)
       → fault ≡ Kind (place + 4) (kind_in bytes) → IsFaultAt place bytes fault
-  no_version : 6 ≤ length bytes → length_in bytes ≤ 262144 → IsKind (kind_in bytes)
+  no_version : 6 ≤ length bytes → length_in bytes ≤ MAX_PAYLOAD → IsKind (kind_in bytes)
       → (HasVersion (kind_in bytes) (version_in bytes) → ⊥)
       → fault ≡ Version (place + 5) (version_in bytes) → IsFaultAt place bytes fault
 

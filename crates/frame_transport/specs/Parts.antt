@@ -4,6 +4,7 @@ use Rattle.std.specs.Prelude.{◌≡◌, ℕ, ◌+◌, ◌-◌, ◌<◌, ◌≤�
 use Rattle.byteorder.specs.Endian.{big_number}
 use Rattle.frame_transport.specs.Frames.{IsFrame, bytes_of, joined, IsPartial, Splits, length_in, HasFault}
 use Rattle.frame_transport.specs.declared.format.Frame.{Frame}
+use Rattle.frame_transport.specs.declared.format.TheConstants.{HEADER_LEN, MAX_PAYLOAD, METHOD_PLACE}
 use Rattle.frame_transport.specs.declared.fault.FeedFault.{FeedFault}
 use Rattle.frame_transport.specs.declared.header.Header.{Header}
 use Rattle.frame_transport.specs.declared.beginning.Beginning.{Beginning}
@@ -17,25 +18,25 @@ pub record IsHeaderOf (bytes : List ℕ) (h : Header) : Type 0 where
   pub size : h.length ≡ length_in bytes
   pub kind : h.kind ≡ slice_index bytes 4
   pub version : h.version ≡ slice_index bytes 5
-  pub method : h.method ≡ big_number 2 (drop 6 bytes)
+  pub method : h.method ≡ big_number 2 (drop METHOD_PLACE bytes)
   pub conn : h.conn ≡ big_number 4 (drop 8 bytes)
   pub number : h.number ≡ big_number 4 (drop 12 bytes)
 
 -- the header at the front of two parts has no fault, and the first part ends in its frame
 pub record IsClear (place : ℕ) (begun piece : List ℕ) (h : Header) : Type 0 where
-  pub clean : HasFault place (take 16 (begun ++ piece)) None
-  pub long : 16 ≤ length (take 16 (begun ++ piece))
-  pub header : IsHeaderOf (take 16 (begun ++ piece)) h
-  pub small : h.length ≤ 262144
-  pub longer : length begun < 16 + h.length
+  pub clean : HasFault place (take HEADER_LEN (begun ++ piece)) None
+  pub long : HEADER_LEN ≤ length (take HEADER_LEN (begun ++ piece))
+  pub header : IsHeaderOf (take HEADER_LEN (begun ++ piece)) h
+  pub small : h.length ≤ MAX_PAYLOAD
+  pub longer : length begun < HEADER_LEN + h.length
 
 -- begun begins this frame and piece ends it
 pub record EndsFrame (place : ℕ) (begun piece : List ℕ) (f : Frame) : Type 0 where
   pub frame : IsFrame f
   pub stands : f.place ≡ place
-  pub longer : length begun < 16 + length f.payload
-  pub within : 16 + length f.payload ≤ length begun + length piece
-  pub bytes : begun ++ piece ≡ bytes_of f ++ drop (16 + length f.payload - length begun) piece
+  pub longer : length begun < HEADER_LEN + length f.payload
+  pub within : HEADER_LEN + length f.payload ≤ length begun + length piece
+  pub bytes : begun ++ piece ≡ bytes_of f ++ drop (HEADER_LEN + length f.payload - length begun) piece
 
 -- no whole frame stands at the front, and this fault, or none so far
 pub record HasNoFrame (place : ℕ) (stream : List ℕ) (fault : Option FeedFault) : Type 0 where

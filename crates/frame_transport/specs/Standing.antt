@@ -1,6 +1,7 @@
 -- Frames where they stand in the bytes of a stream.
 use Rattle.std.specs.Prelude.{◌≡◌, ℕ, ◌+◌, List, ◌++◌, length, drop}
 use Rattle.frame_transport.specs.Frames.{IsFrame, bytes_of}
+use Rattle.frame_transport.specs.declared.format.TheConstants.{HEADER_LEN}
 use Rattle.frame_transport.specs.declared.format.Frame.{Frame}
 use Rattle.frame_transport.specs.declared.standing.FrameRef.{FrameRef}
 
@@ -20,4 +21,4 @@ frame_of f = record {
 pub record StandsAt (place : ℕ) (bytes : List ℕ) (f : Frame) : Type 0 where
   pub frame : IsFrame f
   pub stands : f.place ≡ place
-  pub whole : bytes ≡ bytes_of f ++ drop (16 + length f.payload) bytes
+  pub whole : bytes ≡ bytes_of f ++ drop (HEADER_LEN + length f.payload) bytes

@@ -76,7 +76,7 @@ fn keep(
 /// How many of the bytes behind the last whole frame are kept: all of them, or up to their fault
 /// and further by less than a header.
 fn kept_len(fault: Option<FeedFault>, left: usize) -> usize
-    ensures { result ≡ (if is_some fault then min left 16 else left) }
+    ensures { result ≡ (if is_some fault then min left HEADER_LEN else left) }
 {
     match fault {
         None => left,

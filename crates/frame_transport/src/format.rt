@@ -5,6 +5,9 @@ use mrpc_table::Bytes;
 /// The bytes of a frame in front of its payload.
 pub const HEADER_LEN: usize = 16;
 
+/// Where the number of the method begins in a header.
+pub const METHOD_PLACE: u64 = 6;
+
 /// The most bytes that a payload has.
 pub const MAX_PAYLOAD: usize = 262144;
 

@@ -6,7 +6,7 @@ ghost use Rattle.frame_transport.specs.Parts.{IsFront};
 
 use crate::beginning::{Beginning, read_beginning};
 use crate::fault::FeedFault;
-use crate::format::{Frame, HEADER_LEN};
+use crate::format::{Frame, HEADER_LEN, MAX_PAYLOAD};
 use mrpc_table::{Bytes, Memory};
 use std::alloc::Global;
 
@@ -51,10 +51,10 @@ pub(crate) fn front_of(
 
 /// The payload of this length of the frame that `begun` begins and `piece` ends.
 fn payload_of(alloc: Global, begun: &[u8], piece: &[u8], size: usize) -> Result<Bytes, Memory>
-    requires short { size ≤ 262144 }
-    requires begun { length begun.now < 16 + size }
-    requires within { 16 + size ≤ length begun.now + length piece.now }
-    ensures { IfOk result (λ payload. payload ≡ take size (drop 16 (begun.now ++ piece.now))) }
+    requires short { size ≤ MAX_PAYLOAD }
+    requires begun { length begun.now < HEADER_LEN + size }
+    requires within { HEADER_LEN + size ≤ length begun.now + length piece.now }
+    ensures { IfOk result (λ payload. payload ≡ take size (drop HEADER_LEN (begun.now ++ piece.now))) }
 {
     let begin = begun.len().min(HEADER_LEN);
     let mut payload = Bytes::with_room(alloc, size)?;

@@ -5,7 +5,9 @@ ghost use Rattle.frame_transport.specs.Frames.{IsKind, HasVersion, HasFault};
 ghost use Rattle.frame_transport.specs.Parts.{IsHeaderOf};
 
 use crate::fault::FeedFault;
-use crate::format::{HEADER_LEN, HELLO, HELLO_VERSION, MAX_PAYLOAD, REQUEST, VERSION};
+use crate::format::{
+    HEADER_LEN, HELLO, HELLO_VERSION, MAX_PAYLOAD, METHOD_PLACE, REQUEST, VERSION,
+};
 use byteorder::{BigEndian, ByteOrder};
 use std::marker::Model;
 
@@ -29,18 +31,19 @@ pub(crate) struct Header {
 
 impl Model for HeaderPart {
     ghost use Rattle.std.specs.Prelude.{ℕ, List, take, ◌≤◌};
+    ghost use Rattle.frame_transport.specs.declared.format.TheConstants.{HEADER_LEN};
 
     ghost Value = { List ℕ };
 
     ghost view = { λ b. take b.len b.bytes };
 
-    ghost invariant = { λ b. b.len ≤ 16 };
+    ghost invariant = { λ b. b.len ≤ HEADER_LEN };
 }
 
 impl HeaderPart {
-    /// The first 16 bytes of `begun` and then `piece`, or all where there are fewer.
+    /// The first bytes of `begun` and then `piece`, or all where there are fewer.
     pub fn of(begun: &[u8], piece: &[u8]) -> HeaderPart
-        ensures { result ≡ take 16 (begun.now ++ piece.now) }
+        ensures { result ≡ take HEADER_LEN (begun.now ++ piece.now) }
     {
         let mut bytes = [0; HEADER_LEN];
         let old = begun.len().min(HEADER_LEN);
@@ -111,7 +114,7 @@ fn has_version(kind: u8, version: u8) -> bool
 /// The numbers in a header.
 #[tactic(auto, unfolding(crate::specs::Frames::length_in))]
 pub(crate) fn read_header(bytes: &[u8]) -> Option<Header>
-    ensures none { IsNone result ↔ (length bytes.now < 16) }
+    ensures none { IsNone result ↔ (length bytes.now < HEADER_LEN) }
     ensures some { IfSome result (IsHeaderOf bytes.now) }
 {
     if bytes.len() < HEADER_LEN {
@@ -120,7 +123,7 @@ pub(crate) fn read_header(bytes: &[u8]) -> Option<Header>
     Some(Header {
         kind: bytes[4],
         version: bytes[5],
-        method: BigEndian::read_u16(&bytes[6..]),
+        method: BigEndian::read_u16(&bytes[METHOD_PLACE as usize..]),
         conn: BigEndian::read_u32(&bytes[8..]),
         number: BigEndian::read_u32(&bytes[12..]),
         length: BigEndian::read_u32(bytes) as usize,

@@ -3,6 +3,7 @@
 ghost use Rattle.std.specs.Prelude.{◌≡◌, ◌<◌, ◌+◌, ◌++◌, ℕ, List, [], length, All};
 ghost use Rattle.frame_transport.specs.Frames.{AlwaysSplits, SplitsOnce, FaultStays, AlwaysEnds, EndsOnce, IsFrame, bytes_of, joined, StandFrom, IsPartial, IsFaultAt, Splits};
 ghost use Rattle.frame_transport.specs.declared.format.Frame.{Frame};
+ghost use Rattle.frame_transport.specs.declared.format.TheConstants.{HEADER_LEN};
 ghost use Rattle.frame_transport.specs.declared.fault.FeedFault.{FeedFault};
 
 /// A stream of bytes splits into its frames, and in one way, however it was cut into pieces. It has
@@ -22,7 +23,7 @@ pub fn one_frame()
     ensures once { (f g : Frame) (more others : List ℕ) → IsFrame f → IsFrame g
         → bytes_of f ++ more ≡ bytes_of g ++ others
         → f.place ≡ g.place → (f ≡ g) × (more ≡ others) }
-    ensures size { (f : Frame) → length (bytes_of f) ≡ 16 + length f.payload }
+    ensures size { (f : Frame) → length (bytes_of f) ≡ HEADER_LEN + length f.payload }
     ensures nothing { IsPartial [] }
     ensures short { (place : ℕ) (bytes : List ℕ) → length bytes < 4 → (fault : FeedFault) → IsFaultAt place bytes fault
         → ⊥ }

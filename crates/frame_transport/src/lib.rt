@@ -28,7 +28,9 @@ mod written;
 pub use byte_link::ByteLink;
 pub use fault::FeedFault;
 pub use feed::Feed;
-pub use format::{Frame, HEADER_LEN, HELLO, HELLO_VERSION, MAX_PAYLOAD, REPLY, REQUEST, VERSION};
+pub use format::{
+    Frame, HEADER_LEN, HELLO, HELLO_VERSION, MAX_PAYLOAD, METHOD_PLACE, REPLY, REQUEST, VERSION,
+};
 pub use laws::{frames_join, one_frame, one_split};
 pub use standing::{FrameRef, frame_at};
 pub use written::{frame, hello_frame};

@@ -3,7 +3,9 @@
 ghost use Rattle.std.specs.Prelude.{◌≡◌, ◌≤◌, length, IfOk};
 ghost use Rattle.frame_transport.specs.Bytes.{frame_bytes};
 
-use crate::format::{HEADER_LEN, HELLO, HELLO_VERSION, MAX_PAYLOAD, REPLY, REQUEST, VERSION};
+use crate::format::{
+    HEADER_LEN, HELLO, HELLO_VERSION, MAX_PAYLOAD, METHOD_PLACE, REPLY, REQUEST, VERSION,
+};
 use byteorder::{BigEndian, ByteOrder};
 use mrpc_table::{Bytes, Memory};
 use std::alloc::Global;
@@ -50,7 +52,7 @@ fn write(
     BigEndian::write_u32(&mut header, payload.len() as u32);
     header[4] = kind;
     header[5] = version;
-    BigEndian::write_u16(&mut header[6..], method);
+    BigEndian::write_u16(&mut header[METHOD_PLACE as usize..], method);
     BigEndian::write_u32(&mut header[8..], conn);
     BigEndian::write_u32(&mut header[12..], number);
     let mut bytes = Bytes::with_room(alloc, HEADER_LEN + payload.len())?;

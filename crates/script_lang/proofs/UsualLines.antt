@@ -133,11 +133,11 @@ store_is : (b : Body) (o : Opened) (c p v : List ℕ) (conn place value : ℕ) �
 unfolding store_said
 store_is b o c p v conn place value opened closed c_is p_is v_is p_small v_small h =
     rw (
-      first_is c (p ∷ v ∷ []) conn c_is (omega (arith, h.to_16)),
+      first_is c (p ∷ v ∷ []) conn c_is (omega (arith, h.to_last)),
       first_is p (v ∷ []) place p_is p_small,
       last_is v value v_is v_small,
       le-leb 1 conn h.from_one,
-      le-leb conn 16 h.to_16,
+      le-leb conn 16 h.to_last,
       le-leb 0 value (omega arith),
       le-leb value (2 ^ 64 - 1) (omega (arith, v_small)),
       opened,

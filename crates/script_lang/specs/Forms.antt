@@ -3,7 +3,9 @@ use Rattle.std.specs.Prelude.{◌≡◌, ℕ, ◌-◌, ◌%◌, ◌^◌, ◌≤�
 use Rattle.std.specs.List.{AllByRecursion, list_all}
 use Rattle.std.specs.Str.Parse.{digits_value}
 use Rattle.mrpc_table.specs.Lines.{number_of}
+use Rattle.mrpc_table.specs.declared.limits.TheConstants.{MIN_HEAP, MAX_HEAP}
 use Rattle.script_lang.specs.Lines.{Allows}
+use Rattle.script_lang.specs.declared.limits.TheConstants.{MAX_CONNECTIONS}
 use Rattle.script_lang.specs.declared.script.Line.{Line}
 use Rattle.script_lang.specs.declared.script.Line.TheVariants as line
 
@@ -71,7 +73,7 @@ abbrev pub from_to : ℕ → ℕ → ℕ → Ranged
 from_to least most number = record { least = least; number = number; most = most }
 
 abbrev pub ranged_conn : ℕ → Ranged
-ranged_conn c = from_to 1 16 c
+ranged_conn c = from_to 1 MAX_CONNECTIONS c
 
 -- a number of 64 bits; a negative one from -2^63
 abbrev pub ranged_word : ℕ → Ranged
@@ -84,7 +86,7 @@ ranged_value (hexadecimal digits) = ranged_word (digits_value 16 digits)
 
 -- the numbers of a form, but for places: how large one may be depends on the connection
 abbrev pub numbers_of : Form → List Ranged
-numbers_of (conn c w) = ranged_conn c ∷ from_to 4 65536 w ∷ []
+numbers_of (conn c w) = ranged_conn c ∷ from_to MIN_HEAP MAX_HEAP w ∷ []
 numbers_of (store c p v) = ranged_conn c ∷ ranged_value v ∷ []
 numbers_of (race c k p v) = ranged_conn c ∷ ranged_word k ∷ ranged_value v ∷ []
 numbers_of (submit c m a) = ranged_conn c ∷ from_to 0 65535 m ∷ ranged_word a ∷ []

@@ -3,6 +3,7 @@ use Rattle.std.specs.Prelude.{◌≡◌, ◌≢◌, ℕ, ◌≤◌, Bool, true, 
 use Rattle.mrpc_table.specs.Lines.{words_of}
 use Rattle.script_lang.specs.Lines.{is_conn, is_submit, IsOpen, IsPlace}
 use Rattle.script_lang.specs.Forms.{Value, Form, conn, store, race, submit, reply, drain, close, AreWordsOf, AreInRange, Says}
+use Rattle.script_lang.specs.declared.limits.TheConstants.{MAX_SUBMITS}
 use Rattle.script_lang.specs.declared.script.Line.{Line}
 use Rattle.script_lang.specs.declared.fault.ScriptReason.{ScriptReason}
 use Rattle.script_lang.specs.declared.fault.ScriptReason.TheVariants.{Header, Table, Word, Number, Known, Unknown, Place, NotYet, Close, After}
@@ -67,8 +68,8 @@ pub data Offends (b : Before) (text : List ℕ) (reason : ScriptReason) : Type 0
   later_form : IsLater text → reason ≡ NotYet → Offends b text reason
   second_conn : (c w : ℕ) → IsForm (conn c w) text → count_by is_conn b.lines ≢ 0 → reason ≡ NotYet
       → Offends b text reason
-  too_many : (f : Form) → IsForm f text → is_submission f ≡ true → 64 ≤ count_by is_submit b.lines → reason ≡ NotYet
-      → Offends b text reason
+  too_many : (f : Form) → IsForm f text → is_submission f ≡ true → MAX_SUBMITS ≤ count_by is_submit b.lines
+      → reason ≡ NotYet → Offends b text reason
   behind_close : b.closed ≡ true → (IsSkipped text → ⊥) → reason ≡ After → Offends b text reason
 
 -- of the reasons that a line gives the first counts

@@ -5,10 +5,12 @@ use Rattle.std.specs.List.{list_all, list_any}
 use Rattle.std.specs.Str.{bytes_eq}
 use Rattle.std.specs.Str.Parse.{digits_value}
 use Rattle.mrpc_table.specs.Lines.{words_of, number_of, in_64_bits}
+use Rattle.mrpc_table.specs.declared.limits.TheConstants.{MIN_HEAP, MAX_HEAP}
 use Rattle.mrpc_table.specs.declared.words.Decimal.{Decimal}
 use Rattle.mrpc_table.specs.declared.words.Decimal.TheVariants.{Small, Large}
 use Rattle.script_lang.specs.Forms.{is_hexadecimal}
 use Rattle.script_lang.specs.Offences.{later_words}
+use Rattle.script_lang.specs.declared.limits.TheConstants.{MAX_CONNECTIONS, MAX_SUBMITS}
 use Rattle.script_lang.specs.declared.body.Body.{Body}
 use Rattle.script_lang.specs.declared.body.Opened.{Opened}
 use Rattle.script_lang.specs.declared.body.Said.{Said}
@@ -120,7 +122,7 @@ none_open None c = Ok tt
 none_open (Some o) c = if o.conn == c then Err Known else Err NotYet
 
 abbrev pub has_room : ℕ → Result (Unit {0}) ScriptReason
-has_room submits = if nat_lt submits 64 then Ok tt else Err NotYet
+has_room submits = if nat_lt submits MAX_SUBMITS then Ok tt else Err NotYet
 
 abbrev pub not_closed : Bool → Result (Unit {0}) ScriptReason
 not_closed closed = if closed then Err After else Ok tt
@@ -130,8 +132,8 @@ conn_said b words = do
   c ← first_number words
   w ← first_number c.1
   end ← no_more w.1
-  conn ← within 1 16 c.0
-  room ← within 4 65536 w.0
+  conn ← within 1 MAX_CONNECTIONS c.0
+  room ← within MIN_HEAP MAX_HEAP w.0
   new ← none_open b.opened conn
   open_still ← not_closed b.closed
   Ok (line.Conn conn room)
@@ -141,7 +143,7 @@ store_said b words = do
   c ← first_number words
   p ← first_number c.1
   v ← last_value p.1
-  conn ← within 1 16 c.0
+  conn ← within 1 MAX_CONNECTIONS c.0
   value ← within 0 (2 ^ 64 - 1) v
   heap ← heap_of b.opened conn
   place ← place_in heap p.0
@@ -154,7 +156,7 @@ race_said b words = do
   k ← first_number c.1
   p ← first_number k.1
   v ← last_value p.1
-  conn ← within 1 16 c.0
+  conn ← within 1 MAX_CONNECTIONS c.0
   load ← within 0 (2 ^ 64 - 1) k.0
   value ← within 0 (2 ^ 64 - 1) v
   heap ← heap_of b.opened conn
@@ -180,7 +182,7 @@ submit_said b words = do
   m ← first_number c.1
   a ← first_number m.1
   n ← optional_number a.1
-  conn ← within 1 16 c.0
+  conn ← within 1 MAX_CONNECTIONS c.0
   method ← within 0 65535 m.0
   addr ← within 0 (2 ^ 64 - 1) a.0
   number ← request_in n
@@ -192,7 +194,7 @@ submit_said b words = do
 unfoldable pub drain_said : Body → List (List ℕ) → Result Line ScriptReason
 drain_said b words = do
   c ← last_number words
-  conn ← within 1 16 c
+  conn ← within 1 MAX_CONNECTIONS c
   heap ← heap_of b.opened conn
   open_still ← not_closed b.closed
   Ok (line.Drain conn)

@@ -4,12 +4,14 @@ use Rattle.std.specs.List.{flat_map}
 use Rattle.mrpc_table.specs.Lines.{line_count}
 use Rattle.mrpc_table.specs.Text.{table_text}
 use Rattle.mrpc_table.specs.Valid.{IsValid}
+use Rattle.mrpc_table.specs.declared.limits.TheConstants.{MAX_LOADS}
 use Rattle.mrpc_table.specs.declared.table.Table.{Table as TheTable}
 use Rattle.table_text.specs.Faults.{IsFirstFault}
 use Rattle.table_text.specs.TableText.{IsTableBehind}
 use Rattle.table_text.specs.declared.fault.TableReason.{TableReason}
 use Rattle.script_lang.specs.Forms.{IsNumber}
 use Rattle.script_lang.specs.Offences.{Before, OffendsFirst, Leads}
+use Rattle.script_lang.specs.declared.limits.TheConstants.{USUAL_LOADS}
 use Rattle.script_lang.specs.declared.script.Script.{Script}
 use Rattle.script_lang.specs.declared.fault.ScriptFault.{ScriptFault}
 use Rattle.script_lang.specs.declared.fault.ScriptFault.TheVariants as fault
@@ -29,10 +31,10 @@ abbrev pub loads_line : List ℕ → List ℕ
 loads_line word = codes "loads " ++ (word ++ codes "\n")
 
 abbrev pub IsLimit : ℕ → Type 0
-IsLimit loads = (1 ≤ loads) × (loads ≤ 16384)
+IsLimit loads = (1 ≤ loads) × (loads ≤ MAX_LOADS)
 
 pub data IsHead (head : List ℕ) (loads : ℕ) : Type 0 where
-  usual : head ≡ first_line ++ table_line → loads ≡ 1024 → IsHead head loads
+  usual : head ≡ first_line ++ table_line → loads ≡ USUAL_LOADS → IsHead head loads
   limited : (word : List ℕ) → head ≡ first_line ++ (loads_line word ++ table_line) → IsNumber word loads
       → IsLimit loads → IsHead head loads
 

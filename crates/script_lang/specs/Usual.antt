@@ -2,6 +2,7 @@
 use Rattle.std.specs.Prelude.{◌≡◌, ℕ, ◌<◌, ◌≤◌, ◌^◌, List, ◌∷◌, ◌++◌, codes, Some, Result}
 use Rattle.mrpc_table.specs.Lines.{pieces_of, number_of}
 use Rattle.script_lang.specs.Reading.{said_by}
+use Rattle.script_lang.specs.declared.limits.TheConstants.{MAX_CONNECTIONS}
 use Rattle.script_lang.specs.declared.body.Body.{Body}
 use Rattle.script_lang.specs.declared.body.Opened.{Opened}
 use Rattle.script_lang.specs.declared.body.Said.{Said}
@@ -34,6 +35,6 @@ pub record IsUsualStore (text : List ℕ) (conn place value : ℕ) (behind : Lis
 pub record IsInHeap (o : Opened) (conn place : ℕ) : Type 0 where
   pub same : conn ≡ o.conn
   pub from_one : 1 ≤ conn
-  pub to_16 : conn ≤ 16
+  pub to_last : conn ≤ MAX_CONNECTIONS
   pub some_place : 1 ≤ place
   pub in_heap : place < o.words

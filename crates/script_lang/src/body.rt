@@ -5,13 +5,11 @@ ghost use Rattle.script_lang.specs.Reading.{within, heap_of, place_in, load_of, 
 ghost use Rattle.mrpc_table.specs.Lines.{words_of};
 
 use crate::fault::ScriptReason;
+use crate::limits::{MAX_CONNECTIONS, MAX_SUBMITS};
 use crate::script::{Line, Lines};
 use crate::word::{Rest, last_number, last_value, no_more, number, within};
-use mrpc_table::{Decimal, Memory, cut};
+use mrpc_table::{Decimal, MAX_HEAP, MIN_HEAP, Memory, cut};
 use std::alloc::Global;
-
-/// The most `submit` lines of a script.
-const SUBMIT_LIMIT: u32 = 64;
 
 /// The first words of lines.
 const STORE: &[u8] = b"store";
@@ -162,7 +160,7 @@ impl Body {
     fn has_room(&self) -> Result<(), ScriptReason>
         ensures { result ≡ has_room self.now.submits }
     {
-        if self.submits < SUBMIT_LIMIT {
+        if self.submits < MAX_SUBMITS {
             Ok(())
         } else {
             Err(ScriptReason::NotYet)
@@ -187,8 +185,8 @@ impl Body {
         let (conn, rest) = number(rest)?;
         let (words, rest) = number(rest)?;
         no_more(rest)?;
-        let conn = within(1, 16, conn)?;
-        let words = within(4, 65536, words)?;
+        let conn = within(1, MAX_CONNECTIONS, conn)?;
+        let words = within(MIN_HEAP, MAX_HEAP, words)?;
         self.none_open(conn)?;
         self.not_closed()?;
         Ok(Line::Conn {
@@ -204,7 +202,7 @@ impl Body {
         let (conn, rest) = number(rest)?;
         let (place, rest) = number(rest)?;
         let value = last_value(rest)?;
-        let conn = within(1, 16, conn)?;
+        let conn = within(1, MAX_CONNECTIONS, conn)?;
         let value = within(0, u64::MAX, value)?;
         let words = self.heap_of(conn)?;
         let place = place_in(words, place)?;
@@ -224,7 +222,7 @@ impl Body {
         let (load, rest) = number(rest)?;
         let (place, rest) = number(rest)?;
         let value = last_value(rest)?;
-        let conn = within(1, 16, conn)?;
+        let conn = within(1, MAX_CONNECTIONS, conn)?;
         let load = within(0, u64::MAX, load)?;
         let value = within(0, u64::MAX, value)?;
         let words = self.heap_of(conn)?;
@@ -247,7 +245,7 @@ impl Body {
         let (method, rest) = number(rest)?;
         let (addr, rest) = number(rest)?;
         let request = optional_number(rest)?;
-        let conn = within(1, 16, conn)?;
+        let conn = within(1, MAX_CONNECTIONS, conn)?;
         let method = within(0, 65535, method)?;
         let addr = within(0, u64::MAX, addr)?;
         let request = request_in(request)?;
@@ -267,7 +265,7 @@ impl Body {
         ensures { result ≡ drain_said self.now (words_in rest.entry) }
     {
         let conn = last_number(rest)?;
-        let conn = within(1, 16, conn)?;
+        let conn = within(1, MAX_CONNECTIONS, conn)?;
         self.heap_of(conn)?;
         self.not_closed()?;
         Ok(Line::Drain { conn: conn as u32 })

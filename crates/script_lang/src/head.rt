@@ -5,8 +5,9 @@ ghost use Rattle.script_lang.specs.Texts.{IsHead, IsFaultOf};
 ghost use Rattle.script_lang.specs.Heads.{HasLimit, IsLimitFault};
 
 use crate::fault::{ScriptFault, ScriptReason};
+use crate::limits::USUAL_LOADS;
 use crate::word::within;
-use mrpc_table::{cut, number_of};
+use mrpc_table::{MAX_LOADS, cut, number_of};
 
 /// The first line.
 const FIRST_LINE: &[u8] = b"mrpc-replay 1\n";
@@ -16,12 +17,6 @@ const TABLE_LINE: &[u8] = b"table\n";
 
 /// The line that says how many words are loaded for a call at most, up to that number.
 const LOADS: &[u8] = b"loads ";
-
-/// How many words are loaded for a call at most, where no line says it.
-const USUAL_LOADS: u32 = 1024;
-
-/// The largest limit that a line may say.
-const MOST_LOADS: u64 = 16384;
 
 /// What stands in front of the table's text.
 #[derive(Clone, Copy, Debug)]
@@ -89,7 +84,7 @@ fn read_limit(text: &[u8]) -> Result<(u32, &[u8]), ScriptReason>
     let Some(number) = number_of(word) else {
         return Err(ScriptReason::Word);
     };
-    match within(1, MOST_LOADS, number) {
+    match within(1, MAX_LOADS, number) {
         Ok(loads) => Ok((loads as u32, behind)),
         Err(reason) => Err(reason),
     }

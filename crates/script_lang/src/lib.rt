@@ -6,6 +6,7 @@ mod body;
 mod fault;
 mod head;
 mod laws;
+mod limits;
 mod next_line;
 mod reading;
 mod script;
@@ -13,5 +14,6 @@ mod word;
 
 pub use fault::{ScriptFault, ScriptReason};
 pub use laws::one_answer;
+pub use limits::{MAX_CONNECTIONS, MAX_SUBMITS, USUAL_LOADS};
 pub use reading::read_script;
 pub use script::{Line, Lines, Script};

@@ -7,6 +7,7 @@ ghost use Rattle.script_lang.specs.Usual.{IsInHeap, IsNextLine, IsUsualStore};
 
 use crate::body::{Body, Opened, Said};
 use crate::fault::ScriptReason;
+use crate::limits::MAX_CONNECTIONS;
 use crate::script::Line;
 use crate::word::usual_number;
 use memchr::memchr;
@@ -45,7 +46,7 @@ fn is_in_heap(opened: Opened, conn: u64, place: u64) -> bool
 {
     conn == u64::from(opened.conn)
         && 1 <= conn
-        && conn <= 16
+        && conn <= MAX_CONNECTIONS
         && 1 <= place
         && place < u64::from(opened.words)
 }
