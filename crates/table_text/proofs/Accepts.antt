@@ -184,7 +184,7 @@ clean_line text k l more clean e =
     ap (λ (b : Before). line_fault (types_of (whole_lines text)) b (bytes_of (take k (whole_lines text)) + length l + 1) (line_of l)) (before_draft (types_of (whole_lines text)) (take k (whole_lines text)))
     ∙ sym (here_is (whole_lines text) (rest_of text) k l more e) ∙ clean k
 
-few_bytes : (t : Types) (b : Before) (bytes : ℕ) (o : Option Line) → line_fault t b bytes o ≡ None → bytes ≤ 65536
+pub few_bytes : (t : Types) (b : Before) (bytes : ℕ) (o : Option Line) → line_fault t b bytes o ≡ None → bytes ≤ 65536
 few_bytes t b bytes None none = absurd cc
 few_bytes t b bytes (Some l) none =
     let h = is_clean t b bytes l none in

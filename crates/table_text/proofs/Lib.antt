@@ -13,10 +13,13 @@ mod FormTests
 mod KeptLemmas
 mod LastLemmas
 mod LineLemmas
+mod NamesLemmas
 mod OrderLemmas
 mod ParseLemmas
 mod PlaceLemmas
+mod ReachLemmas
 mod ReadLemmas
+mod ReadSoFar
 mod SameFaults
 mod SmallTexts
 mod Soundness

@@ -1,25 +1,15 @@
 -- The lines of a text, one by one.
-use Rattle.std.proofs.Common.{◌≡◌, ℕ, zero, suc, ◌+◌, ◌-◌, ◌<◌, ◌≤◌, ◌==◌, Bool, true, false, cond, List, [], ◌∷◌, ◌++◌, length, map, take, drop, sum, Option, Some, None, refl, ap, sym, subst, ◌∙◌, append_assoc, arith, zero-add, length-drop, inl, inr}
-use Rattle.std.specs.Prelude.{slice_get, unwrap_or, option_to_list}
-use Rattle.std.specs.List.{filter_map, cons_option, fold}
+use Rattle.std.proofs.Common.{◌≡◌, ℕ, zero, suc, ◌+◌, ◌-◌, ◌≤◌, ◌==◌, cond, List, [], ◌∷◌, ◌++◌, length, map, take, drop, sum, Option, Some, None, refl, ap, sym, subst, ◌∙◌, arith}
+use Rattle.std.specs.Prelude.{slice_get, unwrap_or}
+use Rattle.std.specs.List.{fold}
 use Rattle.std.specs.Option.{option_map_or}
 use Rattle.mrpc_table.specs.Lines.{pieces_of, whole_lines, rest_of}
-use Rattle.table_text.specs.Lines.{behind, line_of}
+use Rattle.table_text.specs.Lines.{line_of}
 use Rattle.table_text.specs.Faults.{bytes_of}
-use Rattle.table_text.specs.Judged.{Types, IsJudgedOf, types_of, before_of, after_line, line_fault, end_fault, fault_at, fault_behind}
-use Rattle.table_text.specs.Drafts.{before, added_line, draft_of, empty_draft, Blames}
-use Rattle.table_text.specs.Places.{Holds}
-use Rattle.std.proofs.lemmas.List.{append-nil, take_all}
-use Rattle.std.proofs.lemmas.Bool.{cases_lt, cases_eq, eq-eqb, ne_eqb}
-use Rattle.table_text.specs.Judged.{Before}
-use Rattle.table_text.specs.declared.places.Places.{Places}
-use Rattle.table_text.specs.Readers.{IsKept}
-use Rattle.table_text.specs.declared.reader.Reader.{Reader}
+use Rattle.table_text.specs.Judged.{Types, types_of, before_of, after_line, line_fault, end_fault, fault_behind}
+use Rattle.table_text.specs.Drafts.{before, added_line, draft_of, empty_draft}
 use Rattle.table_text.specs.declared.draft.Draft.{Draft}
 use Rattle.table_text.specs.declared.line.Line.{Line}
-use Rattle.table_text.specs.declared.fault.TableReason.{TableReason}
-use Rattle.table_text.specs.declared.fault.TableFault.{TableFault}
-use Rattle.table_text.specs.declared.fault.TableFault.TheVariants as fault
 use Rattle.table_text.proofs.KeptLemmas.{before_added, map_push}
 use Rattle.table_text.proofs.TableFacts.{has_part}
 
@@ -53,30 +43,6 @@ lines_end text e = ap (λ (ps : List (List ℕ)). take (length ps - 1) ps) e
 
 pub rest_end : (text : List ℕ) → pieces_of text ≡ text ∷ [] → rest_of text ≡ text
 rest_end text e = ap (λ (ps : List (List ℕ)). unwrap_or (slice_get ps (length ps - 1)) []) e
-
--- the names behind a prefix, those of the lines so far and those of the lines to come
-pub record NamesSoFar (prefix text rest : List ℕ) (names : Places) : Type 0 where
-  pub done : List (List ℕ)
-  pub holds : Holds names done
-  pub all : done ++ filter_map (behind prefix) (whole_lines rest) ≡ filter_map (behind prefix) (whole_lines text)
-
-cons_is : {X : Type 0} (o : Option X) (xs : List X) → cons_option o xs ≡ option_to_list o ++ xs
-cons_is None xs = refl
-cons_is (Some x) xs = refl
-
-pub names_first : (prefix text rest line others : List ℕ) (old new : Places) → pieces_of rest ≡ line ∷ pieces_of others → ((names : List (List ℕ)) → Holds old names → Holds new (names ++ option_to_list (behind prefix line)))
-    → NamesSoFar prefix text rest old → NamesSoFar prefix text others new
-names_first prefix text rest line others old new e added s = record {
-  done = s.done ++ option_to_list (behind prefix line);
-  holds = added s.done s.holds;
-  all = append_assoc s.done (option_to_list (behind prefix line)) (filter_map (behind prefix) (whole_lines others))
-      ∙ ap (λ (xs : List (List ℕ)). s.done ++ xs) (sym (cons_is (behind prefix line) (filter_map (behind prefix) (whole_lines others))) ∙ sym (ap (filter_map (behind prefix)) (lines_first rest line others e)))
-      ∙ s.all;
-}
-
-pub names_end : (prefix text rest : List ℕ) (names : Places) → pieces_of rest ≡ rest ∷ [] → NamesSoFar prefix text rest names → Holds names (filter_map (behind prefix) (whole_lines text))
-names_end prefix text rest names e s =
-    subst (Holds names) (sym (append-nil s.done) ∙ ap (λ (xs : List (List ℕ)). s.done ++ xs) (sym (ap (filter_map (behind prefix)) (lines_end rest e))) ∙ s.all) s.holds
 
 -- ---- lists from a place on
 
@@ -128,111 +94,9 @@ before_fold t d (l ∷ ls) = before_fold t (added_line t d (line_of l)) ls ∙ a
 pub before_draft : (t : Types) (ls : List (List ℕ)) → before (draft_of t ls) ≡ before_of ls
 before_draft t ls = before_fold t empty_draft ls
 
--- the lines before a number were read, and no fault stands against one of them
-pub record LinesSoFar (text rest : List ℕ) (number : ℕ) (r : Reader) : Type 0 where
-  pub kept : IsKept (types_of (whole_lines text)) r
-  pub some : 0 < number
-  pub lines : drop (number - 1) (whole_lines text) ≡ whole_lines rest
-  pub within : number - 1 ≤ length (whole_lines text)
-  pub tail : rest_of rest ≡ rest_of text
-  pub bytes : bytes_of (take (number - 1) (whole_lines text)) + length rest ≡ length text
-  pub passed : number + length rest ≤ length text + 1
-  pub draft : r.draft ≡ draft_of (types_of (whole_lines text)) (take (number - 1) (whole_lines text))
-  pub clean : (i : ℕ) → i + 1 < number → fault_at text i ≡ None
-
-pub lines_none : (text : List ℕ) (r : Reader) → IsKept (types_of (whole_lines text)) r → r.draft ≡ empty_draft → LinesSoFar text text 1 r
-lines_none text r kept nothing = record {
-  kept = kept;
-  some = omega arith;
-  lines = refl;
-  within = omega arith;
-  tail = refl;
-  bytes = zero-add (length text);
-  passed = omega arith;
-  draft = nothing;
-  clean = λ i lt. absurd (omega arith);
-}
-
 pub here_is : (ls : List (List ℕ)) (tail : List ℕ) (k : ℕ) (l : List ℕ) (more : List (List ℕ)) → drop k ls ≡ l ∷ more → fault_behind ls tail k ≡ line_fault (types_of ls) (before_of (take k ls)) (bytes_of (take k ls) + length l + 1) (line_of l)
 here_is ls tail k l more e =
     let next : k + 1 ≡ suc k = omega arith in
     let bytes : bytes_of (take (k + 1) ls) ≡ bytes_of (take k ls) + length l + 1 = ap (λ (n : ℕ). bytes_of (take n ls)) next ∙ ap bytes_of (take_drop ls k l more e) ∙ bytes_push (take k ls) l in
     ap (λ (o : Option (List ℕ)). option_map_or (λ x. line_fault (types_of ls) (before_of (take k ls)) (bytes_of (take (k + 1) ls)) (line_of x)) o (cond (k == length ls) (end_fault (before_of ls) tail) None)) (get_drop ls k l more e)
     ∙ ap (λ (n : ℕ). line_fault (types_of ls) (before_of (take k ls)) n (line_of l)) bytes
-
-pub before_here : (text rest : List ℕ) (number : ℕ) (r : Reader) → LinesSoFar text rest number r → before_of (take (number - 1) (whole_lines text)) ≡ before r.draft
-before_here text rest number r s = sym (ap before s.draft ∙ before_draft (types_of (whole_lines text)) (take (number - 1) (whole_lines text)))
-
-pub line_here : (text rest line others : List ℕ) (number : ℕ) (r : Reader) → pieces_of rest ≡ line ∷ pieces_of others → length line + 1 + length others ≡ length rest → LinesSoFar text rest number r
-    → fault_at text (number - 1) ≡ line_fault (types_of (whole_lines text)) (before r.draft) (length text - length others) (line_of line)
-line_here text rest line others number r e size s =
-    let bytes : bytes_of (take (number - 1) (whole_lines text)) + length line + 1 ≡ length text - length others = omega (arith, s.bytes, size) in
-    here_is (whole_lines text) (rest_of text) (number - 1) line (whole_lines others) (s.lines ∙ lines_first rest line others e)
-    ∙ ap (λ (n : ℕ). line_fault (types_of (whole_lines text)) (before_of (take (number - 1) (whole_lines text))) n (line_of line)) bytes
-    ∙ ap (λ (b : Before). line_fault (types_of (whole_lines text)) b (length text - length others) (line_of line)) (before_here text rest number r s)
-
-pub lines_step : (text rest line others : List ℕ) (number : ℕ) (r new : Reader) → pieces_of rest ≡ line ∷ pieces_of others → length line + 1 + length others ≡ length rest → LinesSoFar text rest number r
-    → line_fault (types_of (whole_lines text)) (before r.draft) (length text - length others) (line_of line) ≡ None → IsKept (types_of (whole_lines text)) new → new.draft ≡ added_line (types_of (whole_lines text)) r.draft (line_of line)
-    → LinesSoFar text others (number + 1) new
-lines_step text rest line others number r new e size s none kept draft =
-    let ls = whole_lines text in
-    let here : drop (number - 1) ls ≡ line ∷ whole_lines others = s.lines ∙ lines_first rest line others e in
-    let some = s.some in
-    let next : number + 1 - 1 ≡ suc (number - 1) = omega arith in
-    let front : take (number + 1 - 1) ls ≡ take (number - 1) ls ++ line ∷ [] = ap (λ (n : ℕ). take n ls) next ∙ take_drop ls (number - 1) line (whole_lines others) here in
-    let left : length ls - (number - 1) ≡ suc (length (whole_lines others)) = sym (length-drop (number - 1) ls) ∙ ap length here in
-    record {
-      kept = kept;
-      some = omega arith;
-      lines = ap (λ (n : ℕ). drop n ls) next ∙ drop_drop ls (number - 1) line (whole_lines others) here;
-      within = omega arith;
-      tail = sym (rest_first rest line others e) ∙ s.tail;
-      bytes = omega (arith, ap bytes_of front, bytes_push (take (number - 1) ls) line, s.bytes, size);
-      passed = omega (arith, s.passed, size);
-      draft = draft ∙ ap (λ (d : Draft). added_line (types_of ls) d (line_of line)) s.draft ∙ sym (ap (draft_of (types_of ls)) front ∙ fold_push (λ d l. added_line (types_of ls) d (line_of l)) empty_draft (take (number - 1) ls) line);
-      clean = λ i lt. elim (cases_lt (i + 1) number) [
-        | inl below ↦ s.clean i below
-        | inr at ↦ let same : i ≡ number - 1 = omega arith in ap (fault_at text) same ∙ line_here text rest line others number r e size s ∙ none
-      ];
-    }
-
-pub end_here : (text rest : List ℕ) (number : ℕ) (r : Reader) → pieces_of rest ≡ rest ∷ [] → LinesSoFar text rest number r → fault_at text (number - 1) ≡ end_fault (before r.draft) rest
-end_here text rest number r e s =
-    let ls = whole_lines text in
-    let gone : length ls - (number - 1) ≡ 0 = sym (length-drop (number - 1) ls) ∙ ap length (s.lines ∙ lines_end rest e) in
-    let within = s.within in
-    let le : length ls ≤ number - 1 = omega arith in
-    let all : (number - 1 == length ls) ≡ true = eq-eqb (number - 1) (length ls) (omega arith) in
-    ap (λ (o : Option (List ℕ)). option_map_or (λ x. line_fault (types_of ls) (before_of (take (number - 1) ls)) (bytes_of (take (number - 1 + 1) ls)) (line_of x)) o (cond (number - 1 == length ls) (end_fault (before_of ls) (rest_of text)) None)) (get_end ls (number - 1) le)
-    ∙ ap (λ (b : Bool). cond b (end_fault (before_of ls) (rest_of text)) None) all
-    ∙ ap (λ (b : Before). end_fault b (rest_of text)) (sym (ap before_of (take_all (number - 1) ls le)) ∙ before_here text rest number r s)
-    ∙ ap (end_fault (before r.draft)) (sym s.tail ∙ rest_end rest e)
-
-pub all_clean : (text rest : List ℕ) (number : ℕ) (r : Reader) → pieces_of rest ≡ rest ∷ [] → LinesSoFar text rest number r → end_fault (before r.draft) rest ≡ None → (i : ℕ) → fault_at text i ≡ None
-all_clean text rest number r e s none i =
-    let ls = whole_lines text in
-    let gone : length ls - (number - 1) ≡ 0 = sym (length-drop (number - 1) ls) ∙ ap length (s.lines ∙ lines_end rest e) in
-    let within = s.within in
-    let some = s.some in
-    elim (cases_lt (i + 1) number) [
-      | inl below ↦ s.clean i below
-      | inr above ↦ elim (cases_eq i (number - 1)) [
-        | inl same ↦ ap (fault_at text) same ∙ end_here text rest number r e s ∙ none
-        | inr other ↦
-            let le : length ls ≤ i = omega arith in
-            let past : (i == length ls) ≡ false = ne_eqb i (length ls) (λ h. other (omega arith)) in
-            ap (λ (o : Option (List ℕ)). option_map_or (λ x. line_fault (types_of ls) (before_of (take i ls)) (bytes_of (take (i + 1) ls)) (line_of x)) o (cond (i == length ls) (end_fault (before_of ls) (rest_of text)) None)) (get_end ls i le)
-            ∙ ap (λ (b : Bool). cond b (end_fault (before_of ls) (rest_of text)) None) past
-      ]
-    ]
-
-pub blamed : (text rest : List ℕ) (number : ℕ) (r : Reader) (e : TableFault) (stands : Option TableReason) → LinesSoFar text rest number r → fault_at text (number - 1) ≡ stands → Blames e number stands → IsJudgedOf text e
-blamed text rest number r (fault.At line reason) stands s here h =
-    let is = h.0 in
-    let some = s.some in
-    record {
-      counted = omega arith;
-      here = ap (λ (n : ℕ). fault_at text (n - 1)) is ∙ here ∙ h.1;
-      none_before = λ i lt. s.clean i (omega arith);
-    }
-blamed text rest number r fault.Memory stands s here h = tt

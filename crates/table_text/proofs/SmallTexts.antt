@@ -1,7 +1,8 @@
--- The definition of the first fault on small texts.
-use Rattle.std.proofs.Common.{◌≡◌, [], codes, Some, None, refl}
+-- The definitions of the first fault, and of the types of a long text, on small texts.
+use Rattle.std.proofs.Common.{◌≡◌, [], ◌∷◌, codes, Some, None, refl}
 use Rattle.table_text.specs.Lines.{line_of}
 use Rattle.table_text.specs.Judged.{fault_at}
+use Rattle.table_text.specs.Reach.{used_in, types_near}
 use Rattle.table_text.specs.declared.fault.TableReason.TheVariants.{Syntax, Number, Duplicate, UnknownType, MapKey}
 
 message_passes : fault_at (codes "message M\nfield 1 plain uint64 a\nmethod 0 S Get M M\n") 0 ≡ None
@@ -69,3 +70,11 @@ map_key = refl
 no_kind : fault_at (codes "message M\nfield 1 map:fload uint64 a\n") 1 ≡ Some Syntax
 unfolding line_of
 no_kind = refl
+
+used : used_in (codes "message M" ∷ codes "field 1 map:enum:E message:B a" ∷ codes "value" ∷ codes "method 0 S Get M N" ∷ []) ≡ codes "E" ∷ codes "B" ∷ codes "M" ∷ codes "N" ∷ []
+unfolding line_of
+used = refl
+
+near : types_near (codes "message M" ∷ codes "field 1 plain message:B a" ∷ []) (codes "message A" ∷ codes "message B" ∷ codes "enum B" ∷ codes "enum M" ∷ []) ≡ record { enums = codes "B" ∷ []; messages = codes "M" ∷ codes "B" ∷ [] }
+unfolding line_of
+near = refl

@@ -4,6 +4,7 @@ pub mod Forms
 pub mod Judged
 pub mod Lines
 pub mod Places
+pub mod Reach
 pub mod Readers
 pub mod Reason
 pub mod TableText

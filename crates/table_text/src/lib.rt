@@ -11,6 +11,7 @@ mod forms;
 mod judge;
 mod line;
 mod places;
+mod reach;
 mod read;
 mod reader;
 mod table_cut;

@@ -3,7 +3,7 @@
 ghost use Rattle.std.specs.Prelude.{◌≡◌, ◌++◌, ◌∷◌, ℕ, List, [], length, option_map, if◌then◌else◌, OnOk};
 ghost use Rattle.std.specs.Option.{option_or};
 ghost use Rattle.std.specs.Str.{bytes_eq};
-ghost use Rattle.table_text.specs.Judged.{is_among};
+ghost use Rattle.table_text.specs.Judged.{is_among, is_empty};
 ghost use Rattle.table_text.specs.Places.{place_from, in_range, place, place_in, Holds};
 
 use mrpc_table::Memory;
@@ -26,6 +26,13 @@ impl Places {
             places: BTreeMap::new(alloc),
             count: 0,
         }
+    }
+
+    /// Whether there is no name.
+    pub fn is_empty(&self) -> bool
+        ensures { (names : List (List ℕ)) → Holds self.now names → result ≡ is_empty names }
+    {
+        self.count == 0
     }
 
     /// The first place of a name.

@@ -1,10 +1,7 @@
 //! Tables from their canonical text.
 
 ghost use Rattle.std.specs.Prelude.{◌≡◌, ◌⊎◌, ◌<◌, ◌≤◌, ◌+◌, ◌++◌, ℕ, List, length, IfOk, IfErr, OnOk, MatchResult, None};
-ghost use Rattle.std.specs.List.{filter_map};
-ghost use Rattle.std.specs.Option.{option_to_list};
 ghost use Rattle.mrpc_table.specs.Lines.{whole_lines};
-ghost use Rattle.table_text.specs.Lines.{behind};
 ghost use Rattle.table_text.specs.Faults.{IsFirstFault, IsFaultOf};
 ghost use Rattle.table_text.specs.Judged.{fault_at, IsJudgedOf};
 ghost use Rattle.mrpc_table.specs.Text.{table_text};
@@ -13,37 +10,12 @@ ghost use Rattle.mrpc_table.specs.declared.table.Table.{Table};
 ghost use Rattle.table_text.specs.declared.fault.TableReason.{TableReason};
 ghost use Rattle.table_text.specs.declared.fault.TableFault.TheVariants.{Memory as NoMemory};
 ghost use Rattle.table_text.specs.Drafts.{table_in};
-ghost use Rattle.table_text.specs.Places.{Holds};
 
 use crate::fault::TableFault;
-use crate::places::Places;
+use crate::reach::known_types;
 use crate::reader::Reader;
-use crate::words::behind;
-use mrpc_table::{Memory, Table, cut};
+use mrpc_table::{Table, cut};
 use std::alloc::Global;
-
-// What stands behind a prefix in the whole lines of a text.
-fn names_behind(alloc: Global, prefix: &[u8], text: &[u8]) -> Result<Places, Memory>
-    ensures { IfOk result (λ p. Holds p (filter_map (behind prefix.now) (whole_lines text.now))) }
-{
-    let mut names = Places::new(alloc);
-    let mut rest = text;
-    while let Some((line, others)) = cut(rest, b'\n') {
-        add_behind(alloc, &mut names, prefix, line)?;
-        rest = others;
-    }
-    Ok(names)
-}
-
-fn add_behind(alloc: Global, names: &mut Places, prefix: &[u8], line: &[u8]) -> Result<(), Memory>
-    ensures { (old : List (List ℕ)) → Holds names.old old
-        → OnOk result (Holds names.new (old ++ option_to_list (behind prefix.now line.now))) }
-{
-    if let Some(name) = behind(prefix, line) {
-        names.add(alloc, name)?;
-    }
-    Ok(())
-}
 
 // The table of a text, or its first fault.
 fn read_lines(alloc: Global, text: &[u8]) -> Result<Table, TableFault>
@@ -51,8 +23,7 @@ fn read_lines(alloc: Global, text: &[u8]) -> Result<Table, TableFault>
     ensures clean { OnOk result ((i : ℕ) → fault_at text.now i ≡ None) }
     ensures fault { IfErr result (λ e. IsJudgedOf text.now e) }
 {
-    let known_enums = names_behind(alloc, b"enum ", text)?;
-    let known_messages = names_behind(alloc, b"message ", text)?;
+    let (known_enums, known_messages) = known_types(alloc, text)?;
     let mut reader = Reader::new(alloc, known_enums, known_messages);
     let mut rest = text;
     let mut number = 1;

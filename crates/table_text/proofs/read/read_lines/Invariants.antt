@@ -1,6 +1,6 @@
 -- The lines so far were read, and none is at fault.
 use Rattle.std.proofs.Common.{length}
-use Rattle.table_text.proofs.LineLemmas.{LinesSoFar}
+use Rattle.table_text.proofs.ReadSoFar.{LinesSoFar}
 use Rattle.table_text.proofs.read.read_lines.Given as goal
 
 abbrev pub invariant-loop-line : goal.invariant-loop-line

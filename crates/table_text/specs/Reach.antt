@@ -1,0 +1,79 @@
+-- The types by which the lines of a text are judged while it is read (this project's own). None is read behind the line
+-- that passes the largest size of a text. So the types that the lines up to it name, and of those that later lines name
+-- the ones that they use, are as good as all the types of the text.
+use Rattle.std.specs.Prelude.{◌≡◌, ℕ, ◌<◌, List, [], ◌∷◌, ◌++◌, codes, Option, Some, None, option_and_then, if◌then◌else◌, slice_get}
+use Rattle.std.specs.List.{filter_map, flat_map}
+use Rattle.mrpc_table.specs.Lines.{whole_lines}
+use Rattle.mrpc_table.specs.declared.limits.TheConstants.{MAX_TEXT}
+use Rattle.table_text.specs.Faults.{bytes_of}
+use Rattle.table_text.specs.Judged.{Types, Before, types_of, line_fault, fault_at, is_among}
+use Rattle.table_text.specs.Lines.{behind, line_of}
+use Rattle.table_text.specs.Places.{Holds}
+use Rattle.table_text.specs.declared.places.Places.{Places}
+use Rattle.table_text.specs.declared.line.KindWord.{KindWord}
+use Rattle.table_text.specs.declared.line.KindWord.TheVariants as kinds
+use Rattle.table_text.specs.declared.line.LabelWord.{LabelWord}
+use Rattle.table_text.specs.declared.line.LabelWord.TheVariants.{Map}
+use Rattle.table_text.specs.declared.line.Line.{Line}
+use Rattle.table_text.specs.declared.line.Line.TheVariants.{Field, Method}
+
+-- ---- the types that lines use, by their full names
+
+abbrev pub used_by_kind : KindWord → List (List ℕ)
+used_by_kind (kinds.Scalar k) = []
+used_by_kind (kinds.Message name) = name ∷ []
+used_by_kind (kinds.Choice name) = name ∷ []
+
+abbrev pub used_by_label : LabelWord → List (List ℕ)
+used_by_label (Map key) = used_by_kind key
+used_by_label _ = []
+
+abbrev pub used_by : Line → List (List ℕ)
+used_by (Field f) = used_by_label f.label ++ used_by_kind f.kind
+used_by (Method m) = m.input ∷ m.output ∷ []
+used_by _ = []
+
+abbrev pub used_by_line : Option Line → List (List ℕ)
+used_by_line None = []
+used_by_line (Some l) = used_by l
+
+abbrev pub used_in : List (List ℕ) → List (List ℕ)
+used_in lines = flat_map (λ line. used_by_line (line_of line)) lines
+
+-- ---- the types that are known
+
+-- what stands behind a prefix, where it is among the names
+abbrev pub used_behind : List (List ℕ) → List ℕ → List ℕ → Option (List ℕ)
+used_behind names prefix line =
+    option_and_then (λ name. if is_among name names then Some name else None) (behind prefix line)
+
+-- the types that the near lines name, and those of the far lines that the near ones use
+abbrev pub types_near : List (List ℕ) → List (List ℕ) → Types
+types_near near far = record {
+  enums = filter_map (behind (codes "enum ")) near ++ filter_map (used_behind (used_in near) (codes "enum ")) far;
+  messages =
+      filter_map (behind (codes "message ")) near ++ filter_map (used_behind (used_in near) (codes "message ")) far;
+}
+
+-- a text whose near lines pass the largest size, and what stands behind them
+pub record AreLongParts (text near far : List ℕ) : Type 0 where
+  pub lines : whole_lines text ≡ whole_lines near ++ whole_lines far
+  pub passes : MAX_TEXT < bytes_of (whole_lines near)
+
+-- no fault stands before the line behind the first i
+abbrev pub IsReached : List ℕ → ℕ → Type 0
+IsReached text i = (j : ℕ) → j < i → fault_at text j ≡ None
+
+-- types by which each line that is reached is judged as by those of the text; they are those of a text without a fault
+pub record Serves (t : Types) (text : List ℕ) : Type 0 where
+  pub judges : (i : ℕ) (line : List ℕ) (before : Before) (bytes : ℕ) → IsReached text i
+      → slice_get (whole_lines text) i ≡ Some line
+      → line_fault t before bytes (line_of line) ≡ line_fault (types_of (whole_lines text)) before bytes (line_of line)
+  pub whole : ((i : ℕ) → fault_at text i ≡ None) → t ≡ types_of (whole_lines text)
+
+-- these enums and messages are held for the text
+pub record AreKnown (text : List ℕ) (enums messages : Places) : Type 0 where
+  pub types : Types
+  pub held_enums : Holds enums types.enums
+  pub held_messages : Holds messages types.messages
+  pub serves : Serves types text

@@ -1,0 +1,181 @@
+//! The types that a text names, as far as its lines can be read.
+
+ghost use Rattle.std.specs.Prelude.{◌++◌, ℕ, List, IfOk, IfSome, OnOk};
+ghost use Rattle.std.specs.List.{filter_map};
+ghost use Rattle.std.specs.Option.{option_to_list};
+ghost use Rattle.mrpc_table.specs.Lines.{whole_lines};
+ghost use Rattle.table_text.specs.Lines.{behind, line_of};
+ghost use Rattle.table_text.specs.Places.{Holds};
+ghost use Rattle.table_text.specs.Reach.{used_by_kind, used_by_label, used_by, used_by_line, used_in, used_behind, AreLongParts, AreKnown};
+
+use crate::forms::line_of;
+use crate::line::{KindWord, LabelWord, Line};
+use crate::places::Places;
+use crate::words::behind;
+use mrpc_table::{MAX_TEXT, Memory, cut};
+use std::alloc::Global;
+
+// What stands behind a prefix in the whole lines of a text.
+fn names_behind(alloc: Global, prefix: &[u8], text: &[u8]) -> Result<Places, Memory>
+    ensures { IfOk result (λ p. Holds p (filter_map (behind prefix.now) (whole_lines text.now))) }
+{
+    let mut names = Places::new(alloc);
+    let mut rest = text;
+    while let Some((line, others)) = cut(rest, b'\n') {
+        add_behind(alloc, &mut names, prefix, line)?;
+        rest = others;
+    }
+    Ok(names)
+}
+
+fn add_behind(alloc: Global, names: &mut Places, prefix: &[u8], line: &[u8]) -> Result<(), Memory>
+    ensures { (old : List (List ℕ)) → Holds names.old old
+        → OnOk result (Holds names.new (old ++ option_to_list (behind prefix.now line.now))) }
+{
+    if let Some(name) = behind(prefix, line) {
+        names.add(alloc, name)?;
+    }
+    Ok(())
+}
+
+// The full names of the types that the whole lines of a text use.
+fn names_used(alloc: Global, text: &[u8]) -> Result<Places, Memory>
+    ensures { IfOk result (λ p. Holds p (used_in (whole_lines text.now))) }
+{
+    let mut names = Places::new(alloc);
+    let mut rest = text;
+    while let Some((line, others)) = cut(rest, b'\n') {
+        add_line(alloc, &mut names, line)?;
+        rest = others;
+    }
+    Ok(names)
+}
+
+fn add_line(alloc: Global, names: &mut Places, text: &[u8]) -> Result<(), Memory>
+    ensures { (old : List (List ℕ)) → Holds names.old old
+        → OnOk result (Holds names.new (old ++ used_by_line (line_of text.now))) }
+{
+    match line_of(alloc, text)? {
+        Some(line) => add_used(alloc, names, &line),
+        None => Ok(()),
+    }
+}
+
+fn add_used(alloc: Global, names: &mut Places, line: &Line) -> Result<(), Memory>
+    ensures { (old : List (List ℕ)) → Holds names.old old → OnOk result (Holds names.new (old ++ used_by line.now)) }
+{
+    match line {
+        Line::Field(field) => {
+            add_label(alloc, names, &field.label)?;
+            add_kind(alloc, names, &field.kind)
+        }
+        Line::Method(method) => {
+            names.add(alloc, method.input.as_slice())?;
+            names.add(alloc, method.output.as_slice())
+        }
+        _ => Ok(()),
+    }
+}
+
+fn add_label(alloc: Global, names: &mut Places, label: &LabelWord) -> Result<(), Memory>
+    ensures { (old : List (List ℕ)) → Holds names.old old
+        → OnOk result (Holds names.new (old ++ used_by_label label.now)) }
+{
+    match label {
+        LabelWord::Map(key) => add_kind(alloc, names, key),
+        _ => Ok(()),
+    }
+}
+
+fn add_kind(alloc: Global, names: &mut Places, kind: &KindWord) -> Result<(), Memory>
+    ensures { (old : List (List ℕ)) → Holds names.old old
+        → OnOk result (Holds names.new (old ++ used_by_kind kind.now)) }
+{
+    match kind {
+        KindWord::Scalar(_) => Ok(()),
+        KindWord::Message(name) | KindWord::Choice(name) => names.add(alloc, name.as_slice()),
+    }
+}
+
+// What stands behind a prefix in the near lines, and what stands so in the far ones where it is used.
+fn names_within(
+    alloc: Global,
+    prefix: &[u8],
+    near: &[u8],
+    used: &Places,
+    far: &[u8],
+) -> Result<Places, Memory>
+    ensures { (wanted : List (List ℕ)) → Holds used.now wanted → IfOk result (λ p. Holds p
+        (filter_map (behind prefix.now) (whole_lines near.now)
+        ++ filter_map (used_behind wanted prefix.now) (whole_lines far.now))) }
+{
+    let mut names = names_behind(alloc, prefix, near)?;
+    if used.is_empty() {
+        return Ok(names);
+    }
+    let mut rest = far;
+    while let Some((line, others)) = cut(rest, b'\n') {
+        add_used_behind(alloc, &mut names, prefix, used, line)?;
+        rest = others;
+    }
+    Ok(names)
+}
+
+fn add_used_behind(
+    alloc: Global,
+    names: &mut Places,
+    prefix: &[u8],
+    used: &Places,
+    line: &[u8],
+) -> Result<(), Memory>
+    ensures { (old wanted : List (List ℕ)) → Holds names.old old → Holds used.now wanted
+        → OnOk result (Holds names.new (old ++ option_to_list (used_behind wanted prefix.now line.now))) }
+{
+    let Some(name) = behind(prefix, line) else {
+        return Ok(());
+    };
+    if !used.contains(name) {
+        return Ok(());
+    }
+    names.add(alloc, name)
+}
+
+// The lines up to the first that ends past the largest size of a text, and what stands behind it.
+fn long_parts(text: &[u8]) -> Option<(&[u8], &[u8])>
+    ensures { IfSome result (λ p. AreLongParts text.now p.0.now p.1.now) }
+{
+    if text.len() <= MAX_TEXT {
+        return None;
+    }
+    let (_, far) = cut(&text[MAX_TEXT..], b'\n')?;
+    Some((&text[..text.len() - far.len()], far))
+}
+
+fn known_in(alloc: Global, text: &[u8]) -> Result<(Places, Places), Memory>
+    ensures { IfOk result (λ p. AreKnown text.now p.0 p.1) }
+{
+    let enums = names_behind(alloc, b"enum ", text)?;
+    let messages = names_behind(alloc, b"message ", text)?;
+    Ok((enums, messages))
+}
+
+fn known_near(alloc: Global, near: &[u8], far: &[u8]) -> Result<(Places, Places), Memory>
+    ensures { (text : List ℕ) → AreLongParts text near.now far.now → IfOk result (λ p. AreKnown text p.0 p.1) }
+{
+    let used = names_used(alloc, near)?;
+    let enums = names_within(alloc, b"enum ", near, &used, far)?;
+    let messages = names_within(alloc, b"message ", near, &used, far)?;
+    Ok((enums, messages))
+}
+
+/// The enums and the messages by which the lines of a text are judged. A text that is too long has a fault
+/// at the line that passes the largest size, or before: of the lines behind that one only those types are
+/// held which the lines up to it use.
+pub fn known_types(alloc: Global, text: &[u8]) -> Result<(Places, Places), Memory>
+    ensures { IfOk result (λ p. AreKnown text.now p.0 p.1) }
+{
+    match long_parts(text) {
+        None => known_in(alloc, text),
+        Some((near, far)) => known_near(alloc, near, far),
+    }
+}
