@@ -22,11 +22,17 @@ pub record Signature : Type 0 where
   pub output : List ℕ
 
 abbrev pub signature : Table → ℕ × Method → Signature
-signature T m = record { index = m.0; name = m.1.name; input = message_name T m.1.input; output = message_name T m.1.output }
+signature T m = record {
+  index = m.0;
+  name = m.1.name;
+  input = message_name T m.1.input;
+  output = message_name T m.1.output;
+}
 
 -- the methods of a service, in the order of the table
 abbrev pub methods_of : Table → List ℕ → List Signature
-methods_of T service = filter_map (λ m. if bytes_eq m.1.service service then Some (signature T m) else None) (enumerate_from 0 T.methods)
+methods_of T service =
+    filter_map (λ m. if bytes_eq m.1.service service then Some (signature T m) else None) (enumerate_from 0 T.methods)
 
 -- the table has a method of the service
 abbrev pub Offers : Table → List ℕ → Type 0

@@ -1,4 +1,5 @@
--- The payload of a hello (this project's own): the service's full name, a line feed, and the canonical text of the table.
+-- The payload of a hello (this project's own): the service's full name, a line feed, and the canonical text of the
+-- table.
 use Rattle.std.specs.Prelude.{◌≡◌, ◌≢◌, ◌⊎◌, ℕ, ◌+◌, List, ◌∷◌, ◌++◌, All}
 use Rattle.mrpc_table.specs.Names.{IsFullName}
 use Rattle.mrpc_table.specs.Text.{table_text}

@@ -15,7 +15,8 @@ use Rattle.schema_binding.specs.Agreement.{Signature, signature, FieldText, fiel
 
 -- the method of an index, where it is one of the service
 abbrev pub method_at : Table → List ℕ → ℕ → Option Method
-method_at T service index = option_and_then (λ m. if bytes_eq m.service service then Some m else None) (slice_get T.methods index)
+method_at T service index =
+    option_and_then (λ m. if bytes_eq m.service service then Some m else None) (slice_get T.methods index)
 
 abbrev pub signature_at : Table → List ℕ → ℕ → Option Signature
 signature_at T service index = option_map (λ m. signature T (index, m)) (method_at T service index)

@@ -1,4 +1,4 @@
-use Rattle.std.proofs.Common.{arith, rules}
+use Rattle.std.proofs.Common.{arith}
 use Rattle.schema_binding.proofs.greeting.table_behind.Goals as goal
 
 pub overflow_add-result : goal.overflow_add-result
