@@ -7,6 +7,7 @@ use Rattle.mrpc_table.specs.Text.{line}
 use Rattle.mrpc_table.specs.declared.table.Table.{Table}
 use Rattle.wire_base.specs.Encoding.{encoding}
 use Rattle.frame_transport.specs.Bytes.{frame_bytes}
+use Rattle.frame_transport.specs.declared.format.TheConstants.{HEADER_LEN}
 use Rattle.graph_form.specs.Words.{reason_word}
 use Rattle.call_ledger.specs.declared.happening.Cause.{Cause}
 use Rattle.call_ledger.specs.declared.happening.Cause.TheVariants as cause
@@ -31,7 +32,7 @@ payload T c = copy_payload T (message_of T c) c.copy
 
 -- the sending of a call, with the length of its frame
 abbrev pub sending : Table → Call → Happening
-sending T c = Sent c.conn c.seq (16 + length (payload T c))
+sending T c = Sent c.conn c.seq (HEADER_LEN + length (payload T c))
 
 abbrev pub sendings : Table → List Call → History
 sendings T cs = map (sending T) cs

@@ -6,6 +6,7 @@ use Rattle.mrpc_table.specs.declared.table.Table.{Table}
 use Rattle.graph_form.specs.declared.reason.Reason.{Reason}
 use Rattle.graph_form.specs.declared.reason.Reason.TheVariants.{NoMethod}
 use Rattle.call_ledger.specs.declared.happening.Happening.{Happening}
+use Rattle.call_ledger.specs.declared.limits.TheConstants.{MAX_STANDING}
 use Rattle.call_ledger.specs.declared.happening.TookCopy.TheVariants.{Copy, Malformed}
 use Rattle.call_ledger.specs.Calls.{Call, History, took, malformed_refusal, message_of, calls_on, standing, IsNext, IsLast}
 use Rattle.call_ledger.specs.Audit.{sending}
@@ -14,7 +15,7 @@ use Rattle.call_ledger.specs.Audit.{sending}
 -- than the limit
 pub record MayTake (limit : ℕ) (before : History) (c : Call) : Type 0 where
   pub number : c.seq ≡ length (calls_on c.conn before) + 1
-  pub few : length (standing c.conn before) < 64
+  pub few : length (standing c.conn before) < MAX_STANDING
   pub loads : c.count ≤ limit
 
 -- the table has the method of a call, and its copy is a normal tree of the method's message

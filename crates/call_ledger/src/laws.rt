@@ -3,8 +3,10 @@
 ghost use Rattle.std.specs.Prelude.{◌≡◌, ◌≢◌, ◌<◌, ◌≤◌, ◌+◌, ℕ, List, [], ◌∷◌, ◌++◌, length, All, IsTrue, count_by};
 ghost use Rattle.std.specs.List.{flat_map};
 ghost use Rattle.mrpc_table.specs.declared.table.Table.{Table};
+ghost use Rattle.frame_transport.specs.declared.format.TheConstants.{HEADER_LEN};
 ghost use Rattle.call_ledger.specs.declared.happening.Cause.{Cause};
 ghost use Rattle.call_ledger.specs.declared.happening.Happening.{Happening};
+ghost use Rattle.call_ledger.specs.declared.limits.TheConstants.{MAX_STANDING};
 ghost use Rattle.call_ledger.specs.Calls.{Call, History, took, malformed_refusal, calls, calls_on, NumberedFrom, conn_of, is_fate_of, standing};
 ghost use Rattle.call_ledger.specs.Audit.{payload, sending, sendings, took_line, sent_line, refused_line, audit_line, audit, frame_of, sent_frame, frames};
 ghost use Rattle.call_ledger.specs.Legal.{MayTake, HasCopy, LacksCopy, IsLegal};
@@ -29,12 +31,14 @@ pub fn one_fate()
         → (1 ≤ seq) × (seq ≤ length (calls_on conn before)) }
 {}
 
-/// In a legal history at most 64 calls stand on a connection; they are of this connection, and each has a copy.
+/// In a legal history at most `MAX_STANDING` calls stand on a connection; they are of this connection, and each has a
+/// copy.
 pub fn standing_calls_have_copies()
     ensures copies { (T : Table) (limit conn : ℕ) (h : History) → IsLegal T limit h
         → All (HasCopy T) (standing conn h) }
     ensures own { (conn : ℕ) (h : History) → All (λ c. c.conn ≡ conn) (standing conn h) }
-    ensures few { (T : Table) (limit conn : ℕ) (h : History) → IsLegal T limit h → length (standing conn h) ≤ 64 }
+    ensures few { (T : Table) (limit conn : ℕ) (h : History) → IsLegal T limit h
+        → length (standing conn h) ≤ MAX_STANDING }
 {}
 
 /// The calls, lines and frames of a history that goes on are those of its parts.
@@ -102,7 +106,7 @@ pub fn sendings_go_on()
         → calls_on conn (h ++ sendings T cs) ≡ calls_on conn h }
     ensures audit { (T : Table) (h : History) (cs : List Call)
         → audit T (h ++ sendings T cs)
-        ≡ audit T h ++ flat_map (λ c. sent_line c.conn c.seq (16 + length (payload T c))) cs }
+        ≡ audit T h ++ flat_map (λ c. sent_line c.conn c.seq (HEADER_LEN + length (payload T c))) cs }
     ensures frames { (T : Table) (limit conn : ℕ) (h : History) (cs others : List Call) → IsLegal T limit h
         → standing conn h ≡ cs ++ others → frames T (h ++ sendings T cs) ≡ frames T h ++ flat_map (frame_of T) cs }
 {}

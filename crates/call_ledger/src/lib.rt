@@ -9,6 +9,7 @@
 mod audit;
 mod happening;
 mod laws;
+mod limits;
 
 pub use audit::{audit_line, copy_bytes, put_hex, stands_line};
 pub use happening::{Cause, Happening, TookCopy};
@@ -16,3 +17,4 @@ pub use laws::{
     connections_are_apart, copies_go_on, empty_is_legal, histories_join, loads_go_on,
     malformed_go_on, one_fate, sendings_go_on, sent_in_order, standing_calls_have_copies,
 };
+pub use limits::MAX_STANDING;
