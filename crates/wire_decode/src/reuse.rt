@@ -1,9 +1,11 @@
 //! The vectors of trees that are no longer needed, for trees that are read later.
 
-ghost use Rattle.std.specs.Prelude.{◌≡◌, [], IfSome};
+ghost use Rattle.std.specs.Prelude.{◌≡◌, ℕ, [], IfSome};
+ghost use Rattle.wire_decode.specs.Kept.{IsBounded, AreFew, nothing_kept, rooms};
 
 use mrpc_table::{Bytes, Entries, FieldValue, Numbered, Tree, Value, Values};
 use std::alloc::Global;
+use std::marker::Model;
 
 /// How many vectors of each sort are kept at most.
 const MAX_KEPT: usize = 512;
@@ -15,7 +17,7 @@ const MAX_ROOM: usize = 256;
 const MAX_RUN_ROOM: usize = 4096;
 
 /// Vectors of trees that are no longer needed, which later trees use again in place of new memory. What is decoded
-/// doesn't depend on it.
+/// doesn't depend on it. Clauses see how much room each of them has.
 ///
 /// At most 512 vectors of each sort are kept: those of a message's fields, of a list's elements and of a map's entries
 /// with room for 256 of them at most, and those of a run's bytes with room for 4,096. So no more than about 20 MiB are
@@ -28,9 +30,21 @@ pub struct Spare {
     runs: Vec<Vec<u8>>,
 }
 
+impl Model for Spare {
+    ghost use Rattle.wire_decode.specs.Kept.{Kept, IsBounded, kept_of};
+
+    ghost Value = { Kept };
+
+    ghost view = { λ s. kept_of s.fields.items s.lists.items s.entries.items s.runs.items };
+
+    ghost invariant = { λ s. IsBounded (kept_of s.fields.items s.lists.items s.entries.items s.runs.items) };
+}
+
 impl Spare {
     /// No vector yet. It takes no memory.
-    pub fn new(alloc: Global) -> Spare {
+    pub fn new(alloc: Global) -> Spare
+        ensures { result ≡ nothing_kept }
+    {
         Spare {
             fields: Vec::new(alloc),
             lists: Vec::new(alloc),
@@ -43,7 +57,9 @@ impl Spare {
     /// of bytes, and those of the messages in it. A vector beyond what is kept at most, or one that no memory is found
     /// to note, is dropped. It takes time in proportion to the tree's parts.
     #[cycle(take_back)]
-    pub fn take_back(&mut self, tree: Tree) {
+    pub fn take_back(&mut self, tree: Tree)
+        ensures { IsBounded self.new }
+    {
         let mut fields = tree.fields;
         while let Some((_, content)) = fields.pop() {
             self.take_content(content);
@@ -123,7 +139,10 @@ impl Spare {
 }
 
 /// Keeps a vector, unless there are enough of them or it has more room than `most`.
-fn keep<T: Drop>(kept: &mut Vec<Vec<T>>, vector: Vec<T>, most: usize) {
+fn keep<T: Drop>(kept: &mut Vec<Vec<T>>, vector: Vec<T>, most: usize)
+    requires { AreFew (rooms kept.old.items) most }
+    ensures { AreFew (rooms kept.new.items) most }
+{
     if kept.len() < MAX_KEPT && vector.capacity() <= most {
         let _ = kept.push(vector);
     }
@@ -131,7 +150,8 @@ fn keep<T: Drop>(kept: &mut Vec<Vec<T>>, vector: Vec<T>, most: usize) {
 
 /// The vector that was kept last, emptied, or a new one.
 fn empty<T: Drop>(alloc: Global, kept: &mut Vec<Vec<T>>) -> Vec<T>
-    ensures { result.items ≡ [] }
+    ensures value { result.items ≡ [] }
+    ensures few { (most : ℕ) → AreFew (rooms kept.old.items) most → AreFew (rooms kept.new.items) most }
 {
     match kept.pop() {
         Some(mut vector) => {
