@@ -283,7 +283,6 @@ declared_some formed (Scopes.service s c) typ e = false≢true typ
 declared_some formed (Scopes.value x v c d up) typ e = false≢true typ
 declared_some formed (Scopes.field m f c d up) typ e = false≢true typ
 declared_some formed (Scopes.oneof m o c d up) typ e = false≢true typ
-declared_some formed (Scopes.rpc s r c d) typ e = false≢true typ
 
 found_some : {F : Joined} {file : ℕ} {sort : Sort} {full : List (List ℕ)} → IsFormed F → Finds F file sort full
     → text_of full ≡ [] → ⊥

@@ -170,7 +170,6 @@ declared_one (Scopes.service s c) typ = absurd cc
 declared_one (Scopes.value e v c d up) typ = absurd cc
 declared_one (Scopes.field m f c d up) typ = absurd cc
 declared_one (Scopes.oneof m o c d up) typ = absurd cc
-declared_one (Scopes.rpc s r c d) typ = absurd cc
 
 -- ---- what is named
 

@@ -2,9 +2,9 @@
 use Rattle.std.proofs.Common.{◌≡◌, ℕ, zero, suc, ◌+◌, ◌<◌, ◌≤◌, ◌⊎◌, inl, inr, List, [], ◌∷◌, ◌++◌, length, get_or, map, take, Some, refl, sym, ap, ◌∙◌, subst, arith, zero-add}
 use Rattle.std.specs.Prelude.{Contains, slice_get}
 use Rattle.std.specs.List.{flat_map}
-use Rattle.std.proofs.lemmas.Bool.{cases_lt}
+use Rattle.std.proofs.lemmas.Bool.{cases_lt, cases_order}
 use Rattle.std.proofs.lemmas.Option.{slice_get_within, get_or_from_slice_get, slice_get-get_or, same_Some, none-some}
-use Rattle.std.proofs.lemmas.List.{get_or-map, length-map, length-append, append_assoc}
+use Rattle.std.proofs.lemmas.List.{get_or-map, length-map, length-append}
 use Rattle.std.proofs.lemmas.List.Elements.{Contains-append_cases, All-contains}
 use Rattle.mrpc_table.specs.Text.{table_text}
 use Rattle.mrpc_table.specs.Valid.{Ascends, AreDistinct, IsBelow, IsValid}
@@ -14,8 +14,8 @@ use Rattle.mrpc_table.specs.declared.table.Choices.{Choices}
 use Rattle.mrpc_table.specs.declared.table.Method.{Method}
 use Rattle.mrpc_table.specs.declared.table.Table.{Table}
 use Rattle.proto_file.specs.Order
-use Rattle.proto_file.specs.Order.{IsFormedRpc, IsFormedService}
-use Rattle.proto_file.specs.Together.{IsFormed, IsOrdered, enum_decl, message_decl, rpc_decl}
+use Rattle.proto_file.specs.Order.{IsFormedService, its_name}
+use Rattle.proto_file.specs.Together.{IsFormed, IsOrdered, enum_decl, message_decl, service_decl, rpc_decl}
 use Rattle.proto_file.specs.declared.file.RpcDecl.{RpcDecl}
 use Rattle.proto_file.specs.declared.file.ServiceDecl.{ServiceDecl}
 use Rattle.proto_file.specs.Joined.{Joined, package_at}
@@ -26,7 +26,7 @@ use Rattle.schema_offences.specs.Methods.{rpcs_of, service_rpcs}
 use Rattle.schema_offences.specs.Those.{AreThoseInOrder, none, next}
 use Rattle.schema_offences.specs.Members.{too_many_methods}
 use Rattle.schema_offences.specs.Offences
-use Rattle.schema_offences.specs.declared.reason.ResolveReason.TheVariants.{Limit}
+use Rattle.schema_offences.specs.declared.reason.ResolveReason.TheVariants.{DuplicateName, Limit}
 use Rattle.schema_resolve.specs.Tables.{IsMethodOf, IsTableOf}
 use Rattle.schema_resolve.specs.Resolving.{IsClean}
 use Rattle.schema_resolve.specs.Placing.{name_at, IsPlan, HasNames}
@@ -34,11 +34,10 @@ use Rattle.schema_resolve.specs.InOrder.{IsEnumAt, IsMethodIn}
 use Rattle.schema_resolve.specs.Joining.{IsMessageAt}
 use Rattle.schema_resolve.specs.Making.{IsMadeTable}
 use Rattle.schema_resolve.specs.declared.plan.Plan.{Plan}
-use Rattle.schema_resolve.proofs.FullNames.{AreNames, package_names, names_more, same_text}
+use Rattle.schema_resolve.proofs.FullNames.{AreNames, package_names, names_more}
 use Rattle.schema_resolve.proofs.Orders.{apart_distinct, ascends_apart, below_trans, below_strict}
 use Rattle.schema_resolve.proofs.CleanFiles.{in_list, at_in, some_at, one_declaration, here_message, here_enum, message_text, enum_text, few_messages, few_enums}
 use Rattle.schema_resolve.proofs.EnumTables.{map_contains}
-use Rattle.schema_resolve.proofs.FieldTables.{field_names}
 use Rattle.schema_resolve.proofs.MessageTables.{in_order_weaker, in_order_get, in_order_back, in_order_map}
 
 -- ---- along an order
@@ -231,15 +230,30 @@ rpc_here (t ∷ ss) i s r e = elim (rpc_here_at t t.rpcs ss i s r e) [
 pub same_rpc : (a b i j : ℕ) → rpc_decl a i ≡ rpc_decl b j → (a ≡ b) × (i ≡ j)
 same_rpc a b i j e = (cc, cc)
 
--- services of one full name have rpcs of one full name
-same_rpc_text : (f g : List (List ℕ)) (r u : List ℕ) → f ≡ g → r ≡ u
-    → text_of (f ++ r ∷ []) ≡ text_of (g ++ u ∷ [])
-same_rpc_text f g r u e d =
-    ap (λ (h : List (List ℕ)). text_of (h ++ r ∷ [])) e ∙ ap (λ (n : List ℕ). text_of (g ++ n ∷ [])) d
+same_service : (i j : ℕ) → service_decl i ≡ service_decl j → i ≡ j
+same_service i j e = cc
 
-rpc_text : (front : List (List ℕ)) (s r : List ℕ)
-    → text_of (front ++ s ∷ r ∷ []) ≡ text_of ((front ++ s ∷ []) ++ r ∷ [])
-rpc_text front s r = ap text_of (sym (append_assoc front (s ∷ []) (r ∷ [])))
+-- of two rpcs of one service that have one name the later one is an offence
+not_two_rpcs : (F : Joined) (s : ServiceDecl) (k i j : ℕ) (r u : RpcDecl) → IsOrdered F → IsClean F
+    → slice_get F.services k ≡ Some s → slice_get s.rpcs i ≡ Some r → slice_get s.rpcs j ≡ Some u
+    → r.name.name ≡ u.name.name → i < j → ⊥
+not_two_rpcs F s k i j r u ordered clean at rat uat name l =
+    clean DuplicateName u.name.span
+    (Offences.twice u.name.span
+    (Offences.two_rpcs s r u (in_list F.services k s at) (in_list s.rpcs i r rat) (in_list s.rpcs j u uat) name
+    (ordered.ascend (rpc_decl k i) (rpc_decl k j) its_name its_name r.name.span u.name.span (Together.rpcs k i j l)
+    (Together.rpc k i s r at rat (Order.rpc_name refl)) (Together.rpc k j s u at uat (Order.rpc_name refl))) refl)
+    (refl, refl))
+
+-- rpcs of one service that have one name are one
+one_rpc : (F : Joined) (s : ServiceDecl) (k i j : ℕ) (r u : RpcDecl) → IsOrdered F → IsClean F
+    → slice_get F.services k ≡ Some s → slice_get s.rpcs i ≡ Some r → slice_get s.rpcs j ≡ Some u
+    → r.name.name ≡ u.name.name → i ≡ j
+one_rpc F s k i j r u ordered clean at rat uat name = elim (cases_order i j) [
+  | inl e ↦ e
+  | inr (inl l) ↦ absurd (not_two_rpcs F s k i j r u ordered clean at rat uat name l)
+  | inr (inr l) ↦ absurd (not_two_rpcs F s k j i u r ordered clean at uat rat (sym name) l)
+]
 
 rpcs_apart : (F : Joined) (i j : ℕ) (s t : ServiceDecl) (r u : RpcDecl) → IsFormed F → IsOrdered F → IsClean F
     → slice_get (rpcs_of F) i ≡ Some (s, r) → slice_get (rpcs_of F) j ≡ Some (t, u)
@@ -250,30 +264,24 @@ rpcs_apart F i j s t r u formed ordered clean a b texts names =
     let y = rpc_here F.services j t u b in
     let sc : Contains F.services s = in_list F.services x.service s x.its_service in
     let tc : Contains F.services t = in_list F.services y.service t y.its_service in
-    let rc : Contains s.rpcs r = in_list s.rpcs x.rpc r x.its_rpc in
-    let uc : Contains t.rpcs u = in_list t.rpcs y.rpc u y.its_rpc in
     let sf = All-contains IsFormedService F.services s formed.services sc in
     let tf = All-contains IsFormedService F.services t formed.services tc in
     let sp : List (List ℕ) = package_at F s.file in
     let tp : List (List ℕ) = package_at F t.file in
     let sn : AreNames (sp ++ s.name.name ∷ []) = names_more sp s.name.name (package_names F s.file formed) sf.name in
     let tn : AreNames (tp ++ t.name.name ∷ []) = names_more tp t.name.name (package_names F t.file formed) tf.name in
-    let same : sp ++ s.name.name ∷ [] ≡ tp ++ t.name.name ∷ [] =
-    same_text (sp ++ s.name.name ∷ []) (tp ++ t.name.name ∷ []) sn tn texts in
-    let d : rpc_decl x.service x.rpc ≡ rpc_decl y.service y.rpc =
-    one_declaration F (rpc_decl x.service x.rpc) (rpc_decl y.service y.rpc) no_type no_type
-    (sp ++ s.name.name ∷ r.name.name ∷ []) (tp ++ t.name.name ∷ u.name.name ∷ []) r.name.span
-    u.name.span ordered clean (Scopes.rpc s r sc rc) (Scopes.rpc t u tc uc)
-    (Together.rpc x.service x.rpc s r x.its_service x.its_rpc (Order.rpc_name refl))
-    (Together.rpc y.service y.rpc t u y.its_service y.its_rpc (Order.rpc_name refl))
-    (field_names sp s.name.name r.name.name sn (All-contains IsFormedRpc s.rpcs r sf.rpcs rc).name)
-    (field_names tp t.name.name u.name.name tn (All-contains IsFormedRpc t.rpcs u tf.rpcs uc).name)
-    (rpc_text sp s.name.name r.name.name
-    ∙ same_rpc_text (sp ++ s.name.name ∷ []) (tp ++ t.name.name ∷ []) r.name.name u.name.name same names
-    ∙ sym (rpc_text tp t.name.name u.name.name)) in
-    let p = same_rpc x.service y.service x.rpc y.rpc d in
-    x.is_place ∙ ap (λ (k : ℕ). length (flat_map service_rpcs (take k F.services)) + x.rpc) p.0
-    ∙ ap (λ (k : ℕ). length (flat_map service_rpcs (take y.service F.services)) + k) p.1 ∙ sym y.is_place
+    let d : service_decl x.service ≡ service_decl y.service =
+    one_declaration F (service_decl x.service) (service_decl y.service) no_type no_type (sp ++ s.name.name ∷ [])
+    (tp ++ t.name.name ∷ []) s.name.span t.name.span ordered clean (Scopes.service s sc) (Scopes.service t tc)
+    (Together.service x.service s x.its_service refl) (Together.service y.service t y.its_service refl) sn tn texts in
+    let place : x.service ≡ y.service = same_service x.service y.service d in
+    let same : t ≡ s =
+    same_Some t s (sym y.its_service ∙ (ap (slice_get F.services) (sym place) ∙ x.its_service)) in
+    let rpc : x.rpc ≡ y.rpc =
+    one_rpc F s x.service x.rpc y.rpc r u ordered clean x.its_service x.its_rpc
+    (subst (λ (z : ServiceDecl). slice_get z.rpcs y.rpc ≡ Some u) same y.its_rpc) names in
+    x.is_place ∙ ap (λ (k : ℕ). length (flat_map service_rpcs (take k F.services)) + x.rpc) place
+    ∙ ap (λ (k : ℕ). length (flat_map service_rpcs (take y.service F.services)) + k) rpc ∙ sym y.is_place
 
 methods_distinct : (F : Joined) (T : Table) → IsFormed F → IsOrdered F → IsClean F → IsMadeTable F T
     → AreDistinct {X = List ℕ × List ℕ} (map (λ (m : Method). (m.service, m.name)) T.methods)
