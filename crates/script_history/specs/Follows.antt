@@ -79,8 +79,12 @@ pub data Step (s : Script) (old : State) (l : Line) (piece : History) (own : Lis
       → new.opened ≡ old.opened ++ record { conn = conn; words = words; stores = []; races = [] } ∷ []
       → piece ≡ [] → own ≡ [] → Step s old l piece own new
   stores : (o : Opened) (place value : ℕ) → l ≡ line.Store o.conn place value
-      → Becomes old o
-      (record { conn = o.conn; words = o.words; stores = o.stores ++ (place, value) ∷ []; races = o.races }) new
+      → Becomes old o (record {
+        conn = o.conn;
+        words = o.words;
+        stores = o.stores ++ (place, value) ∷ [];
+        races = o.races;
+      }) new
       → piece ≡ [] → own ≡ [] → Step s old l piece own new
   -- the race waits for the connection's next submission
   races : (o : Opened) (load place value : ℕ) → l ≡ line.Race o.conn load place value
@@ -95,8 +99,12 @@ pub data Step (s : Script) (old : State) (l : Line) (piece : History) (own : Lis
   submits : (o : Opened) (method number addr : ℕ) (copy : TookCopy) → l ≡ line.Submit o.conn method number addr
       → length (standing o.conn old.history) < MAX_STANDING
       → IsTaken s.table o.words s.loads method number addr own copy → ReadsBy (read_at o.stores o.races) 1 own
-      → Becomes old o
-      (record { conn = o.conn; words = o.words; stores = o.stores ++ stores_of o.races; races = [] }) new
+      → Becomes old o (record {
+        conn = o.conn;
+        words = o.words;
+        stores = o.stores ++ stores_of o.races;
+        races = [];
+      }) new
       → piece ≡ accepting (submitted old o method number addr (length own) copy)
       → Step s old l piece own new
   -- each call that stands is sent, in order

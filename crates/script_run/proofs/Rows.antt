@@ -1,6 +1,6 @@
 -- The definitions on small runs that were worked out by hand: what stands at the end of some calls, of which one was
 -- malformed, and which connections some lines open.
-use Rattle.std.proofs.Common.{◌≡◌, ℕ, List, [], ◌∷◌, ◌++◌, codes, refl}
+use Rattle.std.proofs.Common.{◌≡◌, ℕ, [], ◌∷◌, codes, refl}
 use Rattle.std.specs.Fmt.{digits}
 use Rattle.mrpc_table.specs.Node.{no_fields}
 use Rattle.graph_form.specs.declared.reason.Reason.TheVariants.{NoMethod}

@@ -3,6 +3,7 @@ use Rattle.std.specs.Prelude.{◌≡◌, ℕ, ◌+◌, ◌≤◌, Bool, true, fa
 use Rattle.std.specs.Prelude.{if◌then◌else◌}
 use Rattle.std.specs.Io.KnownBytes.{Appends}
 use Rattle.mrpc_base.specs.Heap.{Heap, Race, stores_of, races_with}
+use Rattle.mrpc_table.specs.declared.limits.TheConstants.{MIN_HEAP, MAX_HEAP}
 use Rattle.mrpc_table.specs.declared.table.Table.{Table}
 use Rattle.graph_form.specs.Malformed.{ReadsBy}
 use Rattle.graph_copy.specs.declared.copying.CopyResult.{CopyResult}
@@ -23,8 +24,8 @@ AreInOrder (race ∷ races) = All (λ other. race.load ≤ other.load) races × 
 
 -- a heap between two submissions
 pub record IsResting (heap : Heap) : Type 0 where
-  pub least : 4 ≤ heap.size
-  pub greatest : heap.size ≤ 65536
+  pub least : MIN_HEAP ≤ heap.size
+  pub greatest : heap.size ≤ MAX_HEAP
   pub begun : heap.begun ≡ 0
   pub in_order : AreInOrder heap.races
 

@@ -7,12 +7,13 @@ use Rattle.call_ledger.specs.Audit.{audit, frames, stands}
 use Rattle.call_ledger.specs.Legal.{IsLegal}
 use Rattle.call_ledger.specs.Spelled.{IsSpelled}
 use Rattle.script_lang.specs.Lines.{words_of}
+use Rattle.script_lang.specs.declared.limits.TheConstants.{MAX_CONNECTIONS}
 use Rattle.script_lang.specs.declared.script.Script.{Script}
 use Rattle.script_history.specs.Follows.{Follows}
 
 -- the lines of all calls that stand, by connection, from 1 to 16, and by number
 abbrev pub all_stands : History → List ℕ
-all_stands h = flat_map (λ conn. stands conn h) (range_with_len 1 16)
+all_stands h = flat_map (λ conn. stands conn h) (range_with_len 1 MAX_CONNECTIONS)
 
 -- the script was run: a history follows it, which is legal and comes from its loads; its audit and the calls that stand
 -- were written, and its frames

@@ -7,6 +7,7 @@ use Rattle.mrpc_table.specs.Valid.{AreDistinct}
 use Rattle.mrpc_table.specs.declared.table.Table.{Table}
 use Rattle.call_ledger.specs.Calls.{History, took, calls, calls_on, standing}
 use Rattle.call_ledger.specs.Audit.{audit, frames}
+use Rattle.script_lang.specs.declared.limits.TheConstants.{MAX_CONNECTIONS, MAX_SUBMITS}
 use Rattle.script_lang.specs.declared.script.Line.{Line}
 use Rattle.script_lang.specs.declared.script.Line.TheVariants.{Conn, Store, Race, Submit, Drain}
 use Rattle.script_lang.specs.declared.script.Script.{Script}
@@ -26,7 +27,7 @@ abbrev pub MayRun : Line → List Connection → Type 0
 MayRun (Conn conn words) cs = IsConn conn words
 MayRun (Store conn place value) cs = IsOpenWith conn (λ c. (1 ≤ place) × (place < c.heap.size)) cs
 MayRun (Race conn load place value) cs = (1 ≤ load) × IsOpenWith conn (λ c. (1 ≤ place) × (place < c.heap.size)) cs
-MayRun (Submit conn method number addr) cs = IsOpenWith conn (λ c. c.taken < 64) cs
+MayRun (Submit conn method number addr) cs = IsOpenWith conn (λ c. c.taken < MAX_SUBMITS) cs
 MayRun (Drain conn) cs = IsOpenWith conn (λ c. Unit {0}) cs
 
 -- the connection of a number is another one after a line
@@ -58,7 +59,7 @@ lines_on cs conn =
     unwrap_or (option_map (λ c. stands_lines (calls c.standing.items)) (find (λ c. c.conn == conn) cs)) []
 
 abbrev pub all_lines : List Connection → List ℕ
-all_lines cs = flat_map (lines_on cs) (range_with_len 1 16)
+all_lines cs = flat_map (lines_on cs) (range_with_len 1 MAX_CONNECTIONS)
 
 -- ---- a run stands for a script
 

@@ -3,6 +3,7 @@
 ghost use Rattle.std.specs.Prelude.{◌≡◌, ◌≤◌, [], All, OnOk, Err};
 ghost use Rattle.mrpc_base.specs.Faults.{HasCause};
 ghost use Rattle.mrpc_table.specs.Valid.{IsValid};
+ghost use Rattle.mrpc_table.specs.declared.limits.TheConstants.{MAX_LOADS};
 ghost use Rattle.script_lang.specs.Lines.{IsScript};
 ghost use Rattle.script_run.specs.Connection.{IsReady};
 ghost use Rattle.script_run.specs.Replays.{Replays};
@@ -35,7 +36,7 @@ fn run_line<K: Sink, W: Sink>(
 ) -> Result<(), Stop>
     requires valid { IsValid script.now.table }
     requires least_limit { 1 ≤ script.now.loads }
-    requires greatest_limit { script.now.loads ≤ 16384 }
+    requires greatest_limit { script.now.loads ≤ MAX_LOADS }
     requires ready { All (IsReady script.now.table) run.old.connections.items }
     requires may { MayRun line run.old.connections.items }
     ensures does { OnOk result (Does script.now line run.old.connections.items run.new.connections.items

@@ -12,10 +12,8 @@ use crate::stop::Stop;
 use crate::writing::write_line;
 use call_ledger::{Happening, stands_line};
 use mrpc_base::Sink;
+use script_lang::MAX_CONNECTIONS;
 use std::alloc::Global;
-
-/// The number of the last connection.
-const LAST: u32 = 16;
 
 /// Writes the lines of all calls that stand, by connection and number.
 pub(crate) fn write_standing<K: Sink>(
@@ -27,7 +25,7 @@ pub(crate) fn write_standing<K: Sink>(
     ensures not_wire { result ≢ Err Stop.Wire }
     ensures cause { HasCause (result ≡ Err Stop.Out) (K.faults out.old) (K.faults out.new) }
 {
-    for conn in 1..LAST + 1 {
+    for conn in 1..MAX_CONNECTIONS as u32 + 1 {
         write_on(alloc, connections, conn, out)?;
     }
     Ok(())

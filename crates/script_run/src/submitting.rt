@@ -4,7 +4,9 @@ ghost use Rattle.std.specs.Prelude.{◌≡◌, ◌≢◌, ◌<◌, ◌≤◌, On
 ghost use Rattle.std.specs.Io.KnownBytes.{Appends};
 ghost use Rattle.mrpc_base.specs.Faults.{HasCause};
 ghost use Rattle.mrpc_table.specs.Valid.{IsValid};
+ghost use Rattle.mrpc_table.specs.declared.limits.TheConstants.{MAX_LOADS};
 ghost use Rattle.call_ledger.specs.Audit.{refused_line};
+ghost use Rattle.script_lang.specs.declared.limits.TheConstants.{MAX_SUBMITS};
 ghost use Rattle.script_run.specs.Connection.{IsResting, Submits, has_copy};
 
 use crate::connection::Connection;
@@ -30,9 +32,9 @@ pub(crate) fn submit<K: Sink>(
 ) -> Result<(), Stop>
     requires valid { IsValid script.now.table }
     requires least_limit { 1 ≤ script.now.loads }
-    requires greatest_limit { script.now.loads ≤ 16384 }
+    requires greatest_limit { script.now.loads ≤ MAX_LOADS }
     requires rests { IsResting connection.old.heap }
-    requires few { connection.old.taken < 64 }
+    requires few { connection.old.taken < MAX_SUBMITS }
     ensures submits { OnOk result (Submits script.now.table script.now.loads method number addr
         connection.old connection.new (K.written out.old) (K.written out.new)) }
     ensures not_wire { result ≢ Err Stop.Wire }

@@ -3,6 +3,7 @@
 ghost use Rattle.std.specs.Prelude.{◌≡◌, ◌≤◌, ◌++◌, ℕ, List, length, IfOk};
 ghost use Rattle.mrpc_base.specs.Heap.{AfterRoom, AfterLoad};
 ghost use Rattle.mrpc_table.specs.Valid.{IsValid};
+ghost use Rattle.mrpc_table.specs.declared.limits.TheConstants.{MAX_LOADS};
 ghost use Rattle.graph_form.specs.declared.reason.Reason.TheVariants.{NoMethod};
 ghost use Rattle.graph_copy.specs.Copies.{OnlyLoads};
 ghost use Rattle.call_ledger.specs.declared.happening.TookCopy.TheVariants.{Malformed};
@@ -38,7 +39,7 @@ pub(crate) fn take(
 ) -> Result<Taken, Memory>
     requires valid { IsValid table.now }
     requires least_limit { 1 ≤ limit }
-    requires greatest_limit { limit ≤ 16384 }
+    requires greatest_limit { limit ≤ MAX_LOADS }
     requires rests { IsResting heap.old }
     ensures takes { IfOk result (λ taken. (own : List (ℕ × ℕ)) × (taken.count ≡ length own)
         × Takes table.now limit method number addr heap.old own taken.copy heap.new) }
@@ -61,7 +62,7 @@ fn load_message(
 ) -> Result<Taken, Memory>
     requires valid { IsValid table.now }
     requires least_limit { 1 ≤ limit }
-    requires greatest_limit { limit ≤ 16384 }
+    requires greatest_limit { limit ≤ MAX_LOADS }
     requires rests { IsResting heap.old }
     ensures loads { IfOk result (λ taken. (own : List (ℕ × ℕ)) × (taken.count ≡ length own)
         × IsTaken table.now heap.old.size limit method number addr own taken.copy
