@@ -29,7 +29,7 @@ pub(crate) fn usage(alloc: Global) -> Result<String, AllocError> {
         "Reads a table and frames from standard input, and writes a line for each frame",
     );
     let check = Command::new(alloc, "check").about(
-        "Reads a proto file from standard input, and writes its table",
+        "Reads a proto file, or a set of them, from standard input, and writes its table",
     );
     let mut program = Command::new(alloc, "mrpc")
         .override_usage(USAGE)

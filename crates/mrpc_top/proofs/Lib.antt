@@ -1,3 +1,4 @@
+mod CheckFaults
 mod DecodeAnswers
 mod DecodeTexts
 mod Decodings

@@ -33,8 +33,8 @@ spot_text (Line n) = decimal n
 spot_text (InFile file line) = decimal file ++ 58 ∷ decimal line
 spot_text (OfFile file) = decimal file
 
--- The first fault of a text, as it is printed: where it stands, and a word. In a proto file a token at fault counts before
--- all that stands against what the text says. Files of a set are numbered from 1.
+-- The first fault of a text, as it is printed: where it stands, and a word. In a proto file a token at fault counts
+-- before all that stands against what the text says. Files of a set are numbered from 1.
 pub data IsCheckFault (text : List ℕ) : Spot → List ℕ → Type 0 where
   unread : (q : ProtoReason) (s : Span) → (IsBundle text → ⊥) → HasFault text q s
       → IsCheckFault text (Line s.line) (proto_word q)

@@ -11,6 +11,7 @@ use Rattle.wire_decode.specs.Reason.{reason_word}
 use Rattle.wire_decode.specs.declared.fault.DecodeReason.{DecodeReason}
 use Rattle.frame_transport.specs.Frames.{IsFrame, StandFrom, Splits, joined, IsFaultAt, HasFault}
 use Rattle.frame_transport.specs.declared.format.Frame.{Frame}
+use Rattle.frame_transport.specs.declared.format.TheConstants.{HEADER_LEN, METHOD_PLACE}
 use Rattle.frame_transport.specs.declared.fault.FeedFault.{FeedFault}
 use Rattle.frame_transport.specs.declared.fault.FeedFault.TheVariants.{Version, Kind, TooLong, Memory}
 use Rattle.mrpc_table.specs.Calls.{message_at}
@@ -50,11 +51,11 @@ AreLinesOf T (f ∷ fs) text = (first : List ℕ) × (rest : List ℕ) × IsLine
 -- The fault of a frame, as it is printed: its place in the stream and a word. A method that the table lacks is at
 -- fault at the method's first byte, and counts before the payload.
 pub data IsFaultIn (T : Table) (f : Frame) (place : ℕ) (word : List ℕ) : Type 0 where
-  no_method : f.kind ≢ hello → length T.methods ≤ f.method → place ≡ f.place + 6 → word ≡ codes "NoMethod"
+  no_method : f.kind ≢ hello → length T.methods ≤ f.method → place ≡ f.place + METHOD_PLACE → word ≡ codes "NoMethod"
       → IsFaultIn T f place word
   in_payload : (reason : DecodeReason) (at : ℕ) → f.kind ≢ hello → f.method < length T.methods
-      → IsFirstFault T (message_in T f) f.payload reason at → place ≡ f.place + 16 + at → word ≡ reason_word reason
-      → IsFaultIn T f place word
+      → IsFirstFault T (message_in T f) f.payload reason at → place ≡ f.place + HEADER_LEN + at
+      → word ≡ reason_word reason → IsFaultIn T f place word
 
 -- the fault of a header, as it is printed
 abbrev pub IsFaultOfHeader : FeedFault → ℕ → List ℕ → Type 0

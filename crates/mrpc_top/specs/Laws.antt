@@ -79,8 +79,8 @@ pub record FileLaw : Type 0 where
       → HasOffence F q s → HasOffence F r t → (q ≡ r) × (s ≡ t)
   pub table_or_offence : (F : File) (T : Table) (q : ResolveReason) (s : Span) → Resolves F T → HasOffence F q s → ⊥
 
--- an input is one set of files at most, has one first fault at most, and never both; and files have one table at most, one
--- first fault at most, and never both
+-- an input is one set of files at most, has one first fault at most, and never both; and files have one table at most,
+-- one first fault at most, and never both
 pub record SetLaw : Type 0 where
   pub one_set : SpellsOnce
   pub one_fault : OneFault

@@ -7,15 +7,13 @@ ghost use Rattle.mrpc_table.specs.declared.table.Table.{Table};
 ghost use Rattle.file_bundle.specs.Bundle.{IsBundle};
 ghost use Rattle.mrpc_top.specs.Checking.{ChecksAs, IsCheckFault, IsFaultOf};
 ghost use Rattle.mrpc_top.specs.declared.check.Spot.{Spot};
-ghost use Rattle.mrpc_top.specs.declared.check.Spot.TheVariants as spots;
-ghost use Rattle.mrpc_top.specs.declared.check.CheckFault.TheVariants as faults;
 
 use crate::laws::{file_law, set_law};
 use crate::reading::INPUT_LIMIT;
 use file_bundle::{BundleFault, is_bundle, read_bundle};
 use mrpc_table::{Bytes, Memory, Table};
 use proto_schema::{ProtoFault, read_proto};
-use schema_files::{FilesFault, resolve_files};
+use schema_files::{FilesFault, fault_in_set, resolve_files};
 use schema_resolve::{ResolveFault, resolve};
 use std::alloc::Global;
 use table_text::table_text;
@@ -57,12 +55,21 @@ pub(crate) fn checked_text(alloc: Global, text: &[u8]) -> Result<Bytes, CheckFau
     ensures checked { IfOk result (λ lines. (T : Table) × ChecksAs text.now T × (lines ≡ table_text T)) }
     ensures fault { IfErr result (IsFaultOf text.now) }
 {
-    let table = if is_bundle(text) {
-        table_of_set(alloc, text)?
-    } else {
-        table_of_file(alloc, text)?
-    };
+    let table = table_of(alloc, text)?;
     Ok(table_text(alloc, &table)?)
+}
+
+// The table of a proto file or of a set of files.
+fn table_of(alloc: Global, text: &[u8]) -> Result<Table, CheckFault>
+    requires short { length text.now ≤ INPUT_LIMIT }
+    ensures checked { IfOk result (λ T. ChecksAs text.now T × IsValid T) }
+    ensures fault { IfErr result (IsFaultOf text.now) }
+{
+    if is_bundle(text) {
+        table_of_set(alloc, text)
+    } else {
+        table_of_file(alloc, text)
+    }
 }
 
 // The table of a proto file. What the text says counts only where each token can stand.
@@ -99,10 +106,21 @@ fn table_of_set(alloc: Global, text: &[u8]) -> Result<Table, CheckFault>
     ensures checked { IfOk result (λ T. ChecksAs text.now T × IsValid T) }
     ensures fault { IfErr result (IsFaultOf text.now) }
 {
+    fault_in_set();
     let files = match read_bundle(alloc, text) {
         Ok(files) => files,
-        Err(BundleFault::Bundle { file }) => return Err(fault_of_file(file, "Bundle")),
-        Err(BundleFault::Path { file }) => return Err(fault_of_file(file, "Path")),
+        Err(BundleFault::Bundle { file }) => {
+            return Err(CheckFault::At {
+                spot: Spot::OfFile(u64::from(file)),
+                word: "Bundle",
+            });
+        }
+        Err(BundleFault::Path { file }) => {
+            return Err(CheckFault::At {
+                spot: Spot::OfFile(u64::from(file)),
+                word: "Path",
+            });
+        }
         Err(BundleFault::Memory) => return Err(CheckFault::Memory),
     };
     match resolve_files(alloc, files.as_slice()) {
@@ -115,15 +133,6 @@ fn table_of_set(alloc: Global, text: &[u8]) -> Result<Table, CheckFault>
             word: reason.word(),
         }),
         Err(FilesFault::Memory) => Err(CheckFault::Memory),
-    }
-}
-
-fn fault_of_file(file: u32, word: &'static str) -> CheckFault
-    ensures { result ≡ faults.At (spots.OfFile file) word }
-{
-    CheckFault::At {
-        spot: Spot::OfFile(u64::from(file)),
-        word,
     }
 }
 

@@ -12,15 +12,12 @@ ghost use Rattle.mrpc_top.specs.Telling.{Tells};
 
 use crate::laws::frame_law;
 use call_ledger::put_hex;
-use frame_transport::{FeedFault, FrameRef, HEADER_LEN, HELLO, REQUEST, frame_at};
+use frame_transport::{FeedFault, FrameRef, HEADER_LEN, HELLO, METHOD_PLACE, REQUEST, frame_at};
 use mrpc_base::{Sink, write_all};
 use mrpc_table::{Bytes, Memory, Table};
 use std::alloc::Global;
 use wire_decode::{DecodeFault, Spare, decode_with};
 use wire_encode::{Output, encode_into};
-
-/// Where the method stands in a frame.
-const METHOD_PLACE: u64 = 6;
 
 /// How many bytes of lines are gathered at the least before they are written.
 const PIECE: usize = 65_536;

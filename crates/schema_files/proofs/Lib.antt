@@ -1,3 +1,4 @@
+mod InSet
 mod Lists
 mod Ones
 mod Placed

@@ -1,6 +1,6 @@
 //! Laws of sets of files. These functions do nothing; their clauses hold.
 
-ghost use Rattle.std.specs.Prelude.{◌≡◌, ℕ, List};
+ghost use Rattle.std.specs.Prelude.{◌≡◌, ℕ, ◌<◌, List, length};
 ghost use Rattle.mrpc_table.specs.Valid.{AreDistinct};
 ghost use Rattle.mrpc_table.specs.declared.table.Table.{Table};
 ghost use Rattle.file_bundle.specs.Bundle.{File as PackedFile, paths_of};
@@ -71,3 +71,8 @@ pub fn table_or_files_fault()
     one_reach();
     reach_or_fault();
 }
+
+/// The first fault of a set stands in one of its files.
+pub fn fault_in_set()
+    ensures { (files : List PackedFile) (i l : ℕ) (q : FilesReason) → HasFilesFault files i l q → i < length files }
+{}

@@ -1,3 +1,4 @@
+use Rattle.proto_file.specs.Joined.{alone}
 use Rattle.mrpc_top.proofs.laws.file_law.Goals as goal
 
 pub returns : goal.returns
@@ -5,7 +6,7 @@ returns c = record {
   one_file = c.one_file.ensures;
   one_fault = c.one_fault.ensures;
   file_or_fault = c.file_or_fault.ensures.not_both;
-  one_table = c.one_table.ensures;
+  one_table = λ text F T U reads. c.one_table.ensures (alone F) T U (c.alone_is_ordered.ensures.ordered text F reads);
   one_offence = c.one_offence.ensures;
   table_or_offence = c.table_or_offence.ensures.not_both;
 }
