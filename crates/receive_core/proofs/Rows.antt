@@ -1,13 +1,13 @@
 -- Fates of small frames, as terms. A table has a message M with a field a, and the method Get of the service S on it.
-use Rattle.std.proofs.Common.{◌≡◌, ◌≢◌, ℕ, [], ◌∷◌, List, codes, None, refl, arith}
-use Rattle.mrpc_table.specs.Node.{Node, no_fields, field, one, many, no_items, item, number}
+use Rattle.std.proofs.Common.{◌≡◌, ℕ, [], ◌∷◌, codes, None, refl, arith}
+use Rattle.mrpc_table.specs.Node.{no_fields, field, one, many, no_items, item, number}
 use Rattle.mrpc_table.specs.declared.table.Kind.TheVariants.{Uint64}
 use Rattle.mrpc_table.specs.declared.table.Label.{Label}
 use Rattle.mrpc_table.specs.declared.table.Label.TheVariants.{Plain, Packed}
 use Rattle.mrpc_table.specs.declared.table.Table.{Table}
 use Rattle.frame_transport.specs.declared.format.Frame.{Frame}
 use Rattle.receive_core.specs.declared.arrival.DropCause.TheVariants.{Hello, NoMethod}
-use Rattle.receive_core.specs.Fates.{judged_number, message_of, block_words, drops, IsFate, is_hello, has_no_method}
+use Rattle.receive_core.specs.Fates.{judged_number, block_words, drops, IsFate, is_hello, has_no_method}
 
 abbrev table : Label → Table
 table label = record {

@@ -3,6 +3,7 @@
 ghost use Rattle.std.specs.Prelude.{◌≡◌, ◌≢◌, ◌<◌, ◌≤◌, ◌+◌, ◌-◌, ◌++◌, ◌^◌, ◌↔◌, ◌⊎◌, [], ◌∷◌, ℕ, List, length, All, IfOk, OnOk, IfErr, OnErr, IsErr, IsErrOf, IfSome, IfNone, Some, None, Ok, Err, slice_get};
 ghost use Rattle.std.specs.Option.{option_copied};
 ghost use Rattle.mrpc_table.specs.Valid.{IsValid};
+ghost use Rattle.mrpc_table.specs.declared.limits.TheConstants.{MAX_HEAP, MIN_HEAP};
 ghost use Rattle.mrpc_table.specs.declared.table.Table.{Table as TheTable};
 ghost use Rattle.frame_transport.specs.Feed.{total, Gives, GoesOn, StopsAt};
 ghost use Rattle.frame_transport.specs.Frames.{Ends, IsPartial, Splits};
@@ -36,6 +37,7 @@ pub struct Inbound {
 
 impl Model for Inbound {
     ghost use Rattle.std.specs.Prelude.{◌≤◌};
+    ghost use Rattle.mrpc_table.specs.declared.limits.TheConstants.{MAX_HEAP, MIN_HEAP};
     ghost use Rattle.receive_core.specs.Turns.{Receiving, IsSplit};
 
     ghost Value = { Receiving };
@@ -47,14 +49,14 @@ impl Model for Inbound {
 
     ghost view = { λ i. record { conn = i.conn; fed = i.feed; heap = i.extents; opened = i.opened } };
 
-    ghost invariant = { λ i. (4 ≤ i.extents.words) × (i.extents.words ≤ 65536) × IsSplit i.feed };
+    ghost invariant = { λ i. (MIN_HEAP ≤ i.extents.words) × (i.extents.words ≤ MAX_HEAP) × IsSplit i.feed };
 }
 
 impl Inbound {
     /// The receiver of a connection, counted from 1, with a heap of so many words, 4 to 65536.
     pub fn open(alloc: Global, conn: u32, words: u64) -> Result<Inbound, Memory>
-        requires least { 4 ≤ words }
-        requires most { words ≤ 65536 }
+        requires least { MIN_HEAP ≤ words }
+        requires most { words ≤ MAX_HEAP }
         ensures conn { IfOk result (λ inbound. inbound.conn ≡ conn) }
         ensures fed { IfOk result (λ inbound. inbound.fed ≡ record { place = 0; bytes = []; behind = 0 }) }
         ensures size { IfOk result (λ inbound. inbound.heap.words ≡ words) }
@@ -182,7 +184,7 @@ impl Inbound {
         ensures some { IfOk result (λ reading. IfSome reading (λ r. (f : TheFrame) × IsFirst self.old.fed f
             × IsReading table.now self.old.conn f r)) }
         ensures kept { IfOk result (λ reading. IfSome reading (λ r. self.new.opened ≡ None)) }
-        ensures words { (4 ≤ self.new.heap.words) × (self.new.heap.words ≤ 65536) }
+        ensures words { (MIN_HEAP ≤ self.new.heap.words) × (self.new.heap.words ≤ MAX_HEAP) }
         ensures stays { HasStayed self.old self.new }
         ensures first { OnErr result ((f : TheFrame) × IsFirst self.old.fed f) }
         ensures memory { OnErr result (self.new ≡ self.old) }
@@ -207,7 +209,7 @@ impl Inbound {
         requires valid { IsValid table.now }
         requires opened { (f : TheFrame) × IsFirst self.old.fed f × IsOpened table.now self.old.conn f opened }
         requires none_kept { self.old.opened ≡ None }
-        requires words { (4 ≤ self.old.heap.words) × (self.old.heap.words ≤ 65536) }
+        requires words { (MIN_HEAP ≤ self.old.heap.words) × (self.old.heap.words ≤ MAX_HEAP) }
         requires size { H.words heap.old ≡ self.old.heap.words }
         requires few { length (H.stores heap.old) ≤ 2 ^ 62 }
         requires blocks { self.old.heap.next < 2 ^ 32 }

@@ -1,4 +1,4 @@
-use Rattle.std.proofs.Common.{◌≡◌, ap, ◌∙◌}
+use Rattle.std.proofs.Common.{ap, ◌∙◌}
 use Rattle.frame_transport.specs.Feed.{total}
 use Rattle.receive_core.specs.Turns.{Receiving}
 use Rattle.receive_core.proofs.Firsts.{left_splits, taken_total}
