@@ -9,5 +9,7 @@ mod reading;
 mod resolver;
 
 pub use fault::{FilesFault, FilesReason};
-pub use laws::{fault_in_set, one_files_fault, one_files_table, table_or_files_fault};
+pub use laws::{
+    fault_in_set, joined_is_sound, one_files_fault, one_files_table, one_join, table_or_files_fault,
+};
 pub use resolver::resolve_files;
