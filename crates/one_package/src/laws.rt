@@ -1,11 +1,19 @@
 //! Laws of files of one package. These functions do nothing; their clauses hold.
 
+ghost use Rattle.std.specs.Prelude.{List};
 ghost use Rattle.mrpc_table.specs.declared.table.Table.{Table};
+ghost use Rattle.file_bundle.specs.Bundle.{File as PackedFile};
 ghost use Rattle.proto_file.specs.Joined.{Joined};
 ghost use Rattle.proto_file.specs.Together.{IsFormed, IsOrdered};
 ghost use Rattle.proto_file.specs.declared.file.File.{File};
+ghost use Rattle.proto_join.specs.Joining.{joined};
+ghost use Rattle.proto_join.specs.declared.part.Part.{Part};
 ghost use Rattle.schema_resolve.specs.Resolving.{Resolves, ResolvesTogether};
+ghost use Rattle.schema_files.specs.Resolving.{AreJoined, FilesResolve};
 ghost use Rattle.one_package.specs.OnePackage.{IsOnePackage};
+
+use proto_join::joined_is_ordered;
+use schema_files::{joined_is_sound, one_join};
 
 /// Files of one package and the one file that has their declarations resolve to the same table: where one of the two
 /// has a table, the other has it too.
@@ -15,3 +23,16 @@ pub fn one_package_is_one_file()
     ensures several { (F : Joined) (G : File) (T : Table) → IsFormed F → IsOrdered F → IsOnePackage F G
         → Resolves G T → ResolvesTogether F T }
 {}
+
+/// The same of the files that the first file of a set reaches by imports: the set resolves to the table of the one file.
+pub fn one_package_set_is_one_file()
+    ensures one_file { (files : List PackedFile) (ps : List Part) (G : File) (T : Table) → AreJoined files ps
+        → IsOnePackage (joined ps) G → FilesResolve files T → Resolves G T }
+    ensures several { (files : List PackedFile) (ps : List Part) (G : File) (T : Table) → AreJoined files ps
+        → IsOnePackage (joined ps) G → Resolves G T → FilesResolve files T }
+{
+    one_join();
+    joined_is_sound();
+    joined_is_ordered();
+    one_package_is_one_file();
+}
