@@ -1,8 +1,7 @@
 -- A text has one table or one fault.
-use Rattle.std.proofs.Common.{◌≡◌, ℕ, ◌+◌, ◌≤◌, ◌<◌, List, length, Option, Some, ⊎_elim, sym, ap, subst, ◌∙◌, refl, arith}
+use Rattle.std.proofs.Common.{◌≡◌, ℕ, ◌+◌, List, length, Option, Some, ⊎_elim, ap, subst, refl, arith}
 use Rattle.mrpc_table.specs.declared.table.Table.{Table}
-use Rattle.mrpc_table.specs.Valid.{AreDistinct}
-use Rattle.file_bundle.specs.Bundle.{File as PackedFile, IsBundle, paths_of}
+use Rattle.file_bundle.specs.Bundle.{File as PackedFile}
 use Rattle.file_bundle.specs.Faults.{IsSet, IsFirstFault as IsBundleFault}
 use Rattle.file_bundle.specs.declared.fault.BundleFault.{BundleFault}
 use Rattle.file_bundle.specs.declared.fault.BundleFault.TheVariants.{Bundle, Path}

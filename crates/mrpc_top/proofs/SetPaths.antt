@@ -1,12 +1,12 @@
 -- The paths of a set's files are distinct, and its files are no longer than the input.
-use Rattle.std.proofs.Common.{◌≡◌, ◌≢◌, ℕ, suc, ◌+◌, ◌<◌, ◌≤◌, ◌^◌, List, [], ◌∷◌, ◌++◌, length, refl, ap, sym, ◌∙◌, arith, length-append}
-use Rattle.std.specs.Prelude.{Contains, map, sum_by}
+use Rattle.std.proofs.Common.{◌≡◌, ◌≢◌, ℕ, suc, ◌+◌, ◌≤◌, List, [], ◌∷◌, ◌++◌, length, ap, arith, length-append}
+use Rattle.std.specs.Prelude.{Contains, sum_by}
 use Rattle.std.specs.List.{AllPairs, flat_map}
 use Rattle.std.proofs.lemmas.List.Sums.{sum_by-cons}
 use Rattle.mrpc_table.specs.Valid.{AreDistinct}
-use Rattle.file_bundle.specs.Bundle.{File as PackedFile, IsBundle, paths_of, file_text, header_line, first_line, bundle_text}
+use Rattle.file_bundle.specs.Bundle.{File as PackedFile, paths_of, file_text, header_line, first_line, bundle_text}
 use Rattle.file_bundle.specs.Faults.{IsSet}
-use Rattle.file_bundle.specs.Packed.{file_of, files_of}
+use Rattle.file_bundle.specs.Packed.{files_of}
 use Rattle.file_bundle.specs.declared.packed.Packed.{Packed}
 
 distinct : (xs : List (List ℕ)) → AllPairs (λ (path later : List ℕ). later ≢ path) xs → AreDistinct xs

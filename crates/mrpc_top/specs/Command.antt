@@ -17,7 +17,6 @@ use Rattle.mrpc_top.specs.declared.command.Command.{Command}
 use Rattle.mrpc_top.specs.declared.command.Command.TheVariants.{Replay, Decode, Check}
 use Rattle.mrpc_table.specs.declared.table.Table.{Table}
 use Rattle.mrpc_table.specs.Text.{table_text}
-use Rattle.proto_file.specs.declared.file.File.{File}
 
 -- the word of a command
 abbrev pub command_word : Command → List ℕ
