@@ -11,8 +11,8 @@ fn lists_keep_their_items(rt: HostRuntime) -> Result<(), Fail> {
     bytes.append_signed(-5)?;
     bytes.append_hex(alloc, b"\x0f")?;
     let bytes = Bytes::from_vec(bytes.into_vec());
-    assert_eq!(rt; bytes.as_slice(), b"abc70-50f".as_slice());
-    assert_eq!(rt; bytes.copied(alloc)?.len(), 9);
+    assert!(rt; bytes.as_slice() == b"abc70-50f".as_slice());
+    assert!(rt; bytes.copied(alloc)?.len() == 9);
     Ok(())
 }
 
@@ -21,16 +21,10 @@ fn words_are_names_and_numbers(rt: HostRuntime) {
     assert!(rt; is_name(b"_0Z"));
     assert!(rt; !is_name(b"9a"));
     assert!(rt; is_full_name(b"a.b"));
-    assert_eq!(rt;
-        number_of(b"18446744073709551615"),
-        Some(Decimal::Small(u64::MAX))
-    );
-    assert_eq!(rt; number_of(b"18446744073709551616"), Some(Decimal::Large));
-    assert_eq!(rt; number_of(b"01"), None);
-    assert_eq!(rt;
-        cut(b"a b c", b' '),
-        Some((b"a".as_slice(), b"b c".as_slice()))
-    );
+    assert!(rt; number_of(b"18446744073709551615") == Some(Decimal::Small(u64::MAX)));
+    assert!(rt; number_of(b"18446744073709551616") == Some(Decimal::Large));
+    assert!(rt; number_of(b"01").is_none());
+    assert!(rt; matches!(cut(b"a b c", b' '), Some((b"a", b"b c"))));
 }
 
 #[test]
@@ -39,6 +33,6 @@ fn copies_are_equal(rt: HostRuntime) -> Result<(), Fail> {
     let mut fields = Vec::new(alloc);
     fields.push((1, FieldValue::One(Value::Number(7))))?;
     let tree = Tree { fields }.copied(alloc)?;
-    assert_eq!(rt; tree.fields.len(), 1);
+    assert!(rt; tree.fields.len() == 1);
     Ok(())
 }

@@ -12,50 +12,41 @@ const SECOND: Rate = Rate {
 #[test]
 fn calls_are_charged_until_the_bucket_is_short(rt: HostRuntime) {
     let mut bucket = Bucket::full(&SECOND, 0);
-    assert_eq!(rt; bucket.level, 2000);
-    assert_eq!(rt; bucket.step(&SECOND), Step::Pass { level: 1000 });
-    assert_eq!(rt; bucket.step(&SECOND), Step::Pass { level: 0 });
-    assert_eq!(rt;
-        bucket.step(&SECOND),
-        Step::Short {
-            level: 0,
-            cost: 1000
-        }
-    );
+    assert!(rt; bucket.level == 2000);
+    assert!(rt; bucket.step(&SECOND) == Step::Pass { level: 1000 });
+    assert!(rt; bucket.step(&SECOND) == Step::Pass { level: 0 });
+    let short = Step::Short {
+        level: 0,
+        cost: 1000,
+    };
+    assert!(rt; bucket.step(&SECOND) == short);
 }
 
 #[test]
 fn time_fills_the_bucket(rt: HostRuntime) {
     let mut bucket = Bucket { level: 0, last: 0 };
     bucket.clock(&SECOND, 999);
-    assert_eq!(rt;
-        bucket.step(&SECOND),
-        Step::Short {
-            level: 999,
-            cost: 1000
-        }
-    );
+    let short = Step::Short {
+        level: 999,
+        cost: 1000,
+    };
+    assert!(rt; bucket.step(&SECOND) == short);
     bucket.clock(&SECOND, 1000);
-    assert_eq!(rt; bucket.step(&SECOND), Step::Pass { level: 0 });
+    assert!(rt; bucket.step(&SECOND) == Step::Pass { level: 0 });
     bucket.clock(&SECOND, 7);
-    assert_eq!(rt;
-        bucket,
-        Bucket {
-            level: 0,
-            last: 1000
-        }
-    );
+    assert!(rt; bucket.level == 0);
+    assert!(rt; bucket.last == 1000);
 }
 
 #[test]
 fn a_bucket_is_filled_up_to_full(rt: HostRuntime) {
     let mut bucket = Bucket { level: 0, last: 0 };
     bucket.clock(&SECOND, 1999);
-    assert_eq!(rt; bucket.level, 1999);
+    assert!(rt; bucket.level == 1999);
     bucket.clock(&SECOND, 2000);
-    assert_eq!(rt; bucket.level, 2000);
+    assert!(rt; bucket.level == 2000);
     bucket.clock(&SECOND, 2001);
-    assert_eq!(rt; bucket.level, 2000);
+    assert!(rt; bucket.level == 2000);
 }
 
 #[test]
@@ -67,10 +58,10 @@ fn the_smallest_numbers_pay_for_one_call(rt: HostRuntime) {
         hold: false,
     };
     let mut bucket = Bucket::full(&smallest, 5);
-    assert_eq!(rt; bucket.step(&smallest), Step::Pass { level: 0 });
-    assert_eq!(rt; bucket.step(&smallest), Step::Short { level: 0, cost: 1 });
+    assert!(rt; bucket.step(&smallest) == Step::Pass { level: 0 });
+    assert!(rt; bucket.step(&smallest) == Step::Short { level: 0, cost: 1 });
     bucket.clock(&smallest, 6);
-    assert_eq!(rt; bucket.step(&smallest), Step::Pass { level: 0 });
+    assert!(rt; bucket.step(&smallest) == Step::Pass { level: 0 });
 }
 
 #[test]
@@ -86,10 +77,10 @@ fn an_upgrade_rounds_down_and_is_no_more_than_full(rt: HostRuntime) {
         last: 0,
     };
     bucket.convert(&SECOND, &sevenths);
-    assert_eq!(rt; bucket.level, 13);
+    assert!(rt; bucket.level == 13);
     bucket.level = 4000;
     bucket.convert(&SECOND, &sevenths);
-    assert_eq!(rt; bucket.level, 21);
+    assert!(rt; bucket.level == 21);
 }
 
 #[test]
@@ -105,13 +96,8 @@ fn an_upgrade_converts_the_level(rt: HostRuntime) {
         last: 3,
     };
     bucket.convert(&SECOND, &half);
-    assert_eq!(rt;
-        bucket,
-        Bucket {
-            level: 500,
-            last: 3
-        }
-    );
+    assert!(rt; bucket.level == 500);
+    assert!(rt; bucket.last == 3);
 }
 
 #[test]
@@ -127,14 +113,9 @@ fn the_largest_numbers_do_not_wrap(rt: HostRuntime) {
         last: 0,
     };
     bucket.clock(&largest, u64::MAX);
-    assert_eq!(rt;
-        bucket,
-        Bucket {
-            level: 86400000000000,
-            last: u64::MAX
-        }
-    );
+    assert!(rt; bucket.level == 86400000000000);
+    assert!(rt; bucket.last == u64::MAX);
     bucket.level = u64::MAX;
     bucket.convert(&largest, &largest);
-    assert_eq!(rt; bucket.level, 86400000000000);
+    assert!(rt; bucket.level == 86400000000000);
 }

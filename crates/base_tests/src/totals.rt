@@ -10,8 +10,12 @@ fn check_totals(
     text: &[u8],
     sums: (u64, u64, u64, u64),
 ) -> Result<(), Fail> {
-    assert_eq!(rt; totals.text(alloc)?.as_slice(), text);
-    assert_eq!(rt; totals.sums(), sums);
+    assert!(rt; totals.text(alloc)?.as_slice() == text);
+    let (took, sent, refused, standing) = totals.sums();
+    assert!(rt; took == sums.0);
+    assert!(rt; sent == sums.1);
+    assert!(rt; refused == sums.2);
+    assert!(rt; standing == sums.3);
     Ok(())
 }
 

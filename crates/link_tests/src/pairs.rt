@@ -32,8 +32,8 @@ pub(crate) fn a_pair<R: Wait + Sync>(
 fn two_threads_use_a_pair(rt: HostRuntime) -> Result<(), Fail> {
     let (first, second) = a_pair(&rt, rt.alloc())?;
     let (came, came_too) = exchange_both(&rt, first, second);
-    assert_eq!(rt; came, 10);
-    assert_eq!(rt; came_too, 10);
+    assert!(rt; came == 10);
+    assert!(rt; came_too == 10);
     Ok(())
 }
 
@@ -49,23 +49,20 @@ fn exchange_both<R: Threads + Wait + Sync>(
     )
 }
 
-// Hands over frames of none to four bytes and finishes, and answers how many bytes came up to the end. Buffers of one
-// byte and of three take turns, so that frames are cut.
+// Hands over frames of none to four bytes and finishes, and answers how many bytes came up to the end.
 fn exchange<R: Wait>(rt: &R, mut link: PairLink<R>) -> usize {
     for length in 0..5usize {
-        let _ = link.send(&[1, 2, 3, 4][..length]);
+        let _ = link.send(&b"abcd"[..length]);
     }
     link.finish();
+    receive_all(rt, &mut link)
+}
+
+// How many bytes come up to the end, or 0 where a receive fails.
+fn receive_all<R: Wait>(rt: &R, link: &mut PairLink<R>) -> usize {
     let mut came = 0usize;
-    let mut small = [0; 1];
-    let mut large = [0; 3];
     for _ in rt.forever() {
-        let found = if came % 2 == 0 {
-            link.receive(&mut small)
-        } else {
-            link.receive(&mut large)
-        };
-        match found {
+        match receive_some(link, came % 2 == 0) {
             Came::Bytes(count) => came = came.wrapping_add(count),
             Came::Idle => thread::yield_now(),
             Came::End => return came,
@@ -73,6 +70,15 @@ fn exchange<R: Wait>(rt: &R, mut link: PairLink<R>) -> usize {
         }
     }
     unreachable!()
+}
+
+// Receives into a buffer of one byte or of three, so that frames are cut.
+fn receive_some<R: Wait>(link: &mut PairLink<R>, one: bool) -> Came {
+    if one {
+        link.receive(&mut [0; 1])
+    } else {
+        link.receive(&mut [0; 3])
+    }
 }
 
 #[test]
@@ -83,10 +89,10 @@ fn links_come_back(rt: HostRuntime) -> Result<(), Fail> {
     meet(&mut first, &mut second);
     fabric.keep(1, first);
     fabric.keep(2, second);
-    assert_eq!(rt; fabric.links().len(), 2);
-    assert_eq!(rt; take_first(&mut fabric), 1);
-    assert_eq!(rt; take_first(&mut fabric), 2);
-    assert_eq!(rt; take_first(&mut fabric), 0);
+    assert!(rt; fabric.links().len() == 2);
+    assert!(rt; take_first(&mut fabric) == 1);
+    assert!(rt; take_first(&mut fabric) == 2);
+    assert!(rt; take_first(&mut fabric) == 0);
     Ok(())
 }
 
@@ -104,10 +110,10 @@ fn finish_has_its_place(rt: HostRuntime) -> Result<(), Fail> {
     fill(&mut first);
     first.finish();
     first.finish();
-    assert_eq!(rt; first.faults(), 0);
-    assert_eq!(rt; first.send(&[8]), Handed::Failed);
-    assert_eq!(rt; first.faults(), 1);
-    assert_eq!(rt; single_bytes(&mut second), 65535);
+    assert!(rt; first.faults() == 0);
+    assert!(rt; first.send(&[8]) == Handed::Failed);
+    assert!(rt; first.faults() == 1);
+    assert!(rt; single_bytes(&mut second) == 65535);
     assert!(rt; has_ended(&mut second));
     assert!(rt; has_ended(&mut second));
     Ok(())
@@ -123,44 +129,87 @@ fn fill<R: Wait>(link: &mut PairLink<R>) {
 // Receives as often, and answers how often a single byte came.
 fn single_bytes<R: Wait>(link: &mut PairLink<R>) -> u32 {
     let mut count = 0u32;
-    let mut buf = [0; 9];
     for _ in 0..65535u32 {
-        if link.receive(&mut buf) == Came::Bytes(1) {
+        if gives_one(link) {
             count = count.wrapping_add(1);
         }
     }
     count
 }
 
+fn gives_one<R: Wait>(link: &mut PairLink<R>) -> bool {
+    link.receive(&mut [0; 2]) == Came::Bytes(1)
+}
+
 fn has_ended<R: Wait>(link: &mut PairLink<R>) -> bool {
     link.receive(&mut [0; 1]) == Came::End
 }
 
+// The first opening fails.
+fn a_listed_opening(alloc: Global) -> Result<ListedFaults, Fail> {
+    let openings = [1].to_vec(alloc)?;
+    Ok(ListedFaults {
+        openings,
+        sends: Vec::new(alloc),
+        receives: Vec::new(alloc),
+    })
+}
+
+fn opens<R: Wait + Sync>(fabric: &mut MemFabric<R>) -> bool {
+    fabric.open_pair(1, 2).is_ok()
+}
+
 #[test]
 fn listed_openings_fail(rt: HostRuntime) -> Result<(), Fail> {
-    let mut faults = no_faults(rt.alloc());
-    faults.openings.push(1)?;
+    let faults = a_listed_opening(rt.alloc())?;
     let mut fabric = MemFabric::new(&rt, rt.alloc(), faults);
-    assert!(rt; fabric.open_pair(1, 2).is_err());
-    assert_eq!(rt; fabric.faults(), 1);
-    assert!(rt; fabric.open_pair(1, 2).is_ok());
-    assert_eq!(rt; fabric.faults(), 1);
+    assert!(rt; !opens(&mut fabric));
+    assert!(rt; fabric.faults() == 1);
+    assert!(rt; opens(&mut fabric));
+    assert!(rt; fabric.faults() == 1);
     Ok(())
+}
+
+// One call of a connection.
+fn one_call(alloc: Global, connection: u32, call: u64) -> Result<Vec<(u32, u64)>, Fail> {
+    let mut calls = Vec::new(alloc);
+    calls.push((connection, call))?;
+    Ok(calls)
+}
+
+// The ends of 1 and 2, in which the first send of 2 and the second receive of 1 fail.
+fn a_failing_pair<R: Wait + Sync>(
+    rt: &R,
+    alloc: Global,
+) -> Result<(PairLink<R>, PairLink<R>), Fail> {
+    let sends = one_call(alloc, 2, 1)?;
+    let receives = one_call(alloc, 1, 2)?;
+    let faults = ListedFaults {
+        openings: Vec::new(alloc),
+        sends,
+        receives,
+    };
+    let mut fabric = MemFabric::new(rt, alloc, faults);
+    Ok(fabric.open_pair(1, 2)?)
+}
+
+// The byte that a frame of one byte gives, or 0.
+fn one_byte<R: Wait>(link: &mut PairLink<R>) -> u8 {
+    let mut buf = [0; 2];
+    if link.receive(&mut buf) == Came::Bytes(1) {
+        buf[0]
+    } else {
+        0
+    }
 }
 
 #[test]
 fn listed_sends_and_receives_fail(rt: HostRuntime) -> Result<(), Fail> {
-    let mut faults = no_faults(rt.alloc());
-    faults.sends.push((2, 1))?;
-    faults.receives.push((1, 2))?;
-    let mut fabric = MemFabric::new(&rt, rt.alloc(), faults);
-    let (mut first, mut second) = fabric.open_pair(1, 2)?;
-    assert_eq!(rt; second.send(&[5]), Handed::Failed);
-    assert_eq!(rt; second.send(&[6]), Handed::Done);
-    let mut buf = [0; 4];
-    assert_eq!(rt; first.receive(&mut buf), Came::Bytes(1));
-    assert_eq!(rt; buf[0], 6);
-    assert_eq!(rt; first.receive(&mut buf), Came::Failed);
-    assert_eq!(rt; first.receive(&mut buf), Came::Idle);
+    let (mut first, mut second) = a_failing_pair(&rt, rt.alloc())?;
+    assert!(rt; second.send(&[5]) == Handed::Failed);
+    assert!(rt; second.send(&[6]) == Handed::Done);
+    assert!(rt; one_byte(&mut first) == 6);
+    assert!(rt; first.receive(&mut [0; 1]) == Came::Failed);
+    assert!(rt; first.receive(&mut [0; 1]) == Came::Idle);
     Ok(())
 }

@@ -31,14 +31,14 @@ fn next<R: Wait>(rt: &R, consumer: &mut Consumer<u32>) -> u32
 #[test]
 fn comes_out_in_order(rt: HostRuntime) -> Result<(), Fail> {
     let (mut producer, mut consumer) = open::<u32>(rt.alloc(), 2)?;
-    assert_eq!(rt; refused(&rt, &mut producer, 7), 0);
+    assert!(rt; refused(&rt, &mut producer, 7) == 0);
     producer.put_waiting(&rt, 8);
-    assert_eq!(rt; refused(&rt, &mut producer, 9), 9);
-    assert_eq!(rt; producer.len(&rt), 2);
+    assert!(rt; refused(&rt, &mut producer, 9) == 9);
+    assert!(rt; producer.len(&rt) == 2);
     meet(&mut producer, &mut consumer);
-    assert_eq!(rt; next(&rt, &mut consumer), 7);
-    assert_eq!(rt; next(&rt, &mut consumer), 8);
-    assert_eq!(rt; next(&rt, &mut consumer), 0);
+    assert!(rt; next(&rt, &mut consumer) == 7);
+    assert!(rt; next(&rt, &mut consumer) == 8);
+    assert!(rt; next(&rt, &mut consumer) == 0);
     Ok(())
 }
 
@@ -47,12 +47,12 @@ fn reserved_places_stay_free(rt: HostRuntime) -> Result<(), Fail> {
     let (mut producer, mut consumer) = open::<u32>(rt.alloc(), 2)?;
     producer.put_leaving(&rt, 1, 7);
     producer.put_reserved(&rt, 8);
-    assert_eq!(rt; refused(&rt, &mut producer, 9), 9);
-    assert_eq!(rt; next(&rt, &mut consumer), 7);
+    assert!(rt; refused(&rt, &mut producer, 9) == 9);
+    assert!(rt; next(&rt, &mut consumer) == 7);
     producer.put_leaving(&rt, 0, 9);
     meet(&mut producer, &mut consumer);
-    assert_eq!(rt; next(&rt, &mut consumer), 8);
-    assert_eq!(rt; next(&rt, &mut consumer), 9);
+    assert!(rt; next(&rt, &mut consumer) == 8);
+    assert!(rt; next(&rt, &mut consumer) == 9);
     Ok(())
 }
 
@@ -64,7 +64,7 @@ fn goes_to_another_thread(rt: HostRuntime) -> Result<(), Fail> {
         move || put_all(&rt, producer),
         move || sum_of(&rt, consumer),
     );
-    assert_eq!(rt; sum, 21);
+    assert!(rt; sum == 21);
     Ok(())
 }
 
@@ -123,9 +123,9 @@ fn pieces_are_read_as_bytes(rt: HostRuntime) -> Result<(), Fail> {
     put_bytes(&rt, rt.alloc(), &mut producer, &[7, 8, 9])?;
     put_bytes(&rt, rt.alloc(), &mut producer, &[])?;
     producer.put_waiting(&rt, Piece::Mark(5));
-    assert_eq!(rt; found(&rt, &mut reader), 78);
-    assert_eq!(rt; found(&rt, &mut reader), 9);
-    assert_eq!(rt; found(&rt, &mut reader), 105);
-    assert_eq!(rt; found(&rt, &mut reader), 0);
+    assert!(rt; found(&rt, &mut reader) == 78);
+    assert!(rt; found(&rt, &mut reader) == 9);
+    assert!(rt; found(&rt, &mut reader) == 105);
+    assert!(rt; found(&rt, &mut reader) == 0);
     Ok(())
 }

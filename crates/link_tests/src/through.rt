@@ -49,9 +49,9 @@ fn a_pair_meets_behind_a_writer(rt: HostRuntime) -> Result<(), Fail> {
     let (first, second) = a_pair(&rt, rt.alloc())?;
     let (_first, mut second) = meet_behind_a_writer(&rt, rt.alloc(), first, second, &[7, 8])?;
     let mut buf = [0; 4];
-    assert_eq!(rt; second.receive(&mut buf), Came::Bytes(2));
-    assert_eq!(rt; buf[0], 7);
-    assert_eq!(rt; buf[1], 8);
-    assert_eq!(rt; second.receive(&mut buf), Came::End);
+    assert!(rt; second.receive(&mut buf) == Came::Bytes(2));
+    assert!(rt; buf[0] == 7);
+    assert!(rt; buf[1] == 8);
+    assert!(rt; second.receive(&mut buf) == Came::End);
     Ok(())
 }

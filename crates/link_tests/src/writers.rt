@@ -165,12 +165,12 @@ fn a_frame_is_passed_on(rt: HostRuntime) -> Result<(), Fail> {
     let alloc = rt.alloc();
     let inner = three_bytes(alloc, Vec::new(alloc), Vec::new(alloc))?;
     let (mut link, writer) = open(&rt, alloc, 1, inner)?;
-    assert_eq!(rt; link.send(&[5, 6]), Handed::Done);
+    assert!(rt; link.send(&[5, 6]) == Handed::Done);
     let passed = link.close();
     let mut end = writer.run();
     end.meet(passed);
-    assert_eq!(rt; end.link().handed().len(), 1);
-    assert_eq!(rt; sum_of(end.link().handed()), 56);
+    assert!(rt; end.link().handed().len() == 1);
+    assert!(rt; sum_of(end.link().handed()) == 56);
     Ok(())
 }
 
@@ -190,7 +190,7 @@ fn finish_and_close_find_their_places(rt: HostRuntime) -> Result<(), Fail> {
     let end = finished_when_full(&rt, rt.alloc())?;
     assert!(rt; !end.failed());
     assert!(rt; !end.memory());
-    assert_eq!(rt; end.link().handed().len(), 1);
+    assert!(rt; end.link().handed().len() == 1);
     assert!(rt; end.link().is_finished());
     Ok(())
 }
@@ -199,10 +199,10 @@ fn finish_and_close_find_their_places(rt: HostRuntime) -> Result<(), Fail> {
 fn both_sides_are_busy(rt: HostRuntime) -> Result<(), Fail> {
     let alloc = rt.alloc();
     let (told, handed, _) = talk_in_memory(&rt, alloc, Vec::new(alloc), Vec::new(alloc))?;
-    assert_eq!(rt; told.sent, 3);
-    assert_eq!(rt; told.came, 3);
-    assert_eq!(rt; told.last, Came::End);
-    assert_eq!(rt; handed, 3);
+    assert!(rt; told.sent == 3);
+    assert!(rt; told.came == 3);
+    assert!(rt; told.last == Came::End);
+    assert!(rt; handed == 3);
     Ok(())
 }
 
@@ -212,11 +212,11 @@ fn each_send_fails(rt: HostRuntime) -> Result<(), Fail> {
     for k in 0..3u64 {
         let sends = [k + 1].to_vec(alloc)?;
         let (told, handed, faults) = talk_in_memory(&rt, alloc, sends, Vec::new(alloc))?;
-        assert_eq!(rt; told.sent, 3);
-        assert_eq!(rt; told.last, Came::Failed);
+        assert!(rt; told.sent == 3);
+        assert!(rt; told.last == Came::Failed);
         assert!(rt; told.failed);
-        assert_eq!(rt; handed as u64, k);
-        assert_eq!(rt; faults, 1);
+        assert!(rt; handed as u64 == k);
+        assert!(rt; faults == 1);
     }
     Ok(())
 }
@@ -227,10 +227,10 @@ fn each_receive_fails(rt: HostRuntime) -> Result<(), Fail> {
     for k in 0..4u64 {
         let receives = [k + 1].to_vec(alloc)?;
         let (told, _, faults) = talk_in_memory(&rt, alloc, Vec::new(alloc), receives)?;
-        assert_eq!(rt; told.sent, 3);
-        assert_eq!(rt; told.came as u64, k);
-        assert_eq!(rt; told.last, Came::Failed);
-        assert_eq!(rt; faults, 1);
+        assert!(rt; told.sent == 3);
+        assert!(rt; told.came as u64 == k);
+        assert!(rt; told.last == Came::Failed);
+        assert!(rt; faults == 1);
     }
     Ok(())
 }
@@ -249,9 +249,9 @@ fn talk_without_memory<R: Threads + Wait + Sync>(
 fn memory_is_wanting(rt: HostRuntime) -> Result<(), Fail> {
     for in_receives in [false, true] {
         let told = talk_without_memory(&rt, rt.alloc(), in_receives)?;
-        assert_eq!(rt; told.sent, 3);
-        assert_eq!(rt; told.came, 0);
-        assert_eq!(rt; told.last, Came::Memory);
+        assert!(rt; told.sent == 3);
+        assert!(rt; told.came == 0);
+        assert!(rt; told.last == Came::Memory);
         assert!(rt; told.memory);
     }
     Ok(())
