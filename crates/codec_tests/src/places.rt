@@ -17,8 +17,19 @@ use wire_encode::encode;
 const NUMBERS: &[u8] = b"message M\nfield 6 packed uint64 n\nmethod 0 S Get M M\n";
 
 // Each kind of slot once, and a message in itself.
-const SLOTS: &[u8] =
-    b"message C\nfield 1 plain string a\nfield 2 repeated message:C b\nfield 3 oneof:x uint64 c\nfield 4 packed bool d\nfield 5 map:string bytes e\nfield 6 optional uint64 f\nfield 7 oneof:x message:C g\nfield 8 oneof:y string h\nfield 9 optional bytes i\nfield 10 repeated string j\nmethod 0 S Get C C\n";
+const SLOTS: &[u8] = b"message C
+field 1 plain string a
+field 2 repeated message:C b
+field 3 oneof:x uint64 c
+field 4 packed bool d
+field 5 map:string bytes e
+field 6 optional uint64 f
+field 7 oneof:x message:C g
+field 8 oneof:y string h
+field 9 optional bytes i
+field 10 repeated string j
+method 0 S Get C C
+";
 
 const NUMBER: &[u8] = b"message M\nfield 1 plain uint64 a\nmethod 0 S Get M M\n";
 
@@ -91,8 +102,8 @@ fn packed_numbers_are_placed(rt: HostRuntime) -> Result<(), Fail> {
     let bytes = b"\x32\x06\x03\x8e\x02\x9e\xa7\x05";
     match place_and_copy(alloc, &table, bytes)? {
         Some((words, copied)) => {
-            assert_eq!(rt; words, 5);
-            assert_eq!(rt; copied.as_slice(), bytes.as_slice());
+            assert!(rt; words == 5);
+            assert!(rt; copied.as_slice() == bytes.as_slice());
         }
         None => assert!(rt; false),
     }
@@ -105,11 +116,12 @@ fn each_kind_of_slot_is_placed(rt: HostRuntime) -> Result<(), Fail> {
     let table = read_table(alloc, SLOTS)?;
     assert!(rt; !table.messages.is_empty());
     let bytes =
-        b"\x0a\x09testing89\x12\x02\x18\x00\x12\x03\x0a\x01z\x22\x03\x01\x00\x01\x2a\x06\x0a\x00\x12\x02pq\x2a\x05\x0a\x01k\x12\x00\x30\x00\x3a\x04\x42\x02hi\x42\x00\x4a\x00\x52\x01x\x52\x00";
+        b"\x0a\x09testing89\x12\x02\x18\x00\x12\x03\x0a\x01z\x22\x03\x01\x00\x01\x2a\x06\x0a\x00\x12\x02pq\
+        \x2a\x05\x0a\x01k\x12\x00\x30\x00\x3a\x04\x42\x02hi\x42\x00\x4a\x00\x52\x01x\x52\x00";
     match place_and_copy(alloc, &table, bytes)? {
         Some((words, copied)) => {
-            assert_eq!(rt; copied.as_slice(), bytes.as_slice());
-            assert_eq!(rt; words, 20 + 2 + 43 + 3 + 10 + 21 + 5);
+            assert!(rt; copied.as_slice() == bytes.as_slice());
+            assert!(rt; words == 20 + 2 + 43 + 3 + 10 + 21 + 5);
         }
         None => assert!(rt; false),
     }
@@ -126,13 +138,13 @@ fn a_number_takes_one_store(rt: HostRuntime) -> Result<(), Fail> {
     let tree = Tree { fields };
     assert!(rt; fits(&tree, &table, 0));
     let words = place_words(&tree, &table, 0);
-    assert_eq!(rt; words, 2);
+    assert!(rt; words == 2);
     let mut heap = PlainWords::open(alloc, 16)?;
     let placed = place(alloc, &tree, &table, 0, 2, &mut heap)?;
-    assert_eq!(rt; placed.address, 2);
-    assert_eq!(rt; heap.stores(), [(2u64, 150u64)].as_slice());
+    assert!(rt; placed.address == 2);
+    assert!(rt; heap.stores() == [(2u64, 150u64)].as_slice());
     match forgotten(alloc, &placed, &table)? {
-        Some(bytes) => assert_eq!(rt; bytes.as_slice(), b"\x08\x96\x01".as_slice()),
+        Some(bytes) => assert!(rt; bytes.as_slice() == b"\x08\x96\x01".as_slice()),
         None => assert!(rt; false),
     }
     Ok(())

@@ -105,7 +105,7 @@ impl Scene {
         ensures known { KnowsTenantOf (λ t. t < result.tickets.tenants) result.engine.entry.policy }
     {
         assert!(rt; self.engine.policy().is_same_kind(&policy));
-        assert_eq!(rt; self.engine.version(), 1);
+        assert!(rt; self.engine.version() == 1);
         Scene {
             table: self.table,
             tickets: self.tickets,
@@ -137,14 +137,14 @@ fn a_rate_engine_charges_each_call_once(rt: HostRuntime) -> Result<(), Fail> {
     let mut second = request(alloc, 2)?;
     let mut third = request(alloc, 3)?;
     let mut scene = on_small_table(alloc, b"rl", Policy::Rate(HOLDING))?;
-    assert_eq!(rt; scene.work(&rt, &mut first), charged(1000));
-    assert_eq!(rt; scene.work(&rt, &mut second), charged(0));
+    assert!(rt; scene.work(&rt, &mut first) == charged(1000));
+    assert!(rt; scene.work(&rt, &mut second) == charged(0));
     let held = Outcome::Held {
         level: 0,
         cost: 1000,
     };
-    assert_eq!(rt; scene.work(&rt, &mut third), held);
-    assert_eq!(rt; scene.work(&rt, &mut first), NOTHING);
+    assert!(rt; scene.work(&rt, &mut third) == held);
+    assert!(rt; scene.work(&rt, &mut first) == NOTHING);
     Ok(())
 }
 
@@ -158,10 +158,10 @@ fn time_lets_a_held_call_pass(rt: HostRuntime) -> Result<(), Fail> {
     scene.work(&rt, &mut first);
     assert!(rt; scene.engine.held(&second).is_none());
     scene.work(&rt, &mut second);
-    assert_eq!(rt; scene.engine.held(&third), Some((0, 1000)));
+    assert!(rt; scene.engine.held(&third) == Some((0, 1000)));
     scene.engine.clock(1000);
     assert!(rt; scene.engine.held(&third).is_none());
-    assert_eq!(rt; scene.work(&rt, &mut third), charged(0));
+    assert!(rt; scene.work(&rt, &mut third) == charged(0));
     Ok(())
 }
 
@@ -190,7 +190,7 @@ fn a_quota_of_cap_0_draws_and_refuses(rt: HostRuntime) -> Result<(), Fail> {
         ticket: 0,
     };
     let over = Why::Over { ticket: 0, cap: 0 };
-    assert_eq!(rt; scene.work(&rt, &mut call), Outcome::Refused(drawn, over));
+    assert!(rt; scene.work(&rt, &mut call) == Outcome::Refused(drawn, over));
     Ok(())
 }
 
@@ -202,7 +202,7 @@ fn a_ticket_is_compared_with_the_present_cap(rt: HostRuntime) -> Result<(), Fail
     let over = scene.work(&rt, &mut call);
     assert!(rt; matches!(over, Outcome::Refused(_, Why::Over { .. })));
     let mut scene = scene.restore(&rt, ONE);
-    assert_eq!(rt; scene.work(&rt, &mut call), NOTHING);
+    assert!(rt; scene.work(&rt, &mut call) == NOTHING);
     Ok(())
 }
 
@@ -213,8 +213,8 @@ fn a_count_counts_each_call_once(rt: HostRuntime) -> Result<(), Fail> {
     let alloc = rt.alloc();
     let mut call = request(alloc, 1)?;
     let mut scene = on_small_table(alloc, b"c", Policy::Count)?;
-    assert_eq!(rt; scene.work(&rt, &mut call), Outcome::Passed(Noted::Counted));
-    assert_eq!(rt; scene.work(&rt, &mut call), NOTHING);
+    assert!(rt; scene.work(&rt, &mut call) == Outcome::Passed(Noted::Counted));
+    assert!(rt; scene.work(&rt, &mut call) == NOTHING);
     Ok(())
 }
 
@@ -234,9 +234,9 @@ fn a_redacting_engine_clears_a_call_once(rt: HostRuntime) -> Result<(), Fail> {
     let table = read_table(alloc, SMALL)?;
     let policy = Policy::Redact(cut(alloc, &table)?);
     let mut scene = on_table(alloc, table, b"cut", policy)?;
-    assert_eq!(rt; scene.work(&rt, &mut call), Outcome::Redacted);
+    assert!(rt; scene.work(&rt, &mut call) == Outcome::Redacted);
     assert!(rt; call.call().tree.fields.is_empty());
-    assert_eq!(rt; scene.work(&rt, &mut call), NOTHING);
+    assert!(rt; scene.work(&rt, &mut call) == NOTHING);
     Ok(())
 }
 
@@ -260,12 +260,9 @@ fn an_access_engine_is_restored(rt: HostRuntime) -> Result<(), Fail> {
     let again = policy.copied(alloc)?;
     let scene = on_table(alloc, table, b"acl", policy)?;
     let mut scene = scene.restore(&rt, again);
-    assert_eq!(rt; scene.engine.version(), 2);
-    assert_eq!(rt; scene.engine.name().as_slice(), b"acl".as_slice());
+    assert!(rt; scene.engine.version() == 2);
+    assert!(rt; scene.engine.name().as_slice() == b"acl".as_slice());
     let denied = Why::Denied { rule: 0 };
-    assert_eq!(rt;
-        scene.work(&rt, &mut call),
-        Outcome::Refused(Noted::Nothing, denied)
-    );
+    assert!(rt; scene.work(&rt, &mut call) == Outcome::Refused(Noted::Nothing, denied));
     Ok(())
 }

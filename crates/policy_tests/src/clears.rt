@@ -49,7 +49,7 @@ fn a_listed_field_is_cleared_once(rt: HostRuntime) -> Result<(), Fail> {
     tree.fields.push((2, FieldValue::One(Value::Number(9))))?;
     let mut request = call_of(0, tree);
     assert!(rt; changes(&rt, &policy, &table, &mut request));
-    assert_eq!(rt; request.tree.fields.len(), 1);
+    assert!(rt; request.tree.fields.len() == 1);
     assert!(rt; !changes(&rt, &policy, &table, &mut request));
     Ok(())
 }
@@ -63,7 +63,7 @@ fn a_path_goes_through_a_member_and_a_message(rt: HostRuntime) -> Result<(), Fai
     let inner = around(alloc, 2, with_number(alloc, 5)?)?;
     let mut reply = call_of(1, around(alloc, 3, inner)?);
     assert!(rt; changes(&rt, &policy, &table, &mut reply));
-    assert_eq!(rt; reply.tree.fields.len(), 1);
+    assert!(rt; reply.tree.fields.len() == 1);
     assert!(rt; !changes(&rt, &policy, &table, &mut reply));
     Ok(())
 }
@@ -81,12 +81,12 @@ fn redact_fault(alloc: Global, text: &[u8]) -> Result<(u64, RuleReason), Fail> {
 fn a_line_is_at_fault_for_its_form_its_index_or_its_path(rt: HostRuntime) -> Result<(), Fail> {
     let alloc = rt.alloc();
     let fault = redact_fault(alloc, b"")?;
-    assert_eq!(rt; fault.0, 1);
-    assert_eq!(rt; fault.1, RuleReason::Word);
+    assert!(rt; fault.0 == 1);
+    assert!(rt; fault.1 == RuleReason::Word);
     let fault = redact_fault(alloc, b"clear method 0 1\nclear method 65536 1\n")?;
-    assert_eq!(rt; fault.0, 2);
-    assert_eq!(rt; fault.1, RuleReason::Number);
+    assert!(rt; fault.0 == 2);
+    assert!(rt; fault.1 == RuleReason::Number);
     let fault = redact_fault(alloc, b"clear method 0 1.1\n")?;
-    assert_eq!(rt; fault.1, RuleReason::Path);
+    assert!(rt; fault.1 == RuleReason::Path);
     Ok(())
 }

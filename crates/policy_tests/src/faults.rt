@@ -73,7 +73,8 @@ fn check_fault(
 {
     match read_access(alloc, lines, table) {
         Err(RuleFault::At { line, reason }) => {
-            assert_eq!(rt; (line, reason), wanted);
+            assert!(rt; line == wanted.0);
+            assert!(rt; reason == wanted.1);
             Ok(())
         }
         _ => Err(Fail::from("no line is at fault")),

@@ -252,7 +252,7 @@ fn check_tests(rt: &impl Abort, alloc: Global, tests: &[u8], picked: bool) -> Re
     let lines = lines_of(alloc, tests)?;
     for (place, test) in lines.as_slice().iter().enumerate() {
         let answer = picks(rt, alloc, &table, test.as_slice())?;
-        assert_eq!(rt; answer, picked, "at {place}");
+        assert!(rt; answer == picked, "at {place}");
     }
     Ok(())
 }

@@ -37,7 +37,7 @@ fn largest_after(alloc: Global, order: u32) -> Result<Option<u64>, Fail> {
 #[test]
 fn blocks_are_taken_back_in_every_order(rt: HostRuntime) -> Result<(), Fail> {
     for order in 0..ORDERS {
-        assert_eq!(rt; largest_after(rt.alloc(), order)?, Some(16));
+        assert!(rt; largest_after(rt.alloc(), order)? == Some(16));
     }
     Ok(())
 }

@@ -26,10 +26,7 @@ fn lines_are_written(rt: HostRuntime) -> Result<(), Fail> {
         },
     };
     let line = audit_line(alloc, &took, &table)?;
-    assert_eq!(rt;
-        line.as_slice(),
-        b"took 1 2 0 0 15 1 0 malformed Address 0 15\n".as_slice()
-    );
+    assert!(rt; line.as_slice() == b"took 1 2 0 0 15 1 0 malformed Address 0 15\n".as_slice());
     let lost = TookCopy::Malformed {
         reason: Reason::NoMethod,
         place: 0,
@@ -42,8 +39,8 @@ fn lines_are_written(rt: HostRuntime) -> Result<(), Fail> {
         cause: Cause::Malformed,
     };
     let line = audit_line(alloc, &refused, &table)?;
-    assert_eq!(rt; line.as_slice(), b"refused 1 2 malformed\n".as_slice());
+    assert!(rt; line.as_slice() == b"refused 1 2 malformed\n".as_slice());
     let line = stands_line(alloc, 16, 4294967295, 0, b"-")?;
-    assert_eq!(rt; line.as_slice(), b"stands 16 4294967295 0 -\n".as_slice());
+    assert!(rt; line.as_slice() == b"stands 16 4294967295 0 -\n".as_slice());
     Ok(())
 }

@@ -21,10 +21,10 @@ fn fed_in_two(rt: &impl Abort, alloc: Global, stream: &[u8], at: usize) {
     assert!(rt; feed.feed(&stream[..at]).is_ok());
     assert!(rt; feed.feed(&stream[at..]).is_ok());
     let request = feed.next().expect(rt, "a request");
-    assert_eq!(rt; request.payload.as_slice(), b"\x08\x07".as_slice());
+    assert!(rt; request.payload.as_slice() == b"\x08\x07".as_slice());
     let reply = feed.next().expect(rt, "a reply");
-    assert_eq!(rt; reply.method, 258);
-    assert_eq!(rt; reply.place, 18);
+    assert!(rt; reply.method == 258);
+    assert!(rt; reply.place == 18);
     assert!(rt; feed.next().is_none());
 }
 
@@ -46,9 +46,9 @@ fn a_hello_of_version_2_is_taken(rt: HostRuntime) -> Result<(), Fail> {
     let mut feed = Feed::new(alloc);
     assert!(rt; feed.feed(bytes.as_slice()).is_ok());
     let hello = feed.next().expect(&rt, "a hello");
-    assert_eq!(rt; hello.kind, HELLO);
-    assert_eq!(rt; hello.version, 2);
-    assert_eq!(rt; hello.conn, 7);
+    assert!(rt; hello.kind == HELLO);
+    assert!(rt; hello.version == 2);
+    assert!(rt; hello.conn == 7);
     Ok(())
 }
 
@@ -59,7 +59,7 @@ fn a_fault_is_told_and_stays(rt: HostRuntime) {
     assert!(rt; feed.fed() < 100);
     assert!(rt; feed.feed(b"\0").is_err());
     assert!(rt; feed.next().is_none());
-    assert_eq!(rt; feed.rest(), 6);
+    assert!(rt; feed.rest() == 6);
 }
 
 #[test]
@@ -67,10 +67,10 @@ fn a_link_over_a_sink_writes_its_frames(rt: HostRuntime) -> Result<(), Fail> {
     let alloc = rt.alloc();
     let mut sink = MemSink::new(alloc, [2].to_vec(alloc)?);
     let mut link = ByteLink::new(&mut sink);
-    assert_eq!(rt; link.send(b"frame"), Handed::Done);
-    assert_eq!(rt; link.send(b"next"), Handed::Failed);
-    assert_eq!(rt; link.receive(&mut [0; 4]), Came::End);
+    assert!(rt; link.send(b"frame") == Handed::Done);
+    assert!(rt; link.send(b"next") == Handed::Failed);
+    assert!(rt; link.receive(&mut [0; 4]) == Came::End);
     link.finish();
-    assert_eq!(rt; sink.written(), b"frame".as_slice());
+    assert!(rt; sink.written() == b"frame".as_slice());
     Ok(())
 }
