@@ -1,5 +1,5 @@
--- What holds of files that are resolved together, and were read: which places they keep, which forms their names have, and
--- in which order their names and numbers start.
+-- What holds of files that are resolved together, and were read: which places they keep, which forms their names have,
+-- and in which order their names and numbers start.
 use Rattle.std.specs.Prelude.{◌≡◌, ℕ, ◌<◌, length, List, Option, Some, slice_get, IfSome, All, Contains}
 use Rattle.proto_file.specs.Joined.{Joined}
 use Rattle.proto_file.specs.Order.{IsPlaceBelow, HasFullName, IsFormedMessage, IsFormedEnum, IsFormedService, Part, its_name, rank_of, IsOfField, IsOfValue, IsOfRpc}
@@ -89,9 +89,12 @@ pub data Precedes : Declaration → Declaration → Type 0 where
 -- the place of the file that a declaration stands in
 pub data IsInFile (F : Joined) (k : ℕ) : Declaration → Type 0 where
   its_package : IsInFile F k (package_decl k)
-  in_message_of : (i : ℕ) (m : MessageDecl) → slice_get F.messages i ≡ Some m → m.file ≡ k → IsInFile F k (message_decl i)
-  in_field_of : (i j : ℕ) (m : MessageDecl) → slice_get F.messages i ≡ Some m → m.file ≡ k → IsInFile F k (field_decl i j)
-  in_oneof_of : (i j : ℕ) (m : MessageDecl) → slice_get F.messages i ≡ Some m → m.file ≡ k → IsInFile F k (oneof_decl i j)
+  in_message_of : (i : ℕ) (m : MessageDecl) → slice_get F.messages i ≡ Some m → m.file ≡ k
+      → IsInFile F k (message_decl i)
+  in_field_of : (i j : ℕ) (m : MessageDecl) → slice_get F.messages i ≡ Some m → m.file ≡ k
+      → IsInFile F k (field_decl i j)
+  in_oneof_of : (i j : ℕ) (m : MessageDecl) → slice_get F.messages i ≡ Some m → m.file ≡ k
+      → IsInFile F k (oneof_decl i j)
   in_enum_of : (i : ℕ) (e : EnumDecl) → slice_get F.enums i ≡ Some e → e.file ≡ k → IsInFile F k (enum_decl i)
   in_value_of : (i j : ℕ) (e : EnumDecl) → slice_get F.enums i ≡ Some e → e.file ≡ k → IsInFile F k (value_decl i j)
   in_service_of : (i : ℕ) (s : ServiceDecl) → slice_get F.services i ≡ Some s → s.file ≡ k

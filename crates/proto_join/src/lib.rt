@@ -4,8 +4,8 @@
 //! them what is resolved together (`proto_file`): the declarations of all files in one list each, every place in a text
 //! behind the texts of the earlier files. `specs/Joining.antt` says what they are together. The layer above uses that
 //! contract, and the laws that what was joined is well formed and in order ([`joined_is_ordered`]), that one file that
-//! is joined is that file alone ([`joined_alone`]), and that a place is in the text of one file ([`places_apart`]), which
-//! [`file_at`] finds.
+//! is joined is that file alone ([`joined_alone`]), and that a place is in the text of one file ([`places_apart`]),
+//! which [`file_at`] finds.
 #![tactic(auto)]
 
 mod decls;

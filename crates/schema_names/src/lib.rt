@@ -5,8 +5,8 @@
 //! files that were read; clauses see it as those files. The layer above uses three contracts: of [`Scopes::find`], that
 //! it answers the first message or enum that a reference names among those that its file sees, or that it names none,
 //! of [`Scopes::number`], that scopes have one number exactly where they have one full name ([`one_number`]), and of
-//! [`Scopes::is_package`], that it tells a package's name. They take time by the length of what is asked, by how deep it
-//! stands in messages, by the number of files, and by the logarithm of the number of types.
+//! [`Scopes::is_package`], that it tells a package's name. They take time by the length of what is asked, by how deep
+//! it stands in messages, by the number of files, and by the logarithm of the number of types.
 #![tactic(auto)]
 
 mod below;

@@ -64,8 +64,8 @@ pub record IsMethodOf (T : Table) (F : Joined) (p : ServiceDecl × RpcDecl) (t :
   pub input_place : message_name T t.input ≡ text_of input
   pub output_place : message_name T t.output ≡ text_of output
 
--- The table says what the files say that are resolved together. Its lists are ordered as each valid table's are; methods
--- are numbered along the files.
+-- The table says what the files say that are resolved together. Its lists are ordered as each valid table's are;
+-- methods are numbered along the files.
 pub record IsTableOf (F : Joined) (T : Table) : Type 0 where
   pub valid : IsValid T
   pub messages : AreThose (IsMessageOf T F) F.messages T.messages

@@ -1,6 +1,7 @@
 -- What the fields of a heap's ends keep.
 use Rattle.std.specs.Prelude.{◌≡◌, ℕ, ◌≤◌, List, [], Some, length}
 use Rattle.atomic_table.specs.Seated.{TableId}
+use Rattle.mrpc_table.specs.declared.limits.TheConstants.{MIN_HEAP}
 use Rattle.shared_heap.specs.Fresh.{Fresh}
 use Rattle.shared_heap.specs.Rule.{Seated, keeper}
 
@@ -8,7 +9,7 @@ use Rattle.shared_heap.specs.Rule.{Seated, keeper}
 pub record IsReading (of table : TableId) (size : ℕ) (me : Seated) : Type 0 where
   pub of_table : of ≡ table
   pub sized : size ≡ of.words
-  pub some_words : 4 ≤ of.words
+  pub some_words : MIN_HEAP ≤ of.words
   pub empty : me.1 ≡ []
   pub whole : (xs : List (ℕ × ℕ)) → me.0.all ≡ Some xs → me.0.known ≡ xs
   pub fresh : Fresh me.0.loads me.0.known
@@ -17,7 +18,7 @@ pub record IsReading (of table : TableId) (size : ℕ) (me : Seated) : Type 0 wh
 pub record IsWriting (of table : TableId) (size made : ℕ) (me : Seated) : Type 0 where
   pub of_table : of ≡ table
   pub sized : size ≡ of.words
-  pub some_words : 4 ≤ of.words
+  pub some_words : MIN_HEAP ≤ of.words
   pub keeps : me ≡ (keeper me.0.known, [])
   pub counted : made ≡ length me.0.known
 

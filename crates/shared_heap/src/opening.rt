@@ -1,4 +1,5 @@
 ghost use Rattle.std.specs.Prelude.{◌≡◌, ◌≤◌, false, [], IfOk};
+ghost use Rattle.mrpc_table.specs.declared.limits.TheConstants.{MAX_HEAP, MIN_HEAP};
 
 use crate::reader::Reader;
 use crate::view::{Knowing, Table};
@@ -8,8 +9,8 @@ use std::sync::Arc;
 
 /// Opens a heap of `words` words, which are all 0.
 pub fn open(alloc: Global, words: u64) -> Result<(Writer, Reader), AllocError>
-    requires at_least { 4 ≤ words }
-    requires at_most { words ≤ 65536 }
+    requires at_least { MIN_HEAP ≤ words }
+    requires at_most { words ≤ MAX_HEAP }
 
     ensures size { IfOk result (λ ends. ends.0.heap.words ≡ words) }
     ensures one_heap { IfOk result (λ ends. ends.1.heap ≡ ends.0.heap) }

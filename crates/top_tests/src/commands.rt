@@ -9,7 +9,8 @@ use std::alloc::{AllocError, Global};
 use std::test::Fail;
 
 const ONE_CALL: &[u8] =
-    b"mrpc-replay 1\ntable\nmessage M\nfield 1 plain uint64 a\nmethod 0 S Get M M\nend\nconn 1 16\nstore 1 2 150\nsubmit 1 0 2\ndrain 1\nclose\n";
+    b"mrpc-replay 1\ntable\nmessage M\nfield 1 plain uint64 a\nmethod 0 S Get M M\nend\n\
+      conn 1 16\nstore 1 2 150\nsubmit 1 0 2\ndrain 1\nclose\n";
 
 fn words_of(alloc: Global, command: &str) -> Result<Vec<String>, AllocError> {
     let mut words = Vec::new(alloc);

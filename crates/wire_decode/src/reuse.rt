@@ -53,10 +53,10 @@ impl Spare {
         }
     }
 
-    /// Takes a tree that is no longer needed, and keeps its vectors: those of its fields, lists and maps, emptied, those
-    /// of its runs, whose bytes stay until one is used again, and those of the messages in it. A vector beyond what is
-    /// kept at most, or one that no memory is found to note, is dropped. It takes time in proportion to the tree's
-    /// parts.
+    /// Takes a tree that is no longer needed, and keeps its vectors: those of its fields, lists and maps, emptied,
+    /// those of its runs, whose bytes stay until one is used again, and those of the messages in it. A vector beyond
+    /// what is kept at most, or one that no memory is found to note, is dropped. It takes time in proportion to the
+    /// tree's parts.
     #[cycle(take_back)]
     pub fn take_back(&mut self, tree: Tree)
         ensures { IsBounded self.new }
