@@ -1,5 +1,5 @@
-//! Tests of the lowest crates, each by itself: devices in memory, lists and words, totals, rates, blocks of a heap, and
-//! the weighted order. It has no code of its own, and nothing stands on it.
+//! Tests of the lowest crates, each by itself: devices in memory and of the system, lists and words, totals, rates,
+//! blocks of a heap, and the weighted order. It has no code of its own, and nothing stands on it.
 #![tactic(auto)]
 
 #[cfg(test)]
@@ -12,5 +12,7 @@ mod lists;
 mod order;
 #[cfg(test)]
 mod rates;
+#[cfg(test)]
+mod system;
 #[cfg(test)]
 mod totals;

@@ -1,25 +1,18 @@
-//! The program `mrpc`: standard input, standard output and the file `mrpc.wire` as a source and sinks, and the
-//! words of the command line handed to the top call, whose answer is the exit status.
+//! The program `mrpc`: the words of the command line, standard input, standard output and the file `mrpc.wire` handed to
+//! the top call, whose answer is the exit status.
 //!
-//! It stands on `mrpc_base`, whose traits the three meet, and on `mrpc_top`, which does all the work. Which bytes
-//! the system really gives and takes is its own word, and trusted.
+//! It stands on `system_io`, which makes a source and sinks of the three, and on `mrpc_top`, which does all the work.
 #![tactic(auto)]
 
 mod command_line;
-mod file_sink;
-mod standard_input;
-mod standard_output;
 mod usage;
-mod writing;
 
 use command_line::{Asked, WordsFault, asked_alone, words};
-use file_sink::FileSink;
 use mrpc_base::{Sink, write_all};
 use mrpc_top::{DONE, NO_COMMAND, NO_MEMORY, OUTPUT_FAILED, run_command};
-use standard_input::StandardInput;
-use standard_output::StandardOutput;
 use std::alloc::Global;
 use std::process::ExitCode;
+use system_io::{FileSink, StandardInput, StandardOutput};
 use usage::{failure, usage};
 
 const VERSION: &str = "mrpc 0.1.0\n";
@@ -70,6 +63,3 @@ fn explain<K: Sink>(alloc: Global, status: u8, error: &mut K) {
         write_all(error, text.as_bytes());
     }
 }
-
-#[cfg(test)]
-mod tests;

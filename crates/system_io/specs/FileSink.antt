@@ -2,6 +2,13 @@
 use Rattle.std.specs.Prelude.{ℕ, List, Option, None, Some}
 use Rattle.std.specs.Io.KnownBytes.{Appends}
 
+-- a file that is written, of the files F
+pub record Filed (F : Type 0) : Type 0 where
+  -- the file, once it was made
+  pub file : Option F
+  -- how many writes failed; it stands still at 2^64 - 1
+  pub faults : ℕ
+
 -- what the file holds, where there is one and it tells
 abbrev pub contents_of : {F : Type 0} → (F → Option (List ℕ)) → Option F → Option (List ℕ)
 contents_of contents None = None

@@ -5,19 +5,28 @@ ghost use Rattle.mrpc_base.specs.Reading.{OnBytes, OnNoBytes};
 
 use mrpc_base::{Got, Source};
 use std::io::Read;
+use std::marker::Model;
 
-/// Standard input as a source. It is generic over its reader, so that a test can hand it one that fails;
-/// where the reader tells what it has left, so does the source. The system's tells nothing.
+/// Standard input, or another reader, as a source. Where the reader tells what it has left, so does the source; the
+/// system's tells nothing. Contracts see an `Input`.
 #[derive(Drop)]
-pub(crate) struct StandardInput<R: Read + Drop> {
+pub struct StandardInput<R: Read + Drop> {
     reader: R,
     faults: u64,
 }
 
+impl<R: Read + Drop> Model for StandardInput<R> {
+    ghost use Rattle.system_io.specs.Streams.{Input};
+
+    ghost Value = { Input };
+
+    ghost view = { λ s. record { left = R.remaining s.reader; faults = s.faults } };
+}
+
 impl<R: Read + Drop> StandardInput<R> {
     /// No read yet.
-    pub(crate) fn new(reader: R) -> Self
-        ensures reader { result.reader ≡ reader }
+    pub fn new(reader: R) -> Self
+        ensures left { result.left ≡ R.remaining reader }
         ensures faults { result.faults ≡ 0 }
     {
         StandardInput { reader, faults: 0 }
@@ -25,7 +34,7 @@ impl<R: Read + Drop> StandardInput<R> {
 }
 
 impl<R: Read + Drop> Source for StandardInput<R> {
-    ghost left = { λ s. R.remaining s.reader };
+    ghost left = { λ s. s.left };
 
     ghost faults = { λ s. s.faults };
 
@@ -34,10 +43,9 @@ impl<R: Read + Drop> Source for StandardInput<R> {
 
         // What was read.
         ensures count { OnBytes result (λ n. (0 < n) × (n ≤ length buf.old)) }
-        ensures next { OnBytes result (λ n. Consumes (R.remaining self.old.reader) (R.remaining self.new.reader)
-            (take n buf.new)) }
-        ensures end { result ≡ Got.End → IsAtEnd (R.remaining self.old.reader) }
-        ensures kept { OnNoBytes result (Keeps (R.remaining self.old.reader) (R.remaining self.new.reader)) }
+        ensures next { OnBytes result (λ n. Consumes self.old.left self.new.left (take n buf.new)) }
+        ensures end { result ≡ Got.End → IsAtEnd self.old.left }
+        ensures kept { OnNoBytes result (Keeps self.old.left self.new.left) }
 
         // What is counted.
         ensures faults { result ≡ Got.Failed → self.new.faults ≡ raised self.old.faults }

@@ -6,20 +6,29 @@ ghost use Rattle.mrpc_base.specs.Writing.{OnTook};
 use crate::writing::write_once;
 use mrpc_base::{Put, Sink};
 use std::io::Write;
+use std::marker::Model;
 
-/// Standard output as a sink. Each write goes to the system at once, so that each reports its own failure.
-/// It is generic over its writer, so that a test can hand it one that fails; where the writer tells what it
-/// holds, so does the sink. The system's tells nothing.
+/// Standard output, or another writer, as a sink. Each write goes to the writer at once, so that each reports its own
+/// failure. Where the writer tells what it holds, so does the sink; the system's tells nothing. Contracts see an
+/// `Output`.
 #[derive(Drop)]
-pub(crate) struct StandardOutput<W: Write + Drop> {
+pub struct StandardOutput<W: Write + Drop> {
     writer: W,
     faults: u64,
 }
 
+impl<W: Write + Drop> Model for StandardOutput<W> {
+    ghost use Rattle.system_io.specs.Streams.{Output};
+
+    ghost Value = { Output };
+
+    ghost view = { λ s. record { written = W.contents s.writer; faults = s.faults } };
+}
+
 impl<W: Write + Drop> StandardOutput<W> {
     /// No write yet.
-    pub(crate) fn new(writer: W) -> Self
-        ensures writer { result.writer ≡ writer }
+    pub fn new(writer: W) -> Self
+        ensures written { result.written ≡ W.contents writer }
         ensures faults { result.faults ≡ 0 }
     {
         StandardOutput { writer, faults: 0 }
@@ -27,7 +36,7 @@ impl<W: Write + Drop> StandardOutput<W> {
 }
 
 impl<W: Write + Drop> Sink for StandardOutput<W> {
-    ghost written = { λ s. W.contents s.writer };
+    ghost written = { λ s. s.written };
 
     ghost faults = { λ s. s.faults };
 
@@ -36,9 +45,8 @@ impl<W: Write + Drop> Sink for StandardOutput<W> {
 
         // What was written.
         ensures count { OnTook result (λ n. (0 < n) × (n ≤ length piece.now)) }
-        ensures appended { OnTook result (λ n. Appends (W.contents self.old.writer) (W.contents self.new.writer)
-            (take n piece.now)) }
-        ensures kept { result ≡ Put.Failed → Keeps (W.contents self.old.writer) (W.contents self.new.writer) }
+        ensures appended { OnTook result (λ n. Appends self.old.written self.new.written (take n piece.now)) }
+        ensures kept { result ≡ Put.Failed → Keeps self.old.written self.new.written }
 
         // What is counted.
         ensures faults { result ≡ Put.Failed → self.new.faults ≡ raised self.old.faults }

@@ -2,11 +2,12 @@ ghost use Rattle.std.specs.Prelude.{◌≡◌, ◌≢◌, ◌<◌, ◌≤◌, le
 ghost use Rattle.std.specs.Io.KnownBytes.{Appends, Keeps};
 ghost use Rattle.mrpc_base.specs.Faults.{HasCause, raised};
 ghost use Rattle.mrpc_base.specs.Writing.{OnTook};
-ghost use Rattle.mrpc.specs.FileSink.{contents_of, HoldsFirst};
+ghost use Rattle.system_io.specs.FileSink.{contents_of, HoldsFirst};
 
 use crate::writing::write_once;
 use mrpc_base::{Put, Sink};
 use std::fs;
+use std::marker::Model;
 use std::rt::Files;
 
 /// The file's name, in the current folder.
@@ -15,18 +16,25 @@ const WIRE: &str = "mrpc.wire";
 /// The file `mrpc.wire` of the current folder as a sink. It is made, or emptied, at the first write; where nothing
 /// is written it isn't touched. A file that can't be made is a fault of that write, and the next tries again.
 /// It is generic over the system's files; where an open file tells what it holds, so does the sink. The system's
-/// tells nothing.
+/// tells nothing. Contracts see a `Filed`.
 #[derive(Drop)]
-pub(crate) struct FileSink<R: Files + Drop> {
+pub struct FileSink<R: Files + Drop> {
     files: R,
     file: Option<R::File>,
     faults: u64,
 }
 
+impl<R: Files + Drop> Model for FileSink<R> {
+    ghost use Rattle.system_io.specs.FileSink.{Filed};
+
+    ghost Value = { Filed R.File };
+
+    ghost view = { λ s. record { file = s.file; faults = s.faults } };
+}
+
 impl<R: Files + Drop> FileSink<R> {
     /// No write yet, and no file.
-    pub(crate) fn new(files: R) -> Self
-        ensures files { result.files ≡ files }
+    pub fn new(files: R) -> Self
         ensures no_file { IsNone result.file }
         ensures faults { result.faults ≡ 0 }
     {

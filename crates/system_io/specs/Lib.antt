@@ -1,0 +1,2 @@
+pub mod FileSink
+pub mod Streams

@@ -1,0 +1,16 @@
+//! Readers, writers and a file of the system as a source and sinks.
+//!
+//! It stands on `mrpc_base`, whose traits the three meet. They are generic over the system's objects: which bytes the
+//! system really gives and takes is its own word, and trusted; over objects that tell their bytes, the contracts say
+//! which bytes move. The layer above uses the contracts of the traits: what is read stood next, what is written stands
+//! behind what was written before, and each failure is counted.
+#![tactic(auto)]
+
+mod file_sink;
+mod standard_input;
+mod standard_output;
+mod writing;
+
+pub use file_sink::FileSink;
+pub use standard_input::StandardInput;
+pub use standard_output::StandardOutput;
