@@ -13,7 +13,7 @@ use std::marker::Model;
 
 /// An engine: it works for one entry of a chain. Contracts see it as `EngineParts` of
 /// `specs/Engines.antt`.
-#[derive(Debug, Drop)]
+#[derive(Drop)]
 pub struct Engine {
     name: Name,
     attach: u32,
@@ -24,7 +24,7 @@ pub struct Engine {
 }
 
 /// What an engine is decomposed to. It is moved, and can't be copied.
-#[derive(Debug, Drop)]
+#[derive(Drop)]
 pub struct State {
     name: Name,
     attach: u32,

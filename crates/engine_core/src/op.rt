@@ -4,7 +4,7 @@ use crate::policy::Policy;
 use mrpc_table::Name;
 
 /// A step of an operator. `label` is the name under which the policy was declared.
-#[derive(Debug, Drop)]
+#[derive(Drop)]
 pub enum Op {
     /// Attaches a policy at a place of the chain, from 0, under a name.
     Attach {

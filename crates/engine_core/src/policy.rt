@@ -10,7 +10,7 @@ use policy_redact::Redact;
 use std::alloc::Global;
 
 /// What an operator attaches to a chain. `IsPolicy` of `specs/Policies.antt` has the ranges of its numbers.
-#[derive(Debug, Drop)]
+#[derive(Drop)]
 pub enum Policy {
     /// Calls are allowed or denied by rules.
     Access(Access),

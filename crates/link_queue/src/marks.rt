@@ -1,7 +1,7 @@
 // The marks that stand between frames on their way to a writer, and between bytes on their way back.
 
 // What a writer is asked besides to pass frames on.
-#[derive(Debug, Drop)]
+#[derive(Drop)]
 pub(crate) enum Order {
     // To end the sending side of the inner link.
     Finish,
@@ -10,7 +10,7 @@ pub(crate) enum Order {
 }
 
 // What a writer has to tell besides the bytes that came.
-#[derive(Debug, Drop)]
+#[derive(Drop)]
 pub(crate) enum News {
     // The inner link answered that the other side has finished.
     End,

@@ -10,7 +10,7 @@ use std::thread;
 use std::thread::Threads;
 
 // A link that finds no memory: in each send, and where it is so made, in each receive.
-#[derive(Debug, Drop)]
+#[derive(Drop)]
 struct Wanting {
     in_receives: bool,
 }

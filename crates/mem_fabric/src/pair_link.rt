@@ -21,7 +21,7 @@ pub(crate) const MOST_PIECES: usize = 65535;
 pub(crate) const END_PLACES: usize = 1;
 
 // The mark behind the last piece.
-#[derive(Debug, Drop)]
+#[derive(Drop)]
 pub(crate) struct EndMark;
 
 /// One end of a link in memory. Contracts see it as a `PairEnd`: the frames that it was handed, the bytes that it

@@ -12,7 +12,7 @@ use std::alloc::Global;
 use std::marker::Model;
 
 /// An access policy: up to 64 rules, and what holds for a call that none of them matches.
-#[derive(Debug, Drop)]
+#[derive(Drop)]
 pub struct Access {
     rules: Sequence<Rule>,
     allow: bool,

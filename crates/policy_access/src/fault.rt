@@ -31,7 +31,7 @@ pub enum RuleReason {
 }
 
 /// What is wrong with what a rule is about. It is a [`RuleReason`], too.
-#[derive(Clone, Copy, Debug, PartialEq, Eq)]
+#[derive(Clone, Copy, PartialEq, Eq)]
 pub enum PartReason {
     /// A value out of form.
     Word,

@@ -5,7 +5,7 @@ use field_path::PathWord;
 use mrpc_table::{Bytes, Decimal};
 
 /// A line in form.
-#[derive(Debug, Drop)]
+#[derive(Drop)]
 pub enum Line {
     /// `rule NAME allow|deny ..`
     Rule(RuleLine),
@@ -14,7 +14,7 @@ pub enum Line {
 }
 
 /// `rule NAME allow|deny [method INDEX [reply] [where ..]]`
-#[derive(Debug, Drop)]
+#[derive(Drop)]
 pub struct RuleLine {
     /// The word in the name's place.
     pub name: Bytes,
@@ -23,7 +23,7 @@ pub struct RuleLine {
 }
 
 /// What a rule is about, as its line says it.
-#[derive(Debug, Drop)]
+#[derive(Drop)]
 pub enum AboutLine {
     /// Nothing follows: every call.
     Every,
@@ -32,7 +32,7 @@ pub enum AboutLine {
 }
 
 /// `method INDEX [reply] [where ..]`
-#[derive(Debug, Drop)]
+#[derive(Drop)]
 pub struct CallsLine {
     pub index: Decimal,
     pub reply: bool,
@@ -40,14 +40,14 @@ pub struct CallsLine {
 }
 
 /// `where PATH OP [VALUE]`
-#[derive(Debug, Drop)]
+#[derive(Drop)]
 pub struct TestLine {
     pub path: PathWord,
     pub condition: ConditionLine,
 }
 
 /// `OP [VALUE]`
-#[derive(Debug, Drop)]
+#[derive(Drop)]
 pub enum ConditionLine {
     /// `present`
     Present,

@@ -9,7 +9,7 @@ use std::alloc::Global;
 use std::collections::BTreeMap;
 
 /// Names, found by an ordered map.
-#[derive(Debug, Drop)]
+#[derive(Drop)]
 pub struct SeenNames {
     names: BTreeMap<Vec<u8>, ()>,
 }

@@ -23,7 +23,7 @@ use mrpc_table::{Bytes, Memory, Sequence, Table, is_name_form, is_short};
 use std::alloc::Global;
 
 /// What a line without a fault says.
-#[derive(Debug, Drop)]
+#[derive(Drop)]
 pub enum Said {
     /// A rule.
     Rule(Rule),

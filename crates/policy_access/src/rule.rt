@@ -4,7 +4,7 @@ use field_path::Path;
 use mrpc_table::{Bytes, Name};
 
 /// One rule of a policy.
-#[derive(Debug, Drop)]
+#[derive(Drop)]
 pub struct Rule {
     pub name: Name,
     /// Whether a call that matches is allowed, or else denied.
@@ -13,7 +13,7 @@ pub struct Rule {
 }
 
 /// Which calls a rule matches.
-#[derive(Debug, Drop)]
+#[derive(Drop)]
 pub enum About {
     /// Every call.
     Every,
@@ -22,7 +22,7 @@ pub enum About {
 }
 
 /// The requests, or the replies, of a method, or those of them that meet a test.
-#[derive(Debug, Drop)]
+#[derive(Drop)]
 pub struct Calls {
     /// The index of the method in the table.
     pub method: u16,
@@ -32,14 +32,14 @@ pub struct Calls {
 }
 
 /// What a call's tree must be for a rule to match.
-#[derive(Debug, Drop)]
+#[derive(Drop)]
 pub struct Test {
     pub path: Path,
     pub condition: Condition,
 }
 
 /// What is asked of the field at the end of a path.
-#[derive(Debug, Drop)]
+#[derive(Drop)]
 pub enum Condition {
     /// `present`: the tree has the field.
     Present,
@@ -48,7 +48,7 @@ pub enum Condition {
 }
 
 /// How a value compares with that of a rule.
-#[derive(Clone, Copy, Debug, PartialEq, Eq)]
+#[derive(Clone, Copy, PartialEq, Eq)]
 pub enum Comparison {
     /// `eq`: it is the same.
     Equal,
@@ -63,7 +63,7 @@ pub enum Comparison {
 }
 
 /// A value that a rule compares with.
-#[derive(Debug, Drop)]
+#[derive(Drop)]
 pub enum Operand {
     /// A number, a truth value or an enum's value, in the word form of its kind.
     Number(u64),

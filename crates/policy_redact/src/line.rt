@@ -4,7 +4,7 @@ use field_path::PathWord;
 use mrpc_table::Decimal;
 
 /// `clear method INDEX [reply] PATH`
-#[derive(Debug, Drop)]
+#[derive(Drop)]
 pub struct ClearLine {
     pub index: Decimal,
     pub reply: bool,

@@ -16,7 +16,7 @@ use std::alloc::Global;
 use wire_decode::{DecodeFault, decode};
 
 /// The call of a frame, and the words of the block in which its message is placed.
-#[derive(Debug, Drop)]
+#[derive(Drop)]
 pub(crate) struct Opened {
     pub call: Call,
     /// 2^64 - 1 stands for any larger number.

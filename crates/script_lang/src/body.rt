@@ -42,14 +42,14 @@ const TURN: &[u8] = b"turn";
 const SEND: &[u8] = b"send";
 
 /// The connection that was opened, and the words of its heap.
-#[derive(Clone, Copy, Debug)]
+#[derive(Clone, Copy)]
 pub(crate) struct Opened {
     pub conn: u32,
     pub words: u32,
 }
 
 /// The lines so far that do something, and what they opened.
-#[derive(Debug, Drop)]
+#[derive(Drop)]
 pub(crate) struct Body {
     pub lines: Lines,
     pub opened: Option<Opened>,
@@ -58,7 +58,7 @@ pub(crate) struct Body {
 }
 
 /// What a line says.
-#[derive(Clone, Copy, Debug)]
+#[derive(Clone, Copy)]
 pub(crate) enum Said {
     Nothing,
     Line(Line),

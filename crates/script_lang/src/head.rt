@@ -19,7 +19,7 @@ const TABLE_LINE: &[u8] = b"table\n";
 const LOADS: &[u8] = b"loads ";
 
 /// What stands in front of the table's text.
-#[derive(Clone, Copy, Debug)]
+#[derive(Clone, Copy)]
 pub(crate) struct Head<'a> {
     /// How many words are loaded for a call at most.
     pub loads: u32,

@@ -25,7 +25,7 @@ use table_text::{TableFault, one_fault, read_table, split_table};
 const SHORTEST_STORE: usize = 12;
 
 /// Why the lines of a text weren't read to their end.
-#[derive(Clone, Copy, Debug)]
+#[derive(Clone, Copy)]
 enum Stop {
     /// A line is at fault, from which on so many bytes are left.
     At { left: usize, reason: ScriptReason },

@@ -17,7 +17,7 @@ use std::cmp::Ordering;
 use std::mem;
 
 /// The enum or the message to which a line may add.
-#[derive(Debug, Drop)]
+#[derive(Drop)]
 pub enum Open {
     Nothing,
     Enum(Choices),
@@ -25,7 +25,7 @@ pub enum Open {
 }
 
 /// The parts that are whole, and the one that is open.
-#[derive(Debug, Drop)]
+#[derive(Drop)]
 pub struct Draft {
     pub enums: Enums,
     pub messages: Messages,

@@ -3,7 +3,7 @@
 use mrpc_table::{Kind, Name};
 
 /// A kind as its word names it.
-#[derive(Debug, Drop)]
+#[derive(Drop)]
 pub enum KindWord {
     /// A scalar kind, by its name in proto3.
     Scalar(Kind),
@@ -14,7 +14,7 @@ pub enum KindWord {
 }
 
 /// A label as its word names it.
-#[derive(Debug, Drop)]
+#[derive(Drop)]
 pub enum LabelWord {
     /// `plain`
     Plain,
@@ -31,7 +31,7 @@ pub enum LabelWord {
 }
 
 /// The number of a value, however long it is written.
-#[derive(Clone, Copy, Debug, PartialEq, Eq)]
+#[derive(Clone, Copy, PartialEq, Eq)]
 pub enum Whole {
     /// Below every number of 32 signed bits.
     Low,
@@ -42,7 +42,7 @@ pub enum Whole {
 }
 
 /// `field NUMBER LABEL KIND NAME`
-#[derive(Debug, Drop)]
+#[derive(Drop)]
 pub struct FieldLine {
     /// The number, or `None` where it has more than 32 bits.
     pub number: Option<u32>,
@@ -52,7 +52,7 @@ pub struct FieldLine {
 }
 
 /// `method INDEX SERVICE NAME INPUT OUTPUT`
-#[derive(Debug, Drop)]
+#[derive(Drop)]
 pub struct MethodLine {
     /// The index, or `None` where it has more than 32 bits.
     pub index: Option<u32>,
@@ -63,7 +63,7 @@ pub struct MethodLine {
 }
 
 /// A line in form.
-#[derive(Debug, Drop)]
+#[derive(Drop)]
 pub enum Line {
     /// `enum FULLNAME`
     Enum(Name),

@@ -11,7 +11,7 @@ use std::alloc::Global;
 use std::collections::BTreeMap;
 
 /// Names in the order in which they were added, each with the place at which it first stands.
-#[derive(Debug, Drop)]
+#[derive(Drop)]
 pub struct Places {
     places: BTreeMap<Vec<u8>, u32>,
     count: u32,

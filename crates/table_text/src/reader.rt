@@ -23,7 +23,7 @@ use std::mem;
 /// A table while its text is read, with the types that the text names, and the names so far: of enums,
 /// of messages, of methods with their services, of the values or fields of the open part, and of its
 /// oneofs.
-#[derive(Debug, Drop)]
+#[derive(Drop)]
 pub struct Reader {
     pub known_enums: Places,
     pub known_messages: Places,
