@@ -25,7 +25,7 @@ pub record HasCopy (T : Table) (c : Call) : Type 0 where
   pub method : c.method < length T.methods
   pub normal : IsNormal T (message_of T c) tree
 
--- a call is malformed, and it is so for want of a method exactly where the table lacks its method
+-- a call is malformed, and it is so for lack of a method exactly where the table lacks its method
 pub record LacksCopy (T : Table) (c : Call) : Type 0 where
   pub reason : Reason
   pub place : ℕ

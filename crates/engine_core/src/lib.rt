@@ -5,8 +5,8 @@
 //! counts it again, nor draws another ticket for it. An engine is decomposed to a [`State`], which is
 //! moved and not copied, and restored from it with another policy of its kind. `specs/Answers.antt` says
 //! what an entry of a chain answers to a call, in the words of the audit, and `specs/Chains.antt` what an
-//! operator's step makes of a chain. It stands on `policy_access`, `policy_rate`, `policy_redact` and
-//! `mrpc_base`. The layers above use one contract: a turn of an engine comes out as the answers of its
+//! operator's step makes of a chain. It stands on `policy_access`, `policy_rate`, `policy_redact`,
+//! `mrpc_base` and `mrpc_table`. The layers above use one contract: a turn of an engine comes out as the answers of its
 //! entry say.
 #![tactic(auto)]
 

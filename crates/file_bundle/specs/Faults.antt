@@ -49,7 +49,7 @@ pub record IsPathFault (input : List ℕ) (k : ℕ) : Type 0 where
   pub spelled : Spells input files
   pub refused : IsFirstRefused files k
 
--- want of memory is no fault of an input
+-- running out of memory is no fault of an input
 abbrev pub IsFirstFault : List ℕ → BundleFault → Type 0
 IsFirstFault input (Bundle k) = IsBundleFault input k
 IsFirstFault input (Path k) = IsPathFault input k

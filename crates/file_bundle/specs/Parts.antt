@@ -23,7 +23,7 @@ pub record HasFile (bytes : List ℕ) (file : File) (behind : List ℕ) : Type 0
 abbrev pub HasNoFile : List ℕ → Type 0
 HasNoFile bytes = HasNoHeader bytes ⊎ HasTooFew bytes
 
--- the input breaks off at this file, or memory was wanting
+-- the input breaks off at this file, or memory ran out
 abbrev pub IsBreak : List ℕ → BundleFault → Type 0
 IsBreak input (Bundle k) = IsBundleFault input k
 IsBreak input (Path k) = ⊥

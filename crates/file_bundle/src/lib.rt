@@ -2,8 +2,8 @@
 //!
 //! A set is the line `mrpc-files 1`, and then, for each of its 1 to 64 files, a header line `file PATH BYTES` and so
 //! many bytes. [`read_bundle`] gives the files where they stand, and copies none. The crate stands on `mrpc_table`, for
-//! lines, words and numbers. The layers above use one contract: an input is one set of files or has one first fault,
-//! and that is what is read.
+//! lines, words and numbers. The layers above use one contract: an input with that first line is one set of files or
+//! has one first fault, and that is what is read.
 #![tactic(auto)]
 
 mod fault;

@@ -6,7 +6,7 @@ ghost use Rattle.frame_transport.specs.declared.fault.FeedFault.TheVariants.{Mem
 use mrpc_table::Memory;
 use thiserror::Error;
 
-/// The first field of a stream that no frame can have, or want of memory. A place counts bytes of
+/// The first field of a stream that no frame can have, or running out of memory. A place counts bytes of
 /// the whole stream from 0.
 #[derive(Clone, Copy, Debug, PartialEq, Eq, Error)]
 pub enum FeedFault {

@@ -39,7 +39,7 @@ pub fn loads_end_malformed()
         → length (xs ++ x ∷ []) ≡ limit → IsMalformed T H msg address limit (xs ++ x ∷ []) Loads x.0 x.1 }
 {}
 
-/// No more words than the limit were loaded of a malformed graph, and it isn't malformed for want of a method.
+/// No more words than the limit were loaded of a malformed graph, and it isn't malformed for lack of a method.
 pub fn malformed_graphs_keep_the_limit()
     ensures loads { (T : Table) (H msg address limit : ℕ) (xs : List (ℕ × ℕ)) (reason : Reason) (place value : ℕ)
         → IsMalformed T H msg address limit xs reason place value → length xs ≤ limit }

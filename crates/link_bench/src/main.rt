@@ -3,8 +3,8 @@
 //!
 //!     link_bench COUNT
 //!
-//! It stands on `link_queue` and `mrpc_base`. A count that is missing or out of range, from 0 to 4294967295, or want of
-//! memory ends it with status 1.
+//! It stands on `link_queue`, `mrpc_base` and `mrpc_table`. A count that is missing or out of range, from 0 to
+//! 4294967295, or a link for which there is no memory ends it with status 1.
 #![tactic(auto)]
 
 mod passing;

@@ -102,7 +102,7 @@ no_byte_twice h = cc (h.in_order)
 no_byte_lost : BringsBack (Bytes (8 ∷ []) ∷ []) None (7 ∷ 8 ∷ []) false Working → ⊥
 no_byte_lost h = cc (h.in_order)
 
--- a failure is told of a link that failed alone, and want of memory where it was wanting
+-- a failure is told of a link that failed alone, and running out of memory where it ran out
 failure_told : IsNewsOf HasFailed Failed
 failure_told = refl
 

@@ -5,7 +5,7 @@
 //! ways are queues of `one_way_queue`. It stands on `mrpc_base` for links and on `mrpc_table` for lists of bytes. The
 //! layer above uses one contract: once the link was closed and the writer has ended, [`WriterEnd::meet`] tells that
 //! what the inner link was handed is a beginning of what was put into the queue, in order, and all of it unless the
-//! inner link failed or memory was wanting; and that what came is a beginning of what the inner link gave.
+//! inner link failed or memory ran out; and that what came is a beginning of what the inner link gave.
 #![tactic(auto)]
 
 mod inner;

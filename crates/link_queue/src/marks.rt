@@ -23,10 +23,10 @@ pub(crate) enum News {
 /// How an inner link does.
 #[derive(Clone, Copy, Debug, PartialEq, Eq)]
 pub enum Health {
-    /// It didn't fail, and memory wasn't wanting.
+    /// It didn't fail, and memory didn't run out.
     Working,
     /// It failed.
     Failed,
-    /// Memory was wanting.
+    /// Memory ran out.
     Memory,
 }

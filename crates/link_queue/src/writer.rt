@@ -28,7 +28,7 @@ pub struct QueueWriter<'r, R, L: Link> {
     held: Option<Piece<News>>,
     // Room for the next bytes, once there is some.
     buffer: Vec<u8>,
-    // Whether the link has been told that the inner link failed or memory was wanting.
+    // Whether the link has been told that the inner link failed or memory ran out.
     told: bool,
     closed: bool,
     ghost passes: { PassesOn (taken_of orders) (passed_on inner) closed inner.health },
@@ -68,7 +68,7 @@ impl<'r, R: Wait, L: Link> QueueWriter<'r, R, L> {
     }
 
     /// Passes on the frames of the queue, in order, until its link was closed, and brings back what comes. After the
-    /// inner link failed or memory was wanting, it takes the frames that still come without passing them on.
+    /// inner link failed or memory ran out, it takes the frames that still come without passing them on.
     pub fn run(self) -> WriterEnd<L>
         ensures start { start_of result ≡ writer_start self.entry }
         ensures forward { end_forward result ≡ writer_forward self.entry }
@@ -141,7 +141,7 @@ impl<'r, R: Wait, L: Link> QueueWriter<'r, R, L> {
         }
     }
 
-    // Tells the link, once, that the inner link failed or memory was wanting.
+    // Tells the link, once, that the inner link failed or memory ran out.
     fn tell(&mut self)
         ensures closed { self.new.closed ≡ self.old.closed }
         ensures start { writer_start self.new ≡ writer_start self.old }

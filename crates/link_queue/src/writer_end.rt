@@ -9,7 +9,7 @@ use crate::queue_link::Passed;
 use mrpc_base::Link;
 use one_way_queue::{Consumer, Piece, Producer};
 
-/// What a writer leaves: the inner link, and whether memory was wanting.
+/// What a writer leaves: the inner link, and whether memory ran out.
 #[derive(Drop)]
 pub struct WriterEnd<L: Link> {
     pub(crate) inner: Inner<L>,
@@ -66,7 +66,7 @@ impl<L: Link> WriterEnd<L> {
         self.inner.health == Health::Failed
     }
 
-    /// Whether memory was wanting.
+    /// Whether memory ran out.
     pub fn memory(&self) -> bool
         ensures { IsTrue result ↔ lacked_memory self.now }
     {
@@ -79,7 +79,7 @@ impl<L: Link> WriterEnd<L> {
         requires backward { passed.backward ≡ end_backward self.old }
 
         // What was handed since is a beginning of what was put into the queue, and all of it unless the inner link
-        // failed or memory was wanting.
+        // failed or memory ran out.
         ensures handed { L.handed (link_of self.new) ≡ L.handed (start_of self.new) ++ handed_since self.new }
         ensures in_order { IsPrefix (handed_since self.new) passed.handed }
         ensures all_handed { (has_failed self.new → ⊥) → (lacked_memory self.new → ⊥)

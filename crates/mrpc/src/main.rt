@@ -1,5 +1,5 @@
-//! The program `mrpc`: the words of the command line, standard input, standard output and the file `mrpc.wire` handed to
-//! the top call, whose answer is the exit status.
+//! The program `mrpc`: the words of the command line, standard input, standard output and the file `mrpc.wire` handed
+//! to the top call, whose answer is the exit status.
 //!
 //! It stands on `system_io`, which makes a source and sinks of the three, and on `mrpc_top`, which does all the work.
 #![tactic(auto)]

@@ -184,7 +184,7 @@ fn read_lines(alloc: Global, lines: &[Bytes], table: &Table) -> Result<Access, R
 /// `rule NAME allow|deny [method INDEX [reply] [where PATH OP [VALUE]]]`, 64 at most, and the last is
 /// `default allow|deny`. Paths and methods are those of the table. It takes time in proportion to the
 /// text, but for the look-up of names, fields and methods by search. `RuleFault::Memory` comes where
-/// memory is wanted.
+/// memory runs out.
 pub fn read_access(alloc: Global, lines: &Lines, table: &Table) -> Result<Access, RuleFault>
     requires { IsValid table.now }
     // What is read is what the lines say.

@@ -41,7 +41,7 @@ pub record IsFirstFault (T : Table) (lines : List (List ℕ)) (line : ℕ) (q : 
   pub first_reason : (p : RuleReason) → order_of p < order_of q → IsAgainstAt T lines (line - 1) p → ⊥
   pub none_before : (i : ℕ) (p : RuleReason) → i + 1 < line → IsAgainstAt T lines i p → ⊥
 
--- what a fault says of lines; want of memory says nothing
+-- what a fault says of lines; running out of memory says nothing
 abbrev pub IsFaultOf : Table → List (List ℕ) → RuleFault → Type 0
 IsFaultOf T lines (fault.At line q) = IsFirstFault T lines line q
 IsFaultOf T lines fault.Memory = Unit {0}

@@ -97,7 +97,7 @@ fn read_lines(alloc: Global, lines: &[Bytes], table: &Table) -> Result<Redact, R
 /// there are 1 to 64. Methods and paths are those of the table; the last number of a path is any field. It takes time
 /// in proportion to the text, but for the look-up of fields by search. The reasons are `Word` for a line out of form,
 /// for a 65th line, and at line 1 where there is none, `Number` for an index above 65535, and `Path` for a method or
-/// a field that the table lacks. `RuleFault::Memory` comes where memory is wanted.
+/// a field that the table lacks. `RuleFault::Memory` comes where memory runs out.
 pub fn read_redact(alloc: Global, lines: &Lines, table: &Table) -> Result<Redact, RuleFault>
     requires { IsValid table.now }
     // What is read is what the lines say.

@@ -46,7 +46,7 @@ pub record HasFault (set : List Member) (q : ImportReason) (i : ℕ) (span : Spa
 abbrev pub IsSound : List Member → Type 0
 IsSound set = (q : ImportReason) (i n : ℕ) → IsFault set q i n → ⊥
 
--- what a fault says of a set; want of memory says nothing
+-- what a fault says of a set; running out of memory says nothing
 abbrev pub IsFaultOf : List Member → ImportFault → Type 0
 IsFaultOf set (fault.At q i span) = HasFault set q i span
 IsFaultOf set fault.Memory = Unit {0}

@@ -139,7 +139,7 @@ pub record HasFault (text : List ℕ) (q : ProtoReason) (span : Span) : Type 0 w
   pub is : slice_get (lexemes text tokens) place ≡ Some token
   pub stands : token.span ≡ span
 
--- what a fault says of a text; want of memory says nothing
+-- what a fault says of a text; running out of memory says nothing
 abbrev pub IsFaultOf : List ℕ → ProtoFault → Type 0
 IsFaultOf text (fault.At q start end line) = HasFault text q (record { start = start; end = end; line = line })
 IsFaultOf text fault.Memory = Unit {0}

@@ -1,3 +1,4 @@
+-- An account of rounds, and what its visits make of it (this project's own).
 use Rattle.std.specs.Prelude.{◌≡◌, ◌≤◌, ℕ, ◌+◌, ◌-◌, ◌*◌, ◌^◌, min, nat_lt, if◌then◌else◌, List, [], ◌∷◌, fold}
 use Rattle.qos_order.specs.declared.account.Account.{Account}
 use Rattle.qos_order.specs.declared.account.Ending.{Ending}

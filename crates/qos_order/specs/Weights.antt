@@ -1,3 +1,4 @@
+-- The weights of connections: the list that a reader takes, and its first fault (this project's own).
 use Rattle.std.specs.Prelude.{◌≡◌, ℕ, ◌==◌, List, ◌∷◌, ◌++◌, map, find, All, Contains, nat_eq, Option, unwrap_or, option_map, ◌⊎◌}
 use Rattle.std.specs.List.{IsDistinct}
 use Rattle.std.specs.List.Sorted.{IsNonDecreasingBy}

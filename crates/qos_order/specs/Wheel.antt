@@ -1,3 +1,4 @@
+-- The wheel of connections: which one is visited next, and how shares come out (this project's own).
 use Rattle.std.specs.Prelude.{◌≡◌, ◌≢◌, ℕ, ◌+◌, ◌-◌, ◌*◌, ◌<◌, ◌≤◌, ◌^◌, ◌==◌, nat_eq, Bool, false, if◌then◌else◌, List, [], ◌∷◌, ◌++◌, map, find, fold, All, Contains, Option, IfSome, option_map, option_and_then, slice_get}
 use Rattle.std.specs.List.{IsDistinct}
 use Rattle.std.specs.List.Sorted.{IsNonDecreasingBy}

@@ -6,8 +6,9 @@
 //! that waits isn't read again, but it is judged again, so the policy of the turn in which it arrives is the one that
 //! counts.
 //! `specs/Fates.antt` says what becomes of a frame, `specs/Turns.antt` what a turn makes of the receiver. It stands on
-//! `frame_transport`, `wire_decode`, `policy_access`, `graph_place` and `receive_heap`. The layers above use one
-//! contract: each frame has its fate, in order and once, however the stream was cut.
+//! `frame_transport`, `wire_decode`, `policy_access`, `graph_form`, `graph_place` and `receive_heap`, and on
+//! `mrpc_base` and `mrpc_table`. The layers above use one contract: each frame has its fate, in order and once, however
+//! the stream was cut.
 #![tactic(auto)]
 
 mod arrival;

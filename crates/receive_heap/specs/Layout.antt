@@ -1,3 +1,4 @@
+-- How blocks and holes lie in a heap of words (this project's own).
 use Rattle.std.specs.Prelude.{◌≡◌, ℕ, ◌+◌, ◌<◌, ◌≤◌, ◌⊎◌, ◌&&◌, Bool, nat_le, nat_lt, List, ◌∷◌, ◌++◌, All, map, Result, Ok, Err}
 use Rattle.std.specs.List.{Any, AllPairs, count_by}
 use Rattle.std.specs.List.Sorted.{IsStrictlyIncreasing}

@@ -135,7 +135,7 @@ impl Extents {
         ensures next { OnOk result (self.new.next ≡ self.old.next + 1) }
         ensures size { self.new.words ≡ self.old.words }
 
-        // Where a hole has that many words, want of memory is the one fault.
+        // Where a hole has that many words, running out of memory is the one fault.
         ensures no_hole { IsNoHole result ↔ All (λ hole. hole.words < words) self.old.holes }
         ensures largest { IfErr result (SaysLargest self.old.holes words) }
         ensures err { OnErr result (self.new ≡ self.old) }

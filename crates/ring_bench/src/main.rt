@@ -3,8 +3,8 @@
 //!
 //!     ring_bench COUNT
 //!
-//! It stands on `shared_heap`, `descriptor_ring` and `untouched_copy`. A count that is missing or out of range, from 0
-//! to 4294967293, or want of memory ends it with status 1.
+//! It stands on `shared_heap`, `descriptor_ring`, `untouched_copy` and those below. A count that is missing or out of
+//! range, from 0 to 4294967293, or running out of memory ends it with status 1.
 #![tactic(auto)]
 
 mod passing;

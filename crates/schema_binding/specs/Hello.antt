@@ -38,7 +38,7 @@ pub data IsBadAt (payload : List ℕ) (line : ℕ) : Type 0 where
       → IsFullName service
       → IsFirstFault text at reason → line ≡ at + 1 → IsBadAt payload line
 
--- what a fault says of a payload; want of memory says nothing
+-- what a fault says of a payload; running out of memory says nothing
 abbrev pub IsFaultOf : List ℕ → HelloFault → Type 0
 IsFaultOf payload (Bad line) = IsBadAt payload line
 IsFaultOf payload Memory = Unit {0}

@@ -43,7 +43,7 @@ pub fn agree(
     // A refusal is why they don't.
     ensures refused { IfErr result (λ fault. (fault ≡ NoMemory)
         ⊎ Refuses ours.now theirs.now service.now version fault) }
-    // Where they agree nothing refuses but want of memory, and where they don't the one refusal comes.
+    // Where they agree nothing refuses but running out of memory, and where they don't the one refusal comes.
     ensures agreed_only { Agree ours.now theirs.now service.now version
         → IfErr result (λ fault. fault ≡ NoMemory) }
     ensures refused_only { (why : TheFault) → Refuses ours.now theirs.now service.now version why

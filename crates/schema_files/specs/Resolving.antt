@@ -53,7 +53,7 @@ pub data HasFilesFault (files : List PackedFile) (file line : ℕ) : FilesReason
       → HasFirst (joined ps) q s → IsInText ps k s.start → slice_get joins.reach.order k ≡ Some file → line ≡ s.line
       → HasFilesFault files file line (Resolve q)
 
--- what a fault says of a set; want of memory says nothing
+-- what a fault says of a set; running out of memory says nothing
 abbrev pub IsFaultOf : List PackedFile → FilesFault → Type 0
 IsFaultOf files (fault.At file line reason) = HasFilesFault files file line reason
 IsFaultOf files fault.Memory = Unit {0}

@@ -13,7 +13,7 @@ use Rattle.schema_files.specs.declared.fault.FilesFault.TheVariants as fault
 pub data HasUnread (f : PackedFile) (line : ℕ) : FilesReason → Type 0 where
   unread_text : (q : ProtoReason) (s : Span) → HasTextFault f.1 q s → line ≡ s.line → HasUnread f line (Proto q)
 
--- what a fault says of the file at a place; want of memory says nothing
+-- what a fault says of the file at a place; running out of memory says nothing
 abbrev pub IsUnread : PackedFile → ℕ → FilesFault → Type 0
 IsUnread f place (fault.At file line reason) = (file ≡ place) × HasUnread f line reason
 IsUnread f place fault.Memory = Unit {0}

@@ -19,7 +19,7 @@ pub record ResolvesTogether (F : Joined) (T : Table) : Type 0 where
   pub table : IsTableOf F T
   pub clean : IsClean F
 
--- what a fault says of them; want of memory says nothing
+-- what a fault says of them; running out of memory says nothing
 abbrev pub IsFaultOfAll : Joined → ResolveFault → Type 0
 IsFaultOfAll F (fault.At q start end line) = HasFirst F q (record { start = start; end = end; line = line })
 IsFaultOfAll F fault.Memory = Unit {0}
@@ -31,7 +31,7 @@ pub record Resolves (F : File) (T : Table) : Type 0 where
   pub table : IsTableOf (alone F) T
   pub clean : (q : ResolveReason) (span : Span) → IsOffence F q span → ⊥
 
--- what a fault says of a file; want of memory says nothing
+-- what a fault says of a file; running out of memory says nothing
 abbrev pub IsFaultOf : File → ResolveFault → Type 0
 IsFaultOf F (fault.At q start end line) = HasOffence F q (record { start = start; end = end; line = line })
 IsFaultOf F fault.Memory = Unit {0}

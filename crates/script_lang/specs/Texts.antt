@@ -109,7 +109,7 @@ pub data IsFault (text : List ℕ) (line : ℕ) (reason : ScriptReason) : Type 0
       (loads : ℕ) (T : TheTable) (b : Before) → Begins text loads T b → b.closed ≡ false
       → line ≡ line_behind text → reason ≡ Close → IsFault text line reason
 
--- what a fault says of a text; want of memory says nothing
+-- what a fault says of a text; running out of memory says nothing
 abbrev pub IsFaultOf : List ℕ → ScriptFault → Type 0
 IsFaultOf text (fault.At line reason) = IsFault text line reason
 IsFaultOf text fault.Memory = Unit {0}

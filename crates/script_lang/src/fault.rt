@@ -31,7 +31,7 @@ pub enum ScriptReason {
     /// A place that isn't in 1 to below the words of the connection's heap, or a race before load 0.
     #[error("Place")]
     Place,
-    /// A form that isn't built yet, a second `conn` line, or a 65th `submit` line.
+    /// A form that isn't built yet, a second connection, or a 65th `submit` line.
     #[error("NotYet")]
     NotYet,
     /// The text ends here, and its `close` line is missing.

@@ -197,7 +197,7 @@ pub record IsFirstFault (text : List ℕ) (line : ℕ) (reason : TableReason) : 
   pub first : (other : TableReason) → IsAgainst text (line - 1) other → order_of reason ≤ order_of other
   pub none_before : (i : ℕ) (other : TableReason) → i + 1 < line → IsAgainst text i other → ⊥
 
--- what a fault says of a text; want of memory says nothing
+-- what a fault says of a text; running out of memory says nothing
 abbrev pub IsFaultOf : List ℕ → TableFault → Type 0
 IsFaultOf text (fault.At line reason) = IsFirstFault text line reason
 IsFaultOf text fault.Memory = Unit {0}

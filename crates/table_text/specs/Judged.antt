@@ -291,7 +291,7 @@ pub record IsFirstJudged (text : List ℕ) (line : ℕ) (reason : TableReason) :
   pub here : fault_at text (line - 1) ≡ Some reason
   pub none_before : (i : ℕ) → i + 1 < line → fault_at text i ≡ None
 
--- what a fault says of a text; want of memory says nothing
+-- what a fault says of a text; running out of memory says nothing
 abbrev pub IsJudgedOf : List ℕ → TableFault → Type 0
 IsJudgedOf text (fault.At line reason) = IsFirstJudged text line reason
 IsJudgedOf text fault.Memory = Unit {0}

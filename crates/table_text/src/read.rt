@@ -38,7 +38,7 @@ fn read_lines(alloc: Global, text: &[u8]) -> Result<Table, TableFault>
 /// The table of a canonical text (this project's own format), as [`crate::table_text`] writes it: enums
 /// with their values, messages with their fields, and methods, a line for each. A text that is none is
 /// refused with the first line at fault, and the first reason that stands against it. A text without a
-/// byte is the table without anything. `TableFault::Memory` comes where memory is wanted.
+/// byte is the table without anything. `TableFault::Memory` comes where memory runs out.
 pub fn read_table(alloc: Global, text: &[u8]) -> Result<Table, TableFault>
     // What is read is valid, and the text is its canonical text.
     ensures accepted { IfOk result (λ t. IsValid t × (text.now ≡ table_text t)) }

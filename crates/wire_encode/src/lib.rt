@@ -4,7 +4,8 @@
 //! map entries by ascending key, varints in their shortest form. `encoding` of `wire_base` says which
 //! bytes those are. The tree is written from its end to its front, so that the length of a message is
 //! known when it is written, into a buffer that doubles where it is too short; the time is in
-//! proportion to the output. It stands on `mrpc_table` and `wire_base`.
+//! proportion to the output. It stands on `mrpc_table` and `wire_base`. The layers above use one contract: what is
+//! written is the encoding of the tree.
 #![tactic(auto)]
 
 ghost use Rattle.std.specs.Prelude.{◌≡◌, ◌<◌, length, IfOk, OnOk};
