@@ -3,7 +3,7 @@
 use Rattle.std.specs.Prelude.{◌≡◌, ◌≢◌, ℕ, ◌+◌, ◌≤◌, ◌==◌, if◌then◌else◌, List, [], ◌∷◌, ◌++◌, length, map, All, codes}
 use Rattle.std.specs.Int.Digits.{digits_of}
 use Rattle.std.specs.List.{flat_map, join_with_byte}
-use Rattle.file_bundle.specs.declared.limits.TheConstants.{MAX_FILES}
+use Rattle.mrpc_table.specs.declared.limits.TheConstants.{MAX_FILES}
 
 -- a file: its path and its bytes
 abbrev pub File : Type 0

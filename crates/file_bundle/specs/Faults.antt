@@ -2,7 +2,7 @@
 use Rattle.std.specs.Prelude.{◌≡◌, ◌≢◌, ℕ, ◌+◌, ◌<◌, List, [], ◌++◌, length, All}
 use Rattle.file_bundle.specs.Bundle.{File, paths_of, header_line, bundle_text, IsWord, Spells}
 use Rattle.file_bundle.specs.Paths.{HaveRightPaths, IsFirstRefused}
-use Rattle.file_bundle.specs.declared.limits.TheConstants.{MAX_FILES}
+use Rattle.mrpc_table.specs.declared.limits.TheConstants.{MAX_FILES}
 use Rattle.file_bundle.specs.declared.fault.BundleFault.{BundleFault}
 use Rattle.file_bundle.specs.declared.fault.BundleFault.TheVariants.{Bundle, Path, Memory}
 

@@ -16,7 +16,7 @@ mod read;
 
 pub use fault::BundleFault;
 pub use laws::{one_bundle, one_decimal};
-pub use limits::{MAX_FILES, MAX_PATH};
+pub use limits::MAX_PATH;
 pub use packed::Packed;
 pub use path::is_path;
 pub use read::{is_bundle, read_bundle};

@@ -1,7 +1,4 @@
-//! The limits of a set of files, which the definitions share.
-
-/// How many files a set has at most.
-pub const MAX_FILES: usize = 64;
+//! The limit of paths, which the definitions share.
 
 /// How many bytes a path has at most.
 pub const MAX_PATH: usize = 255;

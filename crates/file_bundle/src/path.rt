@@ -6,8 +6,9 @@ ghost use Rattle.std.specs.Str.{bytes_eq};
 ghost use Rattle.file_bundle.specs.Packed.{files_of};
 ghost use Rattle.file_bundle.specs.Paths.{IsPath, HaveRightPaths, IsFirstRefused, is_path_byte};
 
-use crate::limits::{MAX_FILES, MAX_PATH};
+use crate::limits::MAX_PATH;
 use crate::packed::Packed;
+use mrpc_table::MAX_FILES;
 
 /// Whether a path may be that of a file: 1 to 255 bytes of letters, digits, `_`, `-`, `.` and `/`.
 pub fn is_path(path: &[u8]) -> bool

@@ -10,9 +10,9 @@ ghost use Rattle.file_bundle.specs.declared.fault.BundleFault.TheVariants.{Memor
 
 use crate::fault::BundleFault;
 use crate::header::first_file;
-use crate::limits::MAX_FILES;
 use crate::packed::Packed;
 use crate::path::first_refused;
+use mrpc_table::MAX_FILES;
 use std::alloc::Global;
 
 /// The first line of a set of files.

@@ -21,7 +21,7 @@ mod words;
 
 pub use field_search::find_field;
 pub use limits::{
-    MAX_DEPTH, MAX_ENUMS, MAX_FIELDS, MAX_FULL_NAME, MAX_HEAP, MAX_LOADS, MAX_MESSAGES,
+    MAX_DEPTH, MAX_ENUMS, MAX_FIELDS, MAX_FILES, MAX_FULL_NAME, MAX_HEAP, MAX_LOADS, MAX_MESSAGES,
     MAX_METHODS, MAX_NAME, MAX_TEXT, MAX_VALUES, MIN_HEAP,
 };
 pub use memory::Memory;

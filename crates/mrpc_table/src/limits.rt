@@ -1,4 +1,4 @@
-//! The limits of tables, names, trees and heaps, which the definitions share.
+//! The limits of tables, names, sets of files, trees and heaps, which the definitions share.
 
 /// How many messages a table has at most.
 pub const MAX_MESSAGES: usize = 256;
@@ -23,6 +23,9 @@ pub const MAX_NAME: usize = 64;
 
 /// How many bytes a full name has at most.
 pub const MAX_FULL_NAME: usize = 255;
+
+/// How many files a set has at most.
+pub const MAX_FILES: usize = 64;
 
 /// How deep messages nest at most in a tree in normal form, the root counting 1.
 pub const MAX_DEPTH: u32 = 32;

@@ -9,8 +9,9 @@ use crate::joined::joined;
 use crate::links::{Graph, fault_at, judge_all};
 use crate::paths::Paths;
 use crate::seen::all_seen;
-use crate::set::{MAX_FILES, Member, Reach};
+use crate::set::{Member, Reach};
 use crate::walk::{Walked, visit_root};
+use mrpc_table::MAX_FILES;
 use std::alloc::Global;
 
 /// The files that the first one of a set reaches, in the order in which they are resolved, and what each of them sees;

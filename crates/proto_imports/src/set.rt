@@ -3,9 +3,6 @@
 use mrpc_table::{Name, Sequence};
 use proto_file::File;
 
-/// How many files a set has at most.
-pub const MAX_FILES: usize = 64;
-
 /// A file of a set: the path by which others import it, and what it says.
 #[derive(Debug, Drop)]
 pub struct Member {
