@@ -72,13 +72,15 @@ fn a_writer_that_takes_nothing_has_failed(rt: HostRuntime) {
 }
 
 #[test]
-fn the_file_is_made_at_the_first_write(rt: HostRuntime) -> Result<(), Fail> {
+fn the_file_is_made_at_the_first_write_for_one_sink_alone(rt: HostRuntime) -> Result<(), Fail> {
     let mut wire = FileSink::new(rt);
     assert!(rt; wire.write(b"ab") == Put::Took(2));
     assert!(rt; wire.write(b"c") == Put::Took(1));
+    let mut other = FileSink::new(rt);
+    assert!(rt; other.write(b"d") == Put::Failed);
     assert!(rt; fs::read(&rt, "mrpc.wire")?.as_slice() == b"abc".as_slice());
-    let mut again = FileSink::new(rt);
-    assert!(rt; again.write(b"d") == Put::Took(1));
+    drop(wire);
+    assert!(rt; other.write(b"d") == Put::Took(1));
     assert!(rt; fs::read(&rt, "mrpc.wire")?.as_slice() == b"d".as_slice());
     fs::remove_file(&rt, "mrpc.wire")?;
     Ok(())

@@ -1,12 +1,14 @@
-ghost use Rattle.std.specs.Prelude.{◌≡◌, ◌≢◌, ◌<◌, ◌≤◌, length, take, IsNone, IsSome};
+ghost use Rattle.std.specs.Prelude.{◌≡◌, ◌≢◌, ◌<◌, ◌≤◌, length, take, IfOk, IsNone, IsSome};
 ghost use Rattle.std.specs.Io.KnownBytes.{Appends, Keeps};
 ghost use Rattle.mrpc_base.specs.Faults.{HasCause, raised};
 ghost use Rattle.mrpc_base.specs.Writing.{OnTook};
 ghost use Rattle.system_io.specs.FileSink.{contents_of, HoldsFirst};
 
+use crate::locking::Lock;
 use crate::writing::write_once;
 use mrpc_base::{Put, Sink};
-use std::fs;
+use std::fs::OpenOptions;
+use std::io;
 use std::marker::Model;
 use std::rt::Files;
 
@@ -14,7 +16,8 @@ use std::rt::Files;
 const WIRE: &str = "mrpc.wire";
 
 /// The file `mrpc.wire` of the current folder as a sink. It is made, or emptied, at the first write; where nothing
-/// is written it isn't touched. A file that can't be made is a fault of that write, and the next tries again.
+/// is written it isn't touched. From then on the sink has it locked, until it is dropped. A file that can't be made,
+/// locked or emptied is a fault of that write, and the next tries again.
 /// It is generic over the system's files; where an open file tells what it holds, so does the sink. The system's
 /// tells nothing. Contracts see a `Filed`.
 #[derive(Drop)]
@@ -32,7 +35,24 @@ impl<R: Files + Drop> Model for FileSink<R> {
     ghost view = { λ s. record { file = s.file; faults = s.faults } };
 }
 
-impl<R: Files + Drop> FileSink<R> {
+// Opens the file, made where it isn't there. It isn't emptied by that, since another sink may hold it.
+fn open_alone<R: Files>(files: &R) -> io::Result<R::File>
+where
+    R::File: Lock,
+    ensures { IfOk result R.File.is_locked }
+{
+    let file = OpenOptions::new()
+        .write(true)
+        .create(true)
+        .open(files, WIRE)?;
+    file.lock_and_empty()?;
+    Ok(file)
+}
+
+impl<R: Files + Drop> FileSink<R>
+where
+    R::File: Lock,
+{
     /// No write yet, and no file.
     pub fn new(files: R) -> Self
         ensures no_file { IsNone result.file }
@@ -45,7 +65,7 @@ impl<R: Files + Drop> FileSink<R> {
         }
     }
 
-    // Writes once, to a file that is made where there is none yet.
+    // Writes once, to the file that is opened where none is yet.
     fn write_to_file(&mut self, piece: &[u8]) -> Put
         requires some { 0 < length piece.now }
 
@@ -57,13 +77,13 @@ impl<R: Files + Drop> FileSink<R> {
             → Keeps (contents_of R.File.contents self.old.file) (contents_of R.File.contents self.new.file) }
         ensures made { OnTook result (λ _. IsSome self.new.file) }
         ensures first { IsNone self.old.file
-            → OnTook result (λ n. HoldsFirst R.File.contents self.new.file (take n piece.now)) }
+            → OnTook result (λ n. HoldsFirst R.File.contents R.File.is_locked self.new.file (take n piece.now)) }
         ensures faults { self.new.faults ≡ self.old.faults }
     {
         if let Some(file) = &mut self.file {
             return write_once(file, piece);
         }
-        match fs::create(&self.files, WIRE) {
+        match open_alone(&self.files) {
             Ok(mut file) => {
                 let put = write_once(&mut file, piece);
                 self.file = Some(file);
@@ -74,7 +94,10 @@ impl<R: Files + Drop> FileSink<R> {
     }
 }
 
-impl<R: Files + Drop> Sink for FileSink<R> {
+impl<R: Files + Drop> Sink for FileSink<R>
+where
+    R::File: Lock,
+{
     ghost written = { λ s. contents_of R.File.contents s.file };
 
     ghost faults = { λ s. s.faults };
@@ -90,9 +113,9 @@ impl<R: Files + Drop> Sink for FileSink<R> {
         ensures kept { result ≡ Put.Failed
             → Keeps (contents_of R.File.contents self.old.file) (contents_of R.File.contents self.new.file) }
         ensures made { OnTook result (λ _. IsSome self.new.file) }
-        // The file that was made at the first write holds what was taken of it, too.
+        // The file that was made or emptied at the first write is locked, and holds what was taken of it, too.
         ensures first { IsNone self.old.file
-            → OnTook result (λ n. HoldsFirst R.File.contents self.new.file (take n piece.now)) }
+            → OnTook result (λ n. HoldsFirst R.File.contents R.File.is_locked self.new.file (take n piece.now)) }
 
         // What is counted.
         ensures faults { result ≡ Put.Failed → self.new.faults ≡ raised self.old.faults }

@@ -7,10 +7,12 @@
 #![tactic(auto)]
 
 mod file_sink;
+mod locking;
 mod standard_input;
 mod standard_output;
 mod writing;
 
 pub use file_sink::FileSink;
+pub use locking::Lock;
 pub use standard_input::StandardInput;
 pub use standard_output::StandardOutput;
