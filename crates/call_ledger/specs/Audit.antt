@@ -7,7 +7,7 @@ use Rattle.mrpc_table.specs.Text.{line}
 use Rattle.mrpc_table.specs.declared.table.Table.{Table}
 use Rattle.wire_base.specs.Encoding.{encoding}
 use Rattle.frame_transport.specs.Bytes.{frame_bytes}
-use Rattle.frame_transport.specs.declared.format.TheConstants.{HEADER_LEN}
+use Rattle.frame_transport.specs.declared.format.TheConstants.{HEADER_LEN, VERSION, REQUEST, REPLY}
 use Rattle.graph_form.specs.Words.{reason_word}
 use Rattle.call_ledger.specs.declared.happening.Cause.{Cause}
 use Rattle.call_ledger.specs.declared.happening.Cause.TheVariants as cause
@@ -75,11 +75,11 @@ audit_line T (Refused conn seq cause) = refused_line conn seq cause
 abbrev pub audit : Table → History → List ℕ
 audit T h = flat_map (audit_line T) h
 
--- the frame of a call: kind 1 with its own number for a request, kind 2 with the answered number for a reply
+-- the frame of a call: a request with its own number, or a reply with the answered number
 abbrev pub frame_of : Table → Call → List ℕ
 frame_of T c =
-    frame_bytes (if c.number == 0 then 1 else 2) 1 c.method c.conn (if c.number == 0 then c.seq else c.number)
-    (payload T c)
+    frame_bytes (if c.number == 0 then REQUEST else REPLY) VERSION c.method c.conn
+    (if c.number == 0 then c.seq else c.number) (payload T c)
 
 -- the call of a number on a connection
 abbrev pub call_of : ℕ → ℕ → History → Option Call

@@ -1,13 +1,13 @@
 //! The audit text: a line for each happening.
 
-ghost use Rattle.std.specs.Prelude.{◌≡◌, ◌<◌, ◌++◌, ◌∷◌, length, OnOk, IfOk};
+ghost use Rattle.std.specs.Prelude.{◌≡◌, ◌<◌, ◌++◌, ◌∷◌, codes, length, map, OnOk, IfOk};
 ghost use Rattle.std.specs.List.{flat_map};
 ghost use Rattle.std.specs.Fmt.{decimal};
 ghost use Rattle.mrpc_table.specs.Calls.{message_at};
 ghost use Rattle.mrpc_table.specs.Valid.{IsValid};
 ghost use Rattle.call_ledger.specs.Audit.{audit_line, copy_payload, copy_words, hex_word, stands_line, sent_line, refused_line};
 ghost use Rattle.call_ledger.specs.Fits.{FitsTable, CopyFits, TookFits};
-ghost use Rattle.call_ledger.specs.Texts.{behind_spaces, took_text};
+ghost use Rattle.call_ledger.specs.Texts.{behind_spaces};
 
 use crate::happening::{Cause, Happening, TookCopy};
 use graph_form::Reason;
@@ -84,7 +84,7 @@ pub fn copy_bytes(
 
 // The line of an acceptance up to its numbers.
 fn took_numbers(alloc: Global, numbers: &[u64]) -> Result<Bytes, Memory>
-    ensures { IfOk result (λ line. line ≡ took_text numbers.now) }
+    ensures { IfOk result (λ line. line ≡ codes "took" ++ behind_spaces (map decimal numbers.now)) }
 {
     let mut out = Bytes::from_slice(alloc, b"took")?;
     for number in numbers {

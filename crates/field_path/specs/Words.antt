@@ -3,13 +3,14 @@ use Rattle.std.specs.Prelude.{ℕ, ◌==◌, nat_le, if◌then◌else◌, List, 
 use Rattle.std.specs.List.{slice_split}
 use Rattle.mrpc_table.specs.Lines.{number_of, in_64_bits}
 use Rattle.mrpc_table.specs.declared.words.Decimal.{Decimal}
+use Rattle.field_path.specs.declared.limits.TheConstants.{MAX_NUMBERS}
 use Rattle.field_path.specs.declared.path.PathWord.{PathWord}
 
 -- a number of any length
 abbrev pub decimal_of : List ℕ → Option Decimal
 decimal_of word = option_map in_64_bits (number_of word)
 
--- the numbers of a path; a path has at most 32
+-- the numbers of a path
 abbrev pub ends_path : Decimal → PathWord
 ends_path n = record { way = []; last = n }
 
@@ -25,4 +26,4 @@ path_of_parts (part ∷ other ∷ parts) =
 abbrev pub path_of : List ℕ → Option PathWord
 path_of word =
     let parts = slice_split (λ c. c == 46) word in
-    if nat_le (length parts) 32 then path_of_parts parts else None
+    if nat_le (length parts) MAX_NUMBERS then path_of_parts parts else None

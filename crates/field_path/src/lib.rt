@@ -9,10 +9,12 @@
 
 mod find;
 mod laws;
+mod limits;
 mod path;
 mod read;
 mod resolve;
 
 pub use find::{content_under, message_behind, place_under};
 pub use laws::normal_ascends;
+pub use limits::MAX_NUMBERS;
 pub use path::{Path, PathWord};

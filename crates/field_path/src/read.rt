@@ -3,15 +3,13 @@
 ghost use Rattle.std.specs.Prelude.{◌≡◌, IfOk};
 ghost use Rattle.field_path.specs.Words.{path_of};
 
+use crate::limits::MAX_NUMBERS;
 use crate::path::PathWord;
 use mrpc_table::{Memory, Sequence, cut, number_of};
 use std::alloc::Global;
 
-/// How many numbers a path has at most.
-const NUMBERS: usize = 32;
-
 impl PathWord {
-    /// The numbers that a word spells, joined by dots. None where it has more than 32 parts, or one that is no
+    /// The numbers that a word spells, joined by dots. None where it has too many parts, or one that is no
     /// number. It takes time in proportion to the word.
     pub fn read(alloc: Global, word: &[u8]) -> Result<Option<PathWord>, Memory>
         ensures { IfOk result (λ p. p ≡ path_of word.now) }
@@ -28,7 +26,7 @@ impl PathWord {
         let Some(last) = number_of(rest) else {
             return Ok(None);
         };
-        if way.len() >= NUMBERS {
+        if way.len() >= MAX_NUMBERS {
             return Ok(None);
         }
         let way = Sequence::from_vec(way);

@@ -5,19 +5,19 @@ use Rattle.std.specs.List.{flat_map}
 use Rattle.byteorder.specs.Endian.{big_number}
 use Rattle.frame_transport.specs.Bytes.{frame_bytes}
 use Rattle.frame_transport.specs.declared.format.Frame.{Frame}
-use Rattle.frame_transport.specs.declared.format.TheConstants.{MAX_PAYLOAD}
+use Rattle.frame_transport.specs.declared.format.TheConstants.{MAX_PAYLOAD, VERSION, HELLO_VERSION, REQUEST, HELLO}
 use Rattle.frame_transport.specs.declared.fault.FeedFault.{FeedFault}
 use Rattle.frame_transport.specs.declared.fault.FeedFault.TheVariants.{Version, Kind, TooLong}
 
--- a request is of kind 1, a reply of kind 2, a hello of kind 3
+-- the kinds of frames are those of a request, a reply and a hello
 abbrev pub IsKind : ℕ → Type 0
-IsKind kind = (1 ≤ kind) × (kind ≤ 3)
+IsKind kind = (REQUEST ≤ kind) × (kind ≤ HELLO)
 
--- each kind has version 1, and a hello also 2
+-- each kind has the one version, and a hello also its own
 abbrev pub HasVersion : ℕ → ℕ → Type 0
-HasVersion kind version = (version ≡ 1) ⊎ ((kind ≡ 3) × (version ≡ 2))
+HasVersion kind version = (version ≡ VERSION) ⊎ ((kind ≡ HELLO) × (version ≡ HELLO_VERSION))
 
--- a payload has at most 262144 bytes, and the numbers fit their bytes
+-- a payload isn't too long, and the numbers fit their bytes
 pub record IsFrame (f : Frame) : Type 0 where
   pub kind : IsKind f.kind
   pub version : HasVersion f.kind f.version

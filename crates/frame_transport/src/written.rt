@@ -22,7 +22,7 @@ pub fn frame(
     requires least { REQUEST ≤ kind }
     requires greatest { kind ≤ REPLY }
     requires short { length payload.now ≤ MAX_PAYLOAD }
-    ensures { IfOk result (λ bytes. bytes ≡ frame_bytes kind 1 method conn number payload.now) }
+    ensures { IfOk result (λ bytes. bytes ≡ frame_bytes kind VERSION method conn number payload.now) }
 {
     write(alloc, kind, VERSION, method, conn, number, payload)
 }
@@ -30,7 +30,7 @@ pub fn frame(
 /// The bytes of a hello, of version 2, with method and number 0. The format is this project's own.
 pub fn hello_frame(alloc: Global, conn: u32, payload: &[u8]) -> Result<Bytes, Memory>
     requires short { length payload.now ≤ MAX_PAYLOAD }
-    ensures { IfOk result (λ bytes. bytes ≡ frame_bytes 3 2 0 conn 0 payload.now) }
+    ensures { IfOk result (λ bytes. bytes ≡ frame_bytes HELLO HELLO_VERSION 0 conn 0 payload.now) }
 {
     write(alloc, HELLO, HELLO_VERSION, 0, conn, 0, payload)
 }

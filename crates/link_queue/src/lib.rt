@@ -10,6 +10,7 @@
 
 mod inner;
 mod kept;
+mod limits;
 mod marks;
 mod opening;
 mod queue_link;
@@ -17,6 +18,7 @@ mod was;
 mod writer;
 mod writer_end;
 
+pub use limits::MAX_CAPACITY;
 pub use marks::Health;
 pub use opening::open;
 pub use queue_link::{Passed, QueueLink};

@@ -1,5 +1,6 @@
 // How a queue is opened.
 ghost use Rattle.std.specs.Prelude.{◌≡◌, ◌≤◌, [], false, IfOk};
+ghost use Rattle.link_queue.specs.declared.limits.TheConstants.{MAX_CAPACITY};
 ghost use Rattle.link_queue.specs.Writers.{writer_start, writer_forward, writer_backward};
 
 use crate::marks::Health;
@@ -19,7 +20,7 @@ pub fn open<'r, R: Wait, L: Link + Drop>(
     link: L,
 ) -> Result<(QueueLink<'r, R>, QueueWriter<'r, R, L>), Memory>
     requires some { 1 ≤ cap }
-    requires most { cap ≤ 1024 }
+    requires most { cap ≤ MAX_CAPACITY }
     ensures handed { IfOk result (λ ends. ends.0.handed ≡ []) }
     ensures finished { IfOk result (λ ends. ends.0.finished ≡ false) }
     ensures given { IfOk result (λ ends. ends.0.given ≡ []) }

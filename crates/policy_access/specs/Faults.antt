@@ -8,6 +8,7 @@ use Rattle.mrpc_table.specs.Names.{is_name_form, is_short}
 use Rattle.mrpc_table.specs.declared.table.Table.{Table}
 use Rattle.policy_access.specs.Lines.{line_of}
 use Rattle.policy_access.specs.Rules.{about_in}
+use Rattle.policy_access.specs.declared.limits.TheConstants.{MAX_RULES}
 use Rattle.policy_access.specs.declared.line.Line.{Line}
 use Rattle.policy_access.specs.declared.line.Line.TheVariants.{Rule, Default}
 use Rattle.policy_access.specs.declared.line.RuleLine.{RuleLine}
@@ -70,8 +71,8 @@ order_of reason.Default = 5
 pub data IsAgainst (T : Table) (names : List (List ℕ)) (ended : Bool) (line : List ℕ) (q : RuleReason) : Type 0 where
   -- the line is out of form
   out_of_form : line_of line ≡ None → q ≡ reason.Word → IsAgainst T names ended line q
-  -- it is a 65th rule
-  too_many : (r : RuleLine) → line_of line ≡ Some (Rule r) → 64 ≤ length names → q ≡ reason.Word
+  -- it is a rule behind the most that a policy has
+  too_many : (r : RuleLine) → line_of line ≡ Some (Rule r) → MAX_RULES ≤ length names → q ≡ reason.Word
       → IsAgainst T names ended line q
   -- what the rule is about is at fault
   of_part : (r : RuleLine) (p : PartReason) → line_of line ≡ Some (Rule r) → about_in T r.about ≡ Err p

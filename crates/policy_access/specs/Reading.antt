@@ -6,6 +6,7 @@ use Rattle.policy_access.specs.Faults.{is_rule_name, IsAgainstAt}
 use Rattle.policy_access.specs.Lines.{line_of}
 use Rattle.policy_access.specs.Said.{said_in}
 use Rattle.policy_access.specs.Texts.{SayEach}
+use Rattle.policy_access.specs.declared.limits.TheConstants.{MAX_RULES}
 use Rattle.policy_access.specs.declared.read.Said.TheVariants.{Default}
 use Rattle.policy_access.specs.declared.rule.Rule.{Rule}
 use Rattle.policy_access.specs.declared.fault.RuleReason.{RuleReason}
@@ -17,7 +18,7 @@ names_in rules = map (λ (r : Rule). r.name) rules
 pub record AreRead (T : Table) (lines : List (List ℕ)) (i : ℕ) (rules : List Rule) : Type 0 where
   pub within : i ≤ length lines
   pub count : length rules ≡ i
-  pub few : i ≤ 64
+  pub few : i ≤ MAX_RULES
   pub said : SayEach T (take i lines) rules
   pub named : All (λ r. IsTrue (is_rule_name r.name)) rules
   pub distinct : AreDistinct (names_in rules)

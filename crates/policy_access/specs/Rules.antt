@@ -1,5 +1,5 @@
 -- What a rule is about in a table, or the reason that stands against it (this project's own rule language).
-use Rattle.std.specs.Prelude.{ℕ, nat_lt, Bool, true, false, not, ◌&&◌, if◌then◌else◌, length, Option, Some, None, Result, Ok, Err}
+use Rattle.std.specs.Prelude.{ℕ, ◌^◌, nat_lt, Bool, true, false, not, ◌&&◌, if◌then◌else◌, length, Option, Some, None, Result, Ok, Err}
 use Rattle.std.specs.Result.{result_map_both}
 use Rattle.mrpc_table.specs.Calls.{message_at}
 use Rattle.mrpc_table.specs.declared.words.Decimal.{Decimal}
@@ -86,7 +86,7 @@ tests_in T msg (Some t) = result_map Some (test_in T msg t)
 
 -- an index has 16 bits
 abbrev pub index_of : Decimal → Option ℕ
-index_of (Small n) = if nat_lt n 65536 then Some n else None
+index_of (Small n) = if nat_lt n (2 ^ 16) then Some n else None
 index_of Large = None
 
 -- the message of a method's replies, or of its requests

@@ -5,6 +5,7 @@ use Rattle.mrpc_table.specs.declared.table.Table.{Table}
 use Rattle.policy_access.specs.Faults.{is_rule_name, is_among}
 use Rattle.policy_access.specs.Rules.{about_in}
 use Rattle.policy_access.specs.Texts.{with_about}
+use Rattle.policy_access.specs.declared.limits.TheConstants.{MAX_RULES}
 use Rattle.policy_access.specs.declared.line.Line.{Line}
 use Rattle.policy_access.specs.declared.line.Line.TheVariants as lines
 use Rattle.policy_access.specs.declared.line.RuleLine.{RuleLine}
@@ -17,8 +18,8 @@ use Rattle.policy_access.specs.declared.fault.RuleReason.TheVariants as reason
 use Rattle.policy_access.specs.declared.read.Said.{Said}
 use Rattle.policy_access.specs.declared.read.Said.TheVariants.{Rule, Default}
 
--- by whether there are 64 rules before, what the rule is about, whether its name is one, and whether it
--- stands before
+-- by whether the most rules of a policy stand before, what the rule is about, whether its name is one, and
+-- whether it stands before
 abbrev pub judged_rule : Bool → Result About PartReason → Bool → Bool → RuleLine → Result TheRule RuleReason
 judged_rule true about named known r = Err reason.Word
 judged_rule false (Err part.Word) named known r = Err reason.Word
@@ -35,7 +36,7 @@ said_in T names None = Err reason.Word
 said_in T names (Some (lines.Default allow)) = Ok (Default allow)
 said_in T names (Some (lines.Rule r)) =
     result_map_both Rule (λ q. q)
-    (judged_rule (nat_le 64 (length names)) (about_in T r.about) (is_rule_name r.name) (is_among r.name names) r)
+    (judged_rule (nat_le MAX_RULES (length names)) (about_in T r.about) (is_rule_name r.name) (is_among r.name names) r)
 
 -- what stands against the line behind the default
 abbrev pub reason_behind : Result Said RuleReason → RuleReason

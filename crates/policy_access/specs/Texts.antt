@@ -7,6 +7,7 @@ use Rattle.policy_access.specs.Faults.{is_rule_name}
 use Rattle.policy_access.specs.Lines.{line_of}
 use Rattle.policy_access.specs.Rules.{about_in}
 use Rattle.policy_access.specs.Verdict.{AccessPolicy}
+use Rattle.policy_access.specs.declared.limits.TheConstants.{MAX_RULES}
 use Rattle.policy_access.specs.declared.line.Line.{Line}
 use Rattle.policy_access.specs.declared.line.Line.TheVariants.{Rule as RuleOf, Default}
 use Rattle.policy_access.specs.declared.line.RuleLine.{RuleLine}
@@ -31,14 +32,14 @@ SayEach T [] [] = Unit {0}
 SayEach T (line ∷ lines) (rule ∷ rules) = (said_rule T line ≡ Some rule) × SayEach T lines rules
 SayEach T _ _ = ⊥
 
--- lines are the text of a policy: a line for each rule, at most 64, whose names are distinct, and then
--- the default's line
+-- lines are the text of a policy: a line for each rule, of which there are not too many and whose names are
+-- distinct, and then the default's line
 pub record IsTextOf (T : Table) (lines : List (List ℕ)) (policy : AccessPolicy) : Type 0 where
   pub rule_lines : List (List ℕ)
   pub default_line : List ℕ
   pub whole : lines ≡ rule_lines ++ default_line ∷ []
   pub rules : SayEach T rule_lines policy.rules
   pub default : line_of default_line ≡ Some (Default policy.allow)
-  pub few : length policy.rules ≤ 64
+  pub few : length policy.rules ≤ MAX_RULES
   pub named : All (λ r. IsTrue (is_rule_name r.name)) policy.rules
   pub distinct : AreDistinct (map (λ r. r.name) policy.rules)

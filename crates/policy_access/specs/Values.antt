@@ -8,6 +8,7 @@ use Rattle.mrpc_table.specs.declared.words.Decimal.{Decimal}
 use Rattle.mrpc_table.specs.declared.words.Decimal.TheVariants.{Small, Large}
 use Rattle.mrpc_table.specs.declared.table.Kind.{Kind}
 use Rattle.mrpc_table.specs.declared.table.Kind.TheVariants.{Int32, Int64, Uint32, Sint32, Sint64, Bool as TheBool, Fixed32, Sfixed32, Sfixed64, Text, Octets, Message, Choice}
+use Rattle.policy_access.specs.declared.limits.TheConstants.{MAX_TEXT_VALUE}
 use Rattle.policy_access.specs.declared.rule.Operand.{Operand}
 use Rattle.policy_access.specs.declared.rule.Operand.TheVariants.{Number, Run}
 use Rattle.policy_access.specs.declared.fault.PartReason.{PartReason}
@@ -67,7 +68,7 @@ abbrev pub is_text_byte : ℕ → Bool
 is_text_byte c = nat_le 32 c && not (c == 127)
 
 abbrev pub is_text : List ℕ → Bool
-is_text text = list_all is_text_byte text && nat_le (length text) 255
+is_text text = list_all is_text_byte text && nat_le (length text) MAX_TEXT_VALUE
 
 -- cut at its quotes, a quoted text is nothing, the text, and nothing
 abbrev pub quoted_part : List (List ℕ) → Option (List ℕ)

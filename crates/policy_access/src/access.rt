@@ -1,6 +1,7 @@
 //! An access policy, as it was read.
 
 ghost use Rattle.std.specs.Prelude.{◌≡◌, ◌≤◌, length, IfOk};
+ghost use Rattle.policy_access.specs.declared.limits.TheConstants.{MAX_RULES};
 
 use crate::call::{Call, Verdict};
 use crate::condition::first_match;
@@ -22,12 +23,13 @@ pub struct Access {
 impl Model for Access {
     ghost use Rattle.std.specs.Prelude.{◌≡◌, ◌≤◌, length, codes};
     ghost use Rattle.policy_access.specs.Verdict.{AccessPolicy};
+    ghost use Rattle.policy_access.specs.declared.limits.TheConstants.{MAX_RULES};
 
     ghost Value = { AccessPolicy };
 
     ghost view = { λ a. record { rules = a.rules; allow = a.allow } };
 
-    ghost invariant = { λ a. (length a.rules ≤ 64) × (a.default_name ≡ codes "default") };
+    ghost invariant = { λ a. (length a.rules ≤ MAX_RULES) × (a.default_name ≡ codes "default") };
 }
 
 impl Access {
@@ -36,7 +38,7 @@ impl Access {
 
     // The policy of these rules, with this default.
     pub(crate) fn new(alloc: Global, rules: Vec<Rule>, allow: bool) -> Result<Access, Memory>
-        requires { length rules.items ≤ 64 }
+        requires { length rules.items ≤ MAX_RULES }
         ensures { IfOk result (λ a. (a.rules ≡ rules.items) × (a.allow ≡ allow)) }
     {
         let default_name = Bytes::from_slice(alloc, b"default")?;

@@ -11,10 +11,12 @@ ghost use Rattle.policy_access.specs.Verdict.{AccessPolicy};
 ghost use Rattle.policy_access.specs.declared.fault.RuleFault.TheVariants.{Memory as NoMemory};
 ghost use Rattle.policy_access.specs.Rules.{about_in};
 ghost use Rattle.policy_access.specs.Said.{judged_rule, said_in, reason_behind};
+ghost use Rattle.policy_access.specs.declared.limits.TheConstants.{MAX_RULES};
 
 use crate::access::Access;
 use crate::fault::{PartReason, RuleFault, RuleReason};
 use crate::form::{is_word, line_of};
+use crate::limits::MAX_RULES;
 use crate::line::{Line, RuleLine};
 use crate::names::SeenNames;
 use crate::resolve::about_in;
@@ -30,9 +32,6 @@ pub enum Said {
     /// The default, and whether it allows.
     Default(bool),
 }
-
-/// How many rules a policy has at most.
-const RULES: usize = 64;
 
 fn is_rule_name(name: &[u8]) -> bool
     ensures { result ≡ is_rule_name name.now }
@@ -50,10 +49,10 @@ fn judged_rule(
 ) -> Result<Result<Rule, RuleReason>, Memory>
     requires { IsValid table.now }
     ensures { (before : List (List ℕ)) → Holds names.now before
-        → IfOk result (λ r. r ≡ judged_rule (nat_le 64 count) (about_in table.now line.about)
+        → IfOk result (λ r. r ≡ judged_rule (nat_le MAX_RULES count) (about_in table.now line.about)
         (is_rule_name line.name) (is_among line.name before) line) }
 {
-    if count >= RULES {
+    if count >= MAX_RULES {
         return Ok(Err(RuleReason::Word));
     }
     let about = match about_in(alloc, table, &line.about)? {

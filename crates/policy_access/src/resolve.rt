@@ -139,7 +139,7 @@ fn calls_in(
     ensures { IfOk result (λ c. c ≡ calls_in table.now calls.now) }
 {
     match calls.index {
-        Decimal::Small(index) if index < 65536 => {
+        Decimal::Small(index) if index <= u16::MAX as u64 => {
             calls_of_method(alloc, table, index as u16, calls)
         }
         _ => Ok(Err(PartReason::Number)),

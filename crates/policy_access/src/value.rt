@@ -8,6 +8,7 @@ ghost use Rattle.hex.specs.Hex.{decode_of};
 ghost use Rattle.policy_access.specs.Values.{depth_of, limit_of, positive_word, negative_word, number_value, is_text_byte, quoted, text_value, is_lower_digit, run_or_word, bytes_value, operand_of};
 
 use crate::fault::PartReason;
+use crate::limits::MAX_TEXT_VALUE;
 use crate::rule::Operand;
 use hex::FromHexError;
 use mrpc_table::{Bytes, Decimal, Kind, Memory, cut, number_of};
@@ -102,7 +103,7 @@ fn text_value(alloc: Global, word: &[u8]) -> Result<Result<Operand, PartReason>,
     ensures { IfOk result (λ r. r ≡ text_value word.now) }
 {
     match quoted(word) {
-        Some(text) if are_text_bytes(text) && text.len() <= 255 => {
+        Some(text) if are_text_bytes(text) && text.len() <= MAX_TEXT_VALUE => {
             Ok(Ok(Operand::Run(Bytes::from_slice(alloc, text)?)))
         }
         _ => Ok(Err(PartReason::Word)),

@@ -10,6 +10,7 @@ use Rattle.policy_access.specs.declared.fault.RuleReason.TheVariants as reason
 use Rattle.policy_access.specs.declared.fault.RuleFault.{RuleFault}
 use Rattle.policy_access.specs.declared.fault.RuleFault.TheVariants as fault
 use Rattle.policy_redact.specs.Lines.{line_of}
+use Rattle.policy_redact.specs.declared.limits.TheConstants.{MAX_CLEARS}
 use Rattle.policy_redact.specs.declared.line.ClearLine.{ClearLine}
 
 -- a reason stands against a line
@@ -29,8 +30,8 @@ pub data IsAgainst (T : Table) (line : List ℕ) (q : RuleReason) : Type 0 where
 -- a reason stands against the line at a place, from 0
 pub data IsAgainstAt (T : Table) (lines : List (List ℕ)) (i : ℕ) (q : RuleReason) : Type 0 where
   at_line : (line : List ℕ) → slice_get lines i ≡ Some line → IsAgainst T line q → IsAgainstAt T lines i q
-  -- it stands behind 64 lines
-  too_many : i < length lines → 64 ≤ i → q ≡ reason.Word → IsAgainstAt T lines i q
+  -- it stands behind the most lines that a policy has
+  too_many : i < length lines → MAX_CLEARS ≤ i → q ≡ reason.Word → IsAgainstAt T lines i q
   -- there is no line
   no_line : lines ≡ [] → i ≡ 0 → q ≡ reason.Word → IsAgainstAt T lines i q
 

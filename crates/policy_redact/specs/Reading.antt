@@ -4,12 +4,13 @@ use Rattle.mrpc_table.specs.declared.table.Table.{Table}
 use Rattle.policy_access.specs.declared.fault.RuleReason.{RuleReason}
 use Rattle.policy_redact.specs.Faults.{IsAgainstAt}
 use Rattle.policy_redact.specs.Texts.{SayEach}
+use Rattle.policy_redact.specs.declared.limits.TheConstants.{MAX_CLEARS}
 use Rattle.policy_redact.specs.declared.redact.Clear.{Clear}
 
 -- the lines in front of a place say these clears, and none is at fault
 pub record AreRead (T : Table) (lines : List (List ℕ)) (i : ℕ) (clears : List Clear) : Type 0 where
   pub some : 0 < length lines
   pub within : i ≤ length lines
-  pub few : i ≤ 64
+  pub few : i ≤ MAX_CLEARS
   pub said : SayEach T (take i lines) clears
   pub clean : (j : ℕ) (q : RuleReason) → j < i → IsAgainstAt T lines j q → ⊥

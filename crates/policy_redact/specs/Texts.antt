@@ -6,6 +6,7 @@ use Rattle.field_path.specs.declared.path.Path.{Path}
 use Rattle.field_path.specs.declared.path.PathWord.{PathWord}
 use Rattle.policy_access.specs.Rules.{index_of, message_of}
 use Rattle.policy_redact.specs.Lines.{line_of}
+use Rattle.policy_redact.specs.declared.limits.TheConstants.{MAX_CLEARS}
 use Rattle.policy_redact.specs.declared.line.ClearLine.{ClearLine}
 use Rattle.policy_redact.specs.declared.redact.Clear.{Clear}
 
@@ -34,8 +35,8 @@ SayEach T [] [] = Unit {0}
 SayEach T (line ∷ lines) (clear ∷ clears) = (said_clear T line ≡ Some clear) × SayEach T lines clears
 SayEach T _ _ = ⊥
 
--- lines are the text of a policy: a line for each clear, 1 to 64
+-- lines are the text of a policy: a line for each clear, of which there is one and not too many
 pub record IsTextOf (T : Table) (lines : List (List ℕ)) (clears : List Clear) : Type 0 where
   pub each : SayEach T lines clears
   pub some : 0 < length clears
-  pub few : length clears ≤ 64
+  pub few : length clears ≤ MAX_CLEARS

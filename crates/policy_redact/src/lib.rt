@@ -10,6 +10,7 @@
 
 mod form;
 mod laws;
+mod limits;
 mod line;
 mod read;
 mod redact;
@@ -18,5 +19,6 @@ mod remove;
 pub use laws::{
     any_order, clear_again, gets_smaller, one_fault, one_policy, stays_normal, text_or_fault,
 };
+pub use limits::MAX_CLEARS;
 pub use read::read_redact;
 pub use redact::{Clear, Redact};

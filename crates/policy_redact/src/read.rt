@@ -10,15 +10,13 @@ ghost use Rattle.policy_redact.specs.Texts.{path_in_call, IsTextOf};
 ghost use Rattle.policy_redact.specs.declared.redact.Clear.{Clear as TheClear};
 
 use crate::form::line_of;
+use crate::limits::MAX_CLEARS;
 use crate::line::ClearLine;
 use crate::redact::{Clear, Redact};
 use field_path::{Path, PathWord};
 use mrpc_table::{Bytes, Decimal, Memory, Table};
 use policy_access::{Lines, RuleFault, RuleReason};
 use std::alloc::Global;
-
-/// How many lines a policy has at most.
-const CLEARS: usize = 64;
 
 // The path in the message of a method's replies, or of its requests.
 fn path_in_call(
@@ -47,7 +45,7 @@ fn said_in(alloc: Global, table: &Table, line: &[u8]) -> Result<Result<Clear, Ru
         return Ok(Err(RuleReason::Word));
     };
     let method = match line.index {
-        Decimal::Small(index) if index < 65536 => index as u16,
+        Decimal::Small(index) if index <= u16::MAX as u64 => index as u16,
         _ => return Ok(Err(RuleReason::Number)),
     };
     let reply = line.reply;
@@ -82,7 +80,7 @@ fn read_lines(alloc: Global, lines: &[Bytes], table: &Table) -> Result<Redact, R
     }
     let mut clears = Vec::new(alloc);
     for (place, line) in lines.iter().enumerate() {
-        if place >= CLEARS {
+        if place >= MAX_CLEARS {
             return Err(fault_at(place, RuleReason::Word));
         }
         match said_in(alloc, table, line.as_slice())? {

@@ -6,7 +6,8 @@ use Rattle.std.proofs.lemmas.Bool.{leb-true, leb-false}
 use Rattle.std.proofs.lemmas.List.{append_assoc, append-nil}
 use Rattle.proto_schema.specs.Lexemes.{Meaning, identifier, integer, number, string, mark, the_end, none, Lexeme, semicolon, equals, says}
 use Rattle.proto_schema.specs.Files
-use Rattle.proto_schema.specs.Files.{Draft, Statement, Says, nothing_said, MOST_OPEN}
+use Rattle.proto_schema.specs.Files.{Draft, Statement, Says, nothing_said}
+use Rattle.proto_schema.specs.declared.limits.TheConstants.{MAX_OPEN}
 use Rattle.proto_schema.specs.Faults
 use Rattle.proto_schema.specs.Faults.{is_no_token, CanGoOn, BreaksAt, IsNamed}
 use Rattle.proto_schema.specs.Reading.{fault_at, unexpected, is_mark}
@@ -82,7 +83,7 @@ Completes d ys s = (zs : List Lexeme) (v : Said) → Rest s zs v → Statement d
 -- whole statements and a part of one are read
 data Progress (us : List Lexeme) (d : Draft) (s : State) : Type 0 where
   progress : (front ys : List Lexeme) → us ≡ front ++ ys → Says front d → SoFar d s ys → Completes d ys s
-      → length d.messages ≤ MOST_OPEN → ((zs : List Lexeme) → reading false (us ++ zs) ≡ run false d s zs)
+      → length d.messages ≤ MAX_OPEN → ((zs : List Lexeme) → reading false (us ++ zs) ≡ run false d s zs)
       → Progress us d s
 
 -- what a token does completes the statement
@@ -119,12 +120,12 @@ onward d s ys x k c = by (begin_or s)
     by (inr n) = (later_on d (place_of d) s ys x n k, later_completes d ys s x (statement_step (place_of d) s x) c (statement_back (place_of d) s x n))
 
 -- at most 32 messages are open behind a statement that isn't too deep
-added_within : (d : Draft) (v : Said) → is_too_deep true d v ≡ false → length d.messages ≤ MOST_OPEN
-    → length (added d v).messages ≤ MOST_OPEN
+added_within : (d : Draft) (v : Said) → is_too_deep true d v ≡ false → length d.messages ≤ MAX_OPEN
+    → length (added d v).messages ≤ MAX_OPEN
 added_within d said.Nothing k l = l
 added_within d (said.Package w) k l = l
 added_within d (said.Import i) k l = l
-added_within d (said.Open openings.Message w) k l = let g : length d.messages < MOST_OPEN = leb-false MOST_OPEN (length d.messages) k in omega arith
+added_within d (said.Open openings.Message w) k l = let g : length d.messages < MAX_OPEN = leb-false MAX_OPEN (length d.messages) k in omega arith
 added_within d (said.Open openings.Enum w) k l = l
 added_within d (said.Open openings.Service w) k l = l
 added_within d (said.Open openings.Oneof w) k l = l
@@ -184,7 +185,7 @@ cut_here : (us : List Lexeme) (d : Draft) (s : State) → ((zs : List Lexeme) �
 cut_here us d s g = ap (reading false) (sym (append-nil us)) ∙ (g [] ∙ run_nothing false d s)
 
 step_told : (us front ys xs : List Lexeme) (d : Draft) (s : State) (x : Lexeme) (e : ProtoFault) → us ≡ front ++ ys
-    → Says front d → length d.messages ≤ MOST_OPEN
+    → Says front d → length d.messages ≤ MAX_OPEN
     → ((zs : List Lexeme) → reading false (us ++ zs) ≡ run false d s zs) → is_over d s x ≡ false → Tells xs e
     → (r : Result Step ProtoFault) → statement_step (place_of d) s x ≡ r → Onward d ys x r
     → behind (λ c t. run true c t xs) true d x r ≡ failed e → Told (us ++ x ∷ xs) e
@@ -212,7 +213,7 @@ step_told us front ys xs d s x e a k l g o tells (Ok (steps.Done v)) h n f = by 
     too_deep : (v : Said) → is_too_deep true d v ≡ true → Says (us ++ x ∷ []) (added d v) → StepOn d ys x (Ok (steps.Done v))
         → Told (us ++ x ∷ xs) (fault_at reasons.Nesting x.span)
     too_deep (said.Open openings.Message w) b c m =
-        let p : MOST_OPEN ≤ length d.messages = leb-true MOST_OPEN (length d.messages) b in
+        let p : MAX_OPEN ≤ length d.messages = leb-true MAX_OPEN (length d.messages) b in
         told (length us) x reasons.Nesting (get_behind us xs x) refl (has_name (opens_named d w us xs x c m (omega arith)))
     too_deep said.Nothing b c m = absurd (let t : false ≡ true = b in cc)
     too_deep (said.Package w) b c m = absurd (let t : false ≡ true = b in cc)

@@ -32,7 +32,8 @@ use Rattle.proto_tokens.specs.declared.token.Kind.{Kind}
 use Rattle.proto_tokens.specs.declared.token.Kind.TheVariants as kinds
 use Rattle.proto_tokens.specs.declared.token.Token.{Token}
 use Rattle.proto_schema.specs.Lexemes.{opening_brace, lexeme, lexemes, meaning}
-use Rattle.proto_schema.specs.Files.{MOST_OPEN, in_message, in_enum, open_message}
+use Rattle.proto_schema.specs.Files.{in_message, in_enum, open_message}
+use Rattle.proto_schema.specs.declared.limits.TheConstants.{MAX_OPEN}
 use Rattle.proto_schema.specs.Faults.{IsNamed, nesting, IsTextOf}
 use Rattle.proto_schema.specs.Running.{is_enum, without_first, closed_with}
 use Rattle.proto_schema.specs.declared.fault.ProtoReason.TheVariants.{Nesting}
@@ -101,14 +102,14 @@ pub take_behind : (xs ys : List Lexeme) (z : Lexeme) → take (length xs + 1) (x
 take_behind xs ys z = take-append-add xs (z ∷ ys) 1
 
 pub opens_named : (c : Draft) (w : Word) (front rest : List Lexeme) (z : Lexeme)
-    → Says (front ++ z ∷ []) (open_message c w) → IsMark z opening_brace → length c.messages ≡ MOST_OPEN
+    → Says (front ++ z ∷ []) (open_message c w) → IsMark z opening_brace → length c.messages ≡ MAX_OPEN
     → IsNamed (front ++ z ∷ rest) (length front) Nesting
 opens_named c w front rest z s m l =
     nesting z (open_message c w) (get_behind front rest z) m (subst (λ (q : List Lexeme). Says q (open_message c w)) (sym (take_behind front rest z)) s)
     (refl, λ e. let t : ◌≡◌ {A = List ℕ} (length c.file.messages ∷ c.messages) [] = e in cc) (omega (arith, l))
 
 pub data SaysWell (front : List Lexeme) (d : Draft) (rest : List Lexeme) : Type 0 where
-  says_well : reading true (front ++ rest) ≡ run true d states.Begin rest → length d.messages ≤ MOST_OPEN
+  says_well : reading true (front ++ rest) ≡ run true d states.Begin rest → length d.messages ≤ MAX_OPEN
       → SaysWell front d rest
   says_deep : Deep (front ++ rest) (length front) → SaysWell front d rest
 
@@ -143,21 +144,21 @@ deep_run d xs (u ∷ us) z (next x {s = s} {t = t} {ys = ys} h w) k e =
     run_goes true d s t x (ys ++ xs) h ∙ deep_run d xs us z w k c
 
 one_statement : (front ys rest : List Lexeme) (c d : Draft) → Says (front ++ ys) d
-    → reading true (front ++ (ys ++ rest)) ≡ run true c states.Begin (ys ++ rest) → length c.messages ≤ MOST_OPEN
+    → reading true (front ++ (ys ++ rest)) ≡ run true c states.Begin (ys ++ rest) → length c.messages ≤ MAX_OPEN
     → StatementReads c ys d → SaysWell (front ++ ys) d rest
 one_statement front ys rest c d s r l (statement_reads v (is_shallow h) t q) =
     let e : reading true ((front ++ ys) ++ rest) ≡ run true (added c v) states.Begin rest = ap (reading true) (append_assoc front ys rest) ∙ (r ∙ run_takes true c rest t (shallow_flat true c v h)) in
-    let m : length (added c v).messages ≤ MOST_OPEN = (let a : length (added c v).messages ≤ length c.messages = added_less c v h in omega arith) in
-    says_well (e ∙ ap (λ (c : Draft). run true c states.Begin rest) q) (subst (λ (c : Draft). length c.messages ≤ MOST_OPEN) q m)
-one_statement front ys rest c d s r l (statement_reads v (opens_message us z w ev m a) t q) = by (nat_le MOST_OPEN (length c.messages)) refl
+    let m : length (added c v).messages ≤ MAX_OPEN = (let a : length (added c v).messages ≤ length c.messages = added_less c v h in omega arith) in
+    says_well (e ∙ ap (λ (c : Draft). run true c states.Begin rest) q) (subst (λ (c : Draft). length c.messages ≤ MAX_OPEN) q m)
+one_statement front ys rest c d s r l (statement_reads v (opens_message us z w ev m a) t q) = by (nat_le MAX_OPEN (length c.messages)) refl
   where
     opened : open_message c w ≡ d
     opened = ap (added c) (sym ev) ∙ q
 
-    by : (b : Bool) → nat_le MOST_OPEN (length c.messages) ≡ b → SaysWell (front ++ ys) d rest
+    by : (b : Bool) → nat_le MAX_OPEN (length c.messages) ≡ b → SaysWell (front ++ ys) d rest
     by true b =
-        let g : MOST_OPEN ≤ length c.messages = leb-true MOST_OPEN (length c.messages) b in
-        let n : length c.messages ≡ MOST_OPEN = omega arith in
+        let g : MAX_OPEN ≤ length c.messages = leb-true MAX_OPEN (length c.messages) b in
+        let n : length c.messages ≡ MAX_OPEN = omega arith in
         let p : front ++ ys ≡ (front ++ us) ++ z ∷ [] = ap (λ (l : List Lexeme). front ++ l) a ∙ sym (append_assoc front us (z ∷ [])) in
         let k : Says ((front ++ us) ++ z ∷ []) (open_message c w) = subst (λ (l : List Lexeme). Says l (open_message c w)) p (subst (λ (x : Draft). Says (front ++ ys) x) (sym opened) s) in
         let o : (front ++ us) ++ z ∷ rest ≡ (front ++ ys) ++ rest = sym (append_assoc (front ++ us) (z ∷ []) rest) ∙ ap (λ (l : List Lexeme). l ++ rest) (sym p) in
@@ -166,11 +167,11 @@ one_statement front ys rest c d s r l (statement_reads v (opens_message us z w e
         let i : length (front ++ us) < length (front ++ ys) = (let u : length ((front ++ us) ++ z ∷ []) ≡ length (front ++ us) + 1 = length-append (front ++ us) (z ∷ []) in omega (arith, ap length p)) in
         says_deep (deep_before o (omega arith) (deep (length (front ++ us)) z (opens_named c w (front ++ us) rest z k m n) i (get_behind (front ++ us) rest z) h))
     by false b =
-        let g : length c.messages < MOST_OPEN = leb-false MOST_OPEN (length c.messages) b in
+        let g : length c.messages < MAX_OPEN = leb-false MAX_OPEN (length c.messages) b in
         let f : is_too_deep true c v ≡ false = ap (is_too_deep true c) ev ∙ b in
         let e : reading true ((front ++ ys) ++ rest) ≡ run true (added c v) states.Begin rest = ap (reading true) (append_assoc front ys rest) ∙ (r ∙ run_takes true c rest t f) in
-        let m : length (open_message c w).messages ≤ MOST_OPEN = omega arith in
-        says_well (e ∙ ap (λ (c : Draft). run true c states.Begin rest) q) (subst (λ (c : Draft). length c.messages ≤ MOST_OPEN) opened m)
+        let m : length (open_message c w).messages ≤ MAX_OPEN = omega arith in
+        says_well (e ∙ ap (λ (c : Draft). run true c states.Begin rest) q) (subst (λ (c : Draft). length c.messages ≤ MAX_OPEN) opened m)
 
 pub says_well_or : {front : List Lexeme} {d : Draft} (rest : List Lexeme) → Says front d → SaysWell front d rest
 says_well_or rest (Files.start s) = says_well (syntax_read true rest s) (omega arith)
@@ -193,10 +194,10 @@ forms_well (Files.whole x {xs = front} {all = all} {d = d} s w h e) no_deep = by
 
 pub says_within : {front : List Lexeme} {d : Draft} (rest : List Lexeme) (file : File) → Says front d
     → reading true (front ++ rest) ≡ read file
-    → (run true d states.Begin rest ≡ read file) × (length d.messages ≤ MOST_OPEN)
+    → (run true d states.Begin rest ≡ read file) × (length d.messages ≤ MAX_OPEN)
 says_within {front = front} {d = d} rest file s r = by (says_well_or rest s)
   where
-    by : SaysWell front d rest → (run true d states.Begin rest ≡ read file) × (length d.messages ≤ MOST_OPEN)
+    by : SaysWell front d rest → (run true d states.Begin rest ≡ read file) × (length d.messages ≤ MAX_OPEN)
     by (says_well e l) = (sym e ∙ r, l)
     by (says_deep (deep k z n l g f)) = absurd (let t : read file ≡ failed (fault_at reasons.Nesting z.span) = sym r ∙ f in cc)
 
@@ -208,8 +209,8 @@ drop_behind (suc k) (t ∷ ts) = let r : (rest : List Lexeme) × (take k ts ++ r
 pub read_not_deep : (ts : List Lexeme) (file : File) (k : ℕ) → reading true ts ≡ read file → IsNamed ts k Nesting → ⊥
 read_not_deep ts file k r (nesting x d g m s i l) =
     let b : (rest : List Lexeme) × (take (k + 1) ts ++ rest ≡ ts) = drop_behind (k + 1) ts in
-    let w : (run true d states.Begin b.0 ≡ read file) × (length d.messages ≤ MOST_OPEN) = says_within b.0 file s (ap (reading true) b.1 ∙ r) in
-    let n : length d.messages ≤ MOST_OPEN = w.1 in
+    let w : (run true d states.Begin b.0 ≡ read file) × (length d.messages ≤ MAX_OPEN) = says_within b.0 file s (ap (reading true) b.1 ∙ r) in
+    let n : length d.messages ≤ MAX_OPEN = w.1 in
     omega (arith, l)
 
 -- ---- what comes with the limit comes without it, but for faults

@@ -9,7 +9,7 @@ use Rattle.proto_schema.specs.Lexemes.{IsMark, less, equals, opening_brace, open
 use Rattle.proto_schema.specs.Lexemes.{says_one_of}
 use Rattle.proto_schema.specs.Grammar.{MapKey, RpcType}
 use Rattle.proto_schema.specs.Files.{Draft, InFile, InMessage, InBody, a_oneof, a_service, LabelOf, Says, Forms}
-use Rattle.proto_schema.specs.Files.{MOST_OPEN}
+use Rattle.proto_schema.specs.declared.limits.TheConstants.{MAX_OPEN}
 use Rattle.proto_file.specs.declared.file.FieldLabel.{FieldLabel}
 use Rattle.proto_file.specs.declared.file.Word.{Word}
 use Rattle.proto_file.specs.declared.file.File.{File}
@@ -107,7 +107,7 @@ pub data IsNamed (ts : List Lexeme) (k : ℕ) : ProtoReason → Type 0 where
       → IsNamed ts k Syntax2
   -- the brace opens a message in 32 others: no block of the innermost message is open behind it
   nesting : (x : Lexeme) (d : Draft) → slice_get ts k ≡ Some x → IsMark x opening_brace → Says (take (k + 1) ts) d
-      → InMessage d → length d.messages ≡ MOST_OPEN + 1 → IsNamed ts k Nesting
+      → InMessage d → length d.messages ≡ MAX_OPEN + 1 → IsNamed ts k Nesting
 
 -- a token is at fault for a reason: one with a name, or else that it can't stand there
 pub data IsFault (ts : List Lexeme) (k : ℕ) : ProtoReason → Type 0 where

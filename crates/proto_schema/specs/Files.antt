@@ -281,7 +281,3 @@ IsWhole d = InFile d
 pub data Forms : List Lexeme → File → Type 0 where
   whole : (x : Lexeme) {xs all : List Lexeme} {d : Draft} → Says xs d → IsWhole d → x.means ≡ the_end
       → all ≡ xs ++ x ∷ [] → Forms all d.file
-
--- messages that are open in one another, at most
-abbrev pub MOST_OPEN : ℕ
-MOST_OPEN = 32

@@ -9,7 +9,8 @@ use Rattle.proto_schema.specs.Lexemes.{Meaning, identifier, string, mark, the_en
 use Rattle.proto_schema.specs.Lexemes.{opening_brace, closing_brace, word_at}
 use Rattle.proto_schema.specs.Files.{Draft, Block, no_block, a_oneof, an_enum, a_service, an_rpc, with_file, with_block}
 use Rattle.proto_schema.specs.Files.{in_message, in_enum, open_message, open_enum, open_service, open_oneof, add_field}
-use Rattle.proto_schema.specs.Files.{add_rpc, nothing_said, MOST_OPEN}
+use Rattle.proto_schema.specs.Files.{add_rpc, nothing_said}
+use Rattle.proto_schema.specs.declared.limits.TheConstants.{MAX_OPEN}
 use Rattle.proto_schema.specs.Faults.{is_no_token}
 use Rattle.proto_schema.specs.Reading.{fault_at, unexpected, wrong, if_name, is_mark, full_step, option_step}
 use Rattle.proto_schema.specs.Reading.{next_option, field_step, reserved_step, value_step, rpc_step, option_depth}
@@ -318,7 +319,7 @@ is_end m = false
 
 -- whether a statement opens a message in as many others as may be open
 abbrev pub is_too_deep : Bool → Draft → Said → Bool
-is_too_deep limited d (said.Open openings.Message w) = limited && nat_le MOST_OPEN (length d.messages)
+is_too_deep limited d (said.Open openings.Message w) = limited && nat_le MAX_OPEN (length d.messages)
 is_too_deep limited d s = false
 
 -- what comes of the tokens behind, by what a token does

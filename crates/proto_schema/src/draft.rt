@@ -1,11 +1,13 @@
 //! What the statements so far say.
 
 ghost use Rattle.std.specs.Prelude.{◌≡◌, ◌∷◌, ◌++◌, [], OnOk, length, nat_le, slice_get};
-ghost use Rattle.proto_schema.specs.Files.{edit, first_of, oneofs_of, nothing_said, MOST_OPEN};
+ghost use Rattle.proto_schema.specs.Files.{edit, first_of, oneofs_of, nothing_said};
 ghost use Rattle.proto_schema.specs.Running.{draft_of, place_of, added};
+ghost use Rattle.proto_schema.specs.declared.limits.TheConstants.{MAX_OPEN};
 ghost use Rattle.proto_schema.specs.declared.statement.Opening.TheVariants as openings;
 ghost use Rattle.proto_schema.specs.declared.statement.Said.TheVariants as said;
 
+use crate::limits::MAX_OPEN;
 use crate::statement::{Opening, Place, Said};
 use mrpc_table::{Memory, Sequence};
 use proto_file::{
@@ -14,9 +16,6 @@ use proto_file::{
 };
 use std::alloc::Global;
 use std::mem;
-
-/// How deep messages nest at most.
-pub const MAX_OPEN: usize = 32;
 
 /// The block that is open in the file, or in the innermost open message.
 #[derive(Clone, Copy)]
@@ -198,9 +197,9 @@ impl Draft {
         }
     }
 
-    /// Whether a message can't be opened, since 32 are open.
+    /// Whether a message can't be opened, since `MAX_OPEN` are open.
     pub fn is_deep(&self) -> bool
-        ensures { result ≡ nat_le MOST_OPEN (length (draft_of self.now).messages) }
+        ensures { result ≡ nat_le MAX_OPEN (length (draft_of self.now).messages) }
     {
         self.nested.len() >= MAX_OPEN
     }

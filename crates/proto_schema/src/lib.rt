@@ -17,6 +17,7 @@ mod fault;
 mod field;
 mod laws;
 mod lexeme;
+mod limits;
 mod name;
 mod option;
 mod read;
@@ -30,4 +31,5 @@ pub use fault::{ProtoFault, ProtoReason};
 pub use laws::{
     alone_is_ordered, file_is_ordered, file_is_within, file_or_fault, one_fault, one_file,
 };
+pub use limits::MAX_OPEN;
 pub use read::read_proto;

@@ -1,4 +1,5 @@
 ghost use Rattle.std.specs.Prelude.{◌≡◌, ◌≤◌, [], IfOk};
+ghost use Rattle.mrpc_base.specs.declared.tickets.TheConstants.{WINDOWS};
 ghost use Rattle.tenant_quota.specs.Drawing.{all_shares};
 
 use crate::seat::Seat;
@@ -9,7 +10,7 @@ use std::sync::Arc;
 /// Opens a quota of `windows` windows, from which nothing was drawn. Its one seat has all shares.
 pub fn open(alloc: Global, windows: u64) -> Result<Seat, AllocError>
     requires at_least { 1 ≤ windows }
-    requires at_most { windows ≤ 1024 }
+    requires at_most { windows ≤ WINDOWS }
 
     ensures windows { IfOk result (λ seat. seat.quota.words ≡ windows) }
     ensures undrawn { IfOk result (λ seat. seat.draws ≡ []) }

@@ -14,13 +14,14 @@ pub struct Seats {
 
 impl Model for Seats {
     ghost use Rattle.std.specs.Prelude.{◌≡◌, List, All};
+    ghost use Rattle.mrpc_base.specs.declared.tickets.TheConstants.{WINDOWS};
     ghost use Rattle.tenant_quota.specs.Drawing.{Drawing};
 
     ghost Value = { List Drawing };
 
     ghost view = { λ s. s.seats.items };
 
-    ghost invariant = { λ s. All (λ d. d.quota.words ≡ 1024) s.seats.items };
+    ghost invariant = { λ s. All (λ d. d.quota.words ≡ WINDOWS) s.seats.items };
 }
 
 impl Seats {
@@ -35,7 +36,7 @@ impl Seats {
 
     /// Adds the seat of the next tenant.
     pub fn push(&mut self, seat: Seat) -> Result<(), AllocError>
-        requires { seat.quota.words ≡ 1024 }
+        requires { seat.quota.words ≡ WINDOWS }
         ensures pushed { OnOk result (self.new ≡ self.old ++ seat ∷ []) }
         ensures same { OnErr result (self.new ≡ self.old) }
     {

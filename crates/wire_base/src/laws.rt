@@ -4,6 +4,7 @@ ghost use Rattle.std.specs.Prelude.{◌≡◌, ◌⊎◌, ℕ, ◌+◌, ◌<◌,
 ghost use Rattle.wire_base.specs.Encoding.{varint};
 ghost use Rattle.wire_base.specs.Records.{VarintAt, PayloadAt, NoPayloadAt, IsWireType, RecordAt, FaultAt, AreRecords, HasFirstFault};
 ghost use Rattle.wire_base.specs.declared.records.Payload.{Payload};
+ghost use Rattle.wire_base.specs.declared.varint.TheConstants.{MAX_VARINT};
 ghost use Rattle.wire_base.specs.declared.records.Record.{Record};
 ghost use Rattle.wire_base.specs.declared.fault.WireReason.{WireReason};
 ghost use Rattle.wire_base.specs.declared.fault.WireFault.{WireFault};
@@ -11,7 +12,7 @@ ghost use Rattle.wire_base.specs.declared.fault.WireFault.{WireFault};
 /// The shortest varint of a number has one to ten bytes, and is read as the number wherever it stands.
 pub fn varint_is_read_back()
     ensures some { (v : ℕ) → 1 ≤ length (varint v) }
-    ensures ten { (v : ℕ) → length (varint v) ≤ 10 }
+    ensures ten { (v : ℕ) → length (varint v) ≤ MAX_VARINT }
     ensures read { (before after : List ℕ) (v : ℕ) → v < 2 ^ 64
         → VarintAt (before ++ (varint v ++ after)) (length before) v (length before + length (varint v)) }
 {}

@@ -17,18 +17,19 @@ pub const MAX_VARINT: usize = 10;
 /// The shortest varint of a number. Clauses see its bytes.
 #[derive(Debug, Drop)]
 pub struct Spelling {
-    bytes: [u8; 10],
+    bytes: [u8; MAX_VARINT],
     len: usize,
 }
 
 impl Model for Spelling {
     ghost use Rattle.std.specs.Prelude.{ℕ, List, ◌≤◌, take};
+    ghost use Rattle.wire_base.specs.declared.varint.TheConstants.{MAX_VARINT};
 
     ghost Value = { List ℕ };
 
     ghost view = { λ s. take s.len s.bytes };
 
-    ghost invariant = { λ s. s.len ≤ 10 };
+    ghost invariant = { λ s. s.len ≤ MAX_VARINT };
 }
 
 impl Spelling {
@@ -38,9 +39,9 @@ impl Spelling {
         ensures read { IsVarint result v }
         ensures shortest { (bytes : List ℕ) → IsVarint bytes v → length result ≤ length bytes }
     {
-        let mut bytes = [0u8; 10];
+        let mut bytes = [0u8; MAX_VARINT];
         let mut rest = v;
-        for place in 0..9 {
+        for place in 0..MAX_VARINT - 1 {
             if rest < 128 {
                 bytes[place] = rest as u8;
                 return Spelling {
@@ -51,8 +52,11 @@ impl Spelling {
             bytes[place] = (rest % 128) as u8 + 128;
             rest /= 128;
         }
-        bytes[9] = rest as u8;
-        Spelling { bytes, len: 10 }
+        bytes[MAX_VARINT - 1] = rest as u8;
+        Spelling {
+            bytes,
+            len: MAX_VARINT,
+        }
     }
 
     /// The bytes of the varint.
