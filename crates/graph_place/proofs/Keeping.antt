@@ -2,10 +2,10 @@
 use Rattle.std.proofs.Common.{◌≡◌, ◌⊎◌, ℕ, ◌+◌, ◌<◌, ◌≤◌, Bool, true, false, cond, ◌||◌, ◌==◌, List, Option, Some, None, refl, sym, ap, subst, ◌∙◌, arith, inl, inr}
 use Rattle.std.proofs.lemmas.Bool.{eq-eqb, ne_eqb, lt-ltb, le-ltb, cases_Bool, cases_lt, or_right}
 use Rattle.std.proofs.lemmas.Bool.Decides.{eqb_tells}
+use Rattle.mrpc_table.specs.Normal.{kind_at}
 use Rattle.mrpc_table.specs.Node.{Node, no_fields, field, Content, content_at, NumbersAscend}
 use Rattle.mrpc_table.specs.declared.table.Field.{Field}
 use Rattle.mrpc_table.specs.declared.table.Table.{Table}
-use Rattle.graph_form.specs.Roles.{member_kind}
 use Rattle.graph_form.specs.Forgotten.{insert_field, with_field}
 use Rattle.graph_place.specs.Laid.{keep, found_words}
 use Rattle.graph_place.specs.Size.{fields_words, content_words}
@@ -113,7 +113,7 @@ keep_step p q m last (field n c t) up h without =
           ]
     ]
 
-insert_words : (T : Table) (fs : List Field) (m : ℕ) (c : Content) (t : Node) → fields_words T fs (insert_field m c t) ≡ content_words T (member_kind fs m) c + fields_words T fs t
+insert_words : (T : Table) (fs : List Field) (m : ℕ) (c : Content) (t : Node) → fields_words T fs (insert_field m c t) ≡ content_words T (kind_at fs m) c + fields_words T fs t
 insert_words T fs m c no_fields = refl
 insert_words T fs m c (field n d t) =
     elim (cases_lt m n) [
@@ -124,6 +124,6 @@ insert_words T fs m c (field n d t) =
           omega (arith, moved, rest)
     ]
 
-pub with_words : (T : Table) (fs : List Field) (m : ℕ) (o : Option Content) (t : Node) → fields_words T fs (with_field m o t) ≡ found_words T (member_kind fs m) o + fields_words T fs t
+pub with_words : (T : Table) (fs : List Field) (m : ℕ) (o : Option Content) (t : Node) → fields_words T fs (with_field m o t) ≡ found_words T (kind_at fs m) o + fields_words T fs t
 with_words T fs m None t = omega arith
 with_words T fs m (Some c) t = insert_words T fs m c t

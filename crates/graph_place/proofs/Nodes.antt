@@ -2,14 +2,14 @@
 use Rattle.std.proofs.Common.{◌≡◌, ◌≢◌, ℕ, suc, ◌+◌, ◌-◌, ◌*◌, ◌<◌, ◌≤◌, ◌^◌, Bool, true, false, cond, List, [], ◌∷◌, ◌++◌, length, drop, get_or, Some, sym, ap, subst, ◌∙◌, arith, inl, inr}
 use Rattle.std.proofs.lemmas.Bool.{cases_Bool}
 use Rattle.mrpc_table.specs.Node.{Node, no_fields, field, Content, one, many, pairs, Item, content_at}
-use Rattle.mrpc_table.specs.Normal.{fields_of, field_at, HasFields, OneMemberEach, TakesMany, IsItem, depth, item_depth}
+use Rattle.mrpc_table.specs.Normal.{fields_of, field_at, HasFields, OneMemberEach, TakesMany, IsItem, depth, item_depth, kind_at}
 use Rattle.mrpc_table.specs.Valid.{IsValid, IsField}
 use Rattle.mrpc_table.specs.declared.table.Kind.{Kind}
 use Rattle.mrpc_table.specs.declared.table.Label.{Label}
 use Rattle.mrpc_table.specs.declared.table.Label.TheVariants.{Map, Member}
 use Rattle.mrpc_table.specs.declared.table.Field.{Field}
 use Rattle.mrpc_table.specs.declared.table.Table.{Table}
-use Rattle.graph_form.specs.Roles.{Expected, slot_role, case_word, slots_from, cases_from, own_slots, oneofs_of, size_words, is_member, member_kind}
+use Rattle.graph_form.specs.Roles.{Expected, slot_role, case_word, slots_from, cases_from, own_slots, oneofs_of, size_words, is_member}
 use Rattle.graph_form.specs.Forgotten.{with_field, slots_tree, slot_content, with_member}
 use Rattle.graph_place.specs.Content.{is_member_of, member_of}
 use Rattle.graph_place.specs.Laid.{Puts, PutsWord, Begun, keep, is_member_at, members, found_words, IsMemberOf}
@@ -122,7 +122,7 @@ pub record CaseFits (T : Table) (fs : List Field) (t : Node) (member place free 
   pub known : (oneof : ℕ) × IsMemberOf fs oneof t member
   pub from : 1 ≤ place
   pub slot : place + 3 ≤ free
-  pub room : free + found_words T (member_kind fs member) (content_at t member) < 2 ^ 64
+  pub room : free + found_words T (kind_at fs member) (content_at t member) < 2 ^ 64
 
 tells : (T : Table) (fs : List Field) (o : ℕ) (t : Node) (member : ℕ) → HasFields T fs 0 t → OneMemberEach fs t → member ≡ member_of fs o 0 t → Tells fs o t member
 tells T fs o t member has few is = subst (Tells fs o t) (sym is) (member_tells fs o t (fields_ascend T fs 0 t has) (few o))
@@ -143,7 +143,7 @@ case_fits T fs t all at c before o place free member now has few from slots room
     }
 
 pub cases_step : (T : Table) (fs : List Field) (t : Node) (all at c : ℕ) (before : Loads) (o place next free free2 member : ℕ) (now now2 : Loads) → HasFields T fs 0 t → OneMemberEach fs t → at + 3 * all ≤ c → o < all
-    → member ≡ member_of fs o 0 t → next ≡ place + 3 → CasesOn T fs t all at c before o (all - o) place free now → free2 ≡ free + found_words T (member_kind fs member) (content_at t member) → CasePut T fs t member place free now free2 now2
+    → member ≡ member_of fs o 0 t → next ≡ place + 3 → CasesOn T fs t all at c before o (all - o) place free now → free2 ≡ free + found_words T (kind_at fs member) (content_at t member) → CasePut T fs t member place free now free2 now2
     → CasesOn T fs t all at c before (o + 1) (all - (o + 1)) next free2 now2
 cases_step T fs t all at c before o place next free free2 member now now2 has few slots more is step on size puts =
     let left : all - o ≡ suc (all - (o + 1)) = omega (arith, more) in
@@ -164,9 +164,9 @@ case_none T fs t member place c d before next none slot size put = λ H level on
 
 -- a member
 pub case_some : (T : Table) (fs : List Field) (t : Node) (member place c mid_free d : ℕ) (i : Item) (before mid next : Loads) → member ≢ 0 → member < 2 ^ 64 → content_at t member ≡ Some (one i) → place + 3 ≤ c → mid_free ≡ c → c ≤ d
-    → mid ≡ before ++ (place, member) ∷ [] → ItemPut T (member_kind fs member) i (place + 1) mid_free mid d next → CasePut T fs t member place c before d next
+    → mid ≡ before ++ (place, member) ∷ [] → ItemPut T (kind_at fs member) i (place + 1) mid_free mid d next → CasePut T fs t member place c before d next
 case_some T fs t member place c mid_free d i before mid next some small found slot same grown put puts = λ H level oneof within deep known.
-    let there : ItemPut T (member_kind fs member) i (place + 1) c mid d next = subst (λ e. ItemPut T (member_kind fs member) i (place + 1) e mid d next) same puts in
+    let there : ItemPut T (kind_at fs member) i (place + 1) c mid d next = subst (λ e. ItemPut T (kind_at fs member) i (place + 1) e mid d next) same puts in
     let low : item_depth i ≤ depth t = content_within member (one i) t found in
     some_case T H fs oneof level place c d member t i before mid next some small found (known.there some).2 slot grown put (there H level true within (omega (arith, deep, low)))
 
@@ -199,7 +199,7 @@ some_member T fs t o n has known some none =
     none found.0 found.1
 
 -- the value of a field is of its kind
-pub one_item : (T : Table) (fs : List Field) (t : Node) (n : ℕ) (i : Item) → HasFields T fs 0 t → content_at t n ≡ Some (one i) → IsItem T (member_kind fs n) i
+pub one_item : (T : Table) (fs : List Field) (t : Node) (n : ℕ) (i : Item) → HasFields T fs 0 t → content_at t n ≡ Some (one i) → IsItem T (kind_at fs n) i
 one_item T fs t n i has at =
     let h = content_has T fs 0 n (one i) t has at in
     subst (λ k. IsItem T k i) (sym (kind_is fs n h.0 h.1)) h.3

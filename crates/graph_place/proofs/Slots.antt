@@ -4,11 +4,11 @@ use Rattle.std.specs.Prelude.{option_map, unwrap_or}
 use Rattle.std.specs.List.{AllByRecursion}
 use Rattle.std.proofs.lemmas.Bool.{eq-eqb, ne_eqb, or_from, cases_Bool}
 use Rattle.mrpc_table.specs.Node.{Node, no_fields, one, Item, content_at, NumbersAscend}
-use Rattle.mrpc_table.specs.Normal.{fields_of, field_at, HasFields, depth}
+use Rattle.mrpc_table.specs.Normal.{fields_of, field_at, HasFields, depth, kind_at}
 use Rattle.mrpc_table.specs.declared.table.Kind.TheVariants.{Uint64}
 use Rattle.mrpc_table.specs.declared.table.Field.{Field}
 use Rattle.mrpc_table.specs.declared.table.Table.{Table}
-use Rattle.graph_form.specs.Roles.{Expected, behind, plain_role, slot_role, case_word, slots_from, cases_from, node_words, own_slots, oneofs_of, size_words, is_member, member_kind, element_words}
+use Rattle.graph_form.specs.Roles.{Expected, behind, plain_role, slot_role, case_word, slots_from, cases_from, node_words, own_slots, oneofs_of, size_words, is_member, element_words}
 use Rattle.graph_form.specs.Placed.{word}
 use Rattle.graph_form.specs.Forgotten.{with_field, slots_tree, slot_content, with_member, tree_of}
 use Rattle.graph_place.specs.Content.{is_member_of}
@@ -112,7 +112,7 @@ left_next fs f rest t up found fails ascend =
     (each_always (λ n. is_left fs (f ∷ own_slots rest) n ≡ (is_left fs (own_slots rest) n || f.number == n)) t (left_step fs (own_slots rest) f))
     (or_from (is_member_at fs f.number) (has_number (own_slots rest) f.number) (member_at fs f.number f found ∙ fails) (no_number f.number rest (above f rest ascend)))
 
-pub kind_is : (fs : List Field) (n : ℕ) (f : Field) → field_at fs n ≡ Some f → member_kind fs n ≡ f.kind
+pub kind_is : (fs : List Field) (n : ℕ) (f : Field) → field_at fs n ≡ Some f → kind_at fs n ≡ f.kind
 kind_is fs n f at = ap (λ o. unwrap_or (option_map (λ x. x.kind) o) Uint64) at
 
 -- the words behind the slot of the next field are among those that are left
@@ -215,13 +215,13 @@ behind_next fs o left m t up (tells_one some sole) =
     (not_behind fs o left m sole.is)
 
 pub next_case_words : (T : Table) (fs : List Field) (t : Node) (all at c : ℕ) (before : Loads) (o left place free m : ℕ) (now : Loads) → NumbersAscend 0 t → Tells fs o t m → CasesOn T fs t all at c before o (suc left) place free now
-    → free + (found_words T (member_kind fs m) (content_at t m) + fields_words T fs (Behind fs (o + 1) left t)) ≡ c + fields_words T fs (members fs t)
+    → free + (found_words T (kind_at fs m) (content_at t m) + fields_words T fs (Behind fs (o + 1) left t)) ≡ c + fields_words T fs (members fs t)
 next_case_words T fs t all at c before o left place free m now up tells r =
     let sum = ap (fields_words T fs) (behind_next fs o left m t up tells) ∙ with_words T fs m (content_at t m) (Behind fs (o + 1) left t) in
     ap (λ n. free + n) (sym sum) ∙ r.free_is
 
 pub cases_more : (T : Table) (fs : List Field) (t : Node) (all at c : ℕ) (before : Loads) (o left place free free2 m : ℕ) (now now2 : Loads) → NumbersAscend 0 t → Tells fs o t m → at + 3 * all ≤ c
-    → CasesOn T fs t all at c before o (suc left) place free now → free2 ≡ free + found_words T (member_kind fs m) (content_at t m)
+    → CasesOn T fs t all at c before o (suc left) place free now → free2 ≡ free + found_words T (kind_at fs m) (content_at t m)
     → ((H level : ℕ) → free2 ≤ H → level + depth t ≤ 33 → PutsWord T H (case_word fs o level, place) (place + 3) free free2 now now2 (λ w. (u : Node) → with_member T fs w u ≡ with_field m (content_at t m) u))
     → CasesOn T fs t all at c before (o + 1) left (place + 3) free2 now2
 cases_more T fs t all at c before o left place free free2 m now now2 up tells room r size puts =
@@ -263,16 +263,16 @@ no_case T H fs o level place c m t before after is none slot put =
 
 pub some_case : (T : Table) (H : ℕ) (fs : List Field) (o level place c d m : ℕ) (t : Node) (i : Item) (before mid next : Loads) → m ≢ 0 → m < 2 ^ 64 → content_at t m ≡ Some (one i) → is_member_of fs o m ≡ true → place + 3 ≤ c → c ≤ d
     → mid ≡ before ++ (place, m) ∷ []
-    → PutsWord T H (plain_role (member_kind fs m) level true, place + 1) (place + 1 + element_words (member_kind fs m)) c d mid next (HoldsItem T (member_kind fs m) i)
+    → PutsWord T H (plain_role (kind_at fs m) level true, place + 1) (place + 1 + element_words (kind_at fs m)) c d mid next (HoldsItem T (kind_at fs m) i)
     → PutsWord T H (case_word fs o level, place) (place + 3) c d before next (λ w. (u : Node) → with_member T fs w u ≡ with_field m (content_at t m) u)
 some_case T H fs o level place c d m t i before mid next some small found member slot cd put puts =
-    let wide = narrow (member_kind fs m) in
-    let inner : Puts T H ((plain_role (member_kind fs m) level true, place + 1) ∷ []) (place + 1) (place + 3) c d mid next (λ P. (u : Node) → with_member T fs (word place m P) u ≡ with_field m (content_at t m) u)
-    = one_put T H (plain_role (member_kind fs m) level true, place + 1) (place + 3) c d mid next (HoldsItem T (member_kind fs m) i) (λ P. (u : Node) → with_member T fs (word place m P) u ≡ with_field m (content_at t m) u)
-    (word_wide T H (plain_role (member_kind fs m) level true, place + 1) (place + 1 + element_words (member_kind fs m)) (place + 3) c d mid next (HoldsItem T (member_kind fs m) i) (HoldsItem T (member_kind fs m) i) (omega (arith, wide)) puts (λ w holds. holds))
+    let wide = narrow (kind_at fs m) in
+    let inner : Puts T H ((plain_role (kind_at fs m) level true, place + 1) ∷ []) (place + 1) (place + 3) c d mid next (λ P. (u : Node) → with_member T fs (word place m P) u ≡ with_field m (content_at t m) u)
+    = one_put T H (plain_role (kind_at fs m) level true, place + 1) (place + 3) c d mid next (HoldsItem T (kind_at fs m) i) (λ P. (u : Node) → with_member T fs (word place m P) u ≡ with_field m (content_at t m) u)
+    (word_wide T H (plain_role (kind_at fs m) level true, place + 1) (place + 1 + element_words (kind_at fs m)) (place + 3) c d mid next (HoldsItem T (kind_at fs m) i) (HoldsItem T (kind_at fs m) i) (omega (arith, wide)) puts (λ w holds. holds))
     (λ w holds. λ u. ap (λ j. with_field m (Some (one j)) u) holds.item ∙ ap (λ x. with_field m x u) (sym found)) in
-    let behind_is : behind T (case_word fs o level) place m ≡ (plain_role (member_kind fs m) level true, place + 1) ∷ []
-    = ap (λ b. cond b [] ((plain_role (member_kind fs m) level true, place + 1) ∷ [])) (ne_eqb m 0 some) in
+    let behind_is : behind T (case_word fs o level) place m ≡ (plain_role (kind_at fs m) level true, place + 1) ∷ []
+    = ap (λ b. cond b [] ((plain_role (kind_at fs m) level true, place + 1) ∷ [])) (ne_eqb m 0 some) in
     word_put T H (case_word fs o level) place m (place + 3) c d before mid next (λ P. (u : Node) → with_member T fs (word place m P) u ≡ with_field m (content_at t m) u) (λ w. (u : Node) → with_member T fs w u ≡ with_field m (content_at t m) u)
     (omega arith) slot cd small (fine_case T H fs o level m (λ _. member_found fs o m member)) put
     (subst (λ es. Puts T H es (place + 1) (place + 3) c d mid next (λ P. (u : Node) → with_member T fs (word place m P) u ≡ with_field m (content_at t m) u)) (sym behind_is) inner)

@@ -3,14 +3,14 @@
 ghost use Rattle.std.specs.Prelude.{◌≡◌, ◌≢◌, ◌≤◌, ◌<◌, ◌+◌, ◌*◌, ◌^◌, ℕ, Bool, true, false, List, [], ◌∷◌, ◌++◌, length, IfOk, OnOk, Some};
 ghost use Rattle.std.specs.Str.{IsUtf8};
 ghost use Rattle.mrpc_table.specs.Node.{Node, one, content_at};
-ghost use Rattle.mrpc_table.specs.Normal.{fields_of, field_at, HasFields, OneMemberEach, IsItem, AreItems, ArePairs, depth, content_depth, item_depth, items_depth, pairs_depth};
+ghost use Rattle.mrpc_table.specs.Normal.{fields_of, field_at, HasFields, OneMemberEach, IsItem, AreItems, ArePairs, depth, content_depth, item_depth, items_depth, pairs_depth, kind_at};
 ghost use Rattle.mrpc_table.specs.Valid.{IsValid, IsField};
 ghost use Rattle.mrpc_table.specs.View.{item_of, items_of, pairs_of, content_of};
 ghost use Rattle.mrpc_table.specs.declared.limits.TheConstants.{MAX_DEPTH};
 ghost use Rattle.mrpc_table.specs.declared.table.Kind.{Kind};
 ghost use Rattle.mrpc_table.specs.declared.table.Field.{Field};
 ghost use Rattle.mrpc_table.specs.declared.table.Table.{Table};
-ghost use Rattle.graph_form.specs.Roles.{Expected, elements_address, entries_address, case_word, plain_role, optional_role, slot_role, slots_from, cases_from, node_words, own_slots, oneofs_of, is_member, member_kind, element_words, run_words};
+ghost use Rattle.graph_form.specs.Roles.{Expected, elements_address, entries_address, case_word, plain_role, optional_role, slot_role, slots_from, cases_from, node_words, own_slots, oneofs_of, is_member, element_words, run_words};
 ghost use Rattle.graph_form.specs.Forgotten.{run_at, slot_content, slots_tree, with_field, with_member, elements_at, entries_at, tree_of};
 ghost use Rattle.graph_place.specs.Laid.{Puts, PutsWord, Begun, HoldsItem, members, found_words, listed, IsMemberOf, HoldsContent, run_words_of, NoMessage, run_expected, HasBytes};
 ghost use Rattle.graph_place.specs.Size.{tree_words, fields_words, content_words, item_words, many_words, pairs_words};
@@ -195,10 +195,10 @@ impl Builder {
         requires from_one { 1 ≤ place }
         requires slot { place + 3 ≤ self.old.free }
         requires room { self.old.free
-            + found_words table.now (member_kind (fields_of table.now message) member) (content_at tree.now member)
+            + found_words table.now (kind_at (fields_of table.now message) member) (content_at tree.now member)
             < 2 ^ 64 }
         ensures free { OnOk result (self.new.free ≡ self.old.free
-            + found_words table.now (member_kind (fields_of table.now message) member) (content_at tree.now member)) }
+            + found_words table.now (kind_at (fields_of table.now message) member) (content_at tree.now member)) }
         ensures puts { OnOk result ((H level oneof : ℕ) → self.new.free ≤ H → level + depth tree.now ≤ MAX_DEPTH + 1
             → IsMemberOf (fields_of table.now message) oneof tree.now member
             → PutsWord table.now H (case_word (fields_of table.now message) oneof level, place)

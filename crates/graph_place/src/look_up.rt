@@ -2,13 +2,12 @@
 
 ghost use Rattle.std.specs.Prelude.{◌≡◌, ◌≢◌, ◌<◌, ◌*◌, ℕ, length, IfNone, IfSome, Some, None, slice_index, if◌then◌else◌};
 ghost use Rattle.mrpc_table.specs.Node.{Item, one, content_at, NumbersAscend};
-ghost use Rattle.mrpc_table.specs.Normal.{fields_of};
+ghost use Rattle.mrpc_table.specs.Normal.{fields_of, kind_at};
 ghost use Rattle.mrpc_table.specs.Valid.{IsValid};
 ghost use Rattle.mrpc_table.specs.View.{item_of};
 ghost use Rattle.mrpc_table.specs.declared.limits.TheConstants.{MAX_FIELDS};
 ghost use Rattle.mrpc_table.specs.declared.table.Label.TheVariants.{Member};
 ghost use Rattle.mrpc_table.specs.Weight.{weight, item_weight};
-ghost use Rattle.graph_form.specs.Roles.{member_kind};
 ghost use Rattle.graph_place.specs.Content.{is_of, is_member_of, member_of};
 
 use mrpc_table::{FieldValue, Kind, Label, MAX_FIELDS, Table, Tree, Value};
@@ -16,7 +15,7 @@ use mrpc_table::{FieldValue, Kind, Label, MAX_FIELDS, Table, Tree, Value};
 /// The kind of the field of a number in the message at a place of the table.
 pub fn kind_of(table: &Table, message: u32, number: u32) -> Kind
     requires { IsValid table.now }
-    ensures { result ≡ member_kind (fields_of table.now message) number }
+    ensures { result ≡ kind_at (fields_of table.now message) number }
 {
     match table.field(message, number) {
         Some(field) => field.kind,

@@ -4,13 +4,13 @@ use Rattle.std.proofs.lemmas.Bool.{true≢false}
 use Rattle.std.proofs.lemmas.List.{drop_all}
 use Rattle.std.proofs.lemmas.Result.{on_ok_weaker}
 use Rattle.mrpc_table.specs.Node.{one}
-use Rattle.mrpc_table.specs.Normal.{fields_of, IsItem}
+use Rattle.mrpc_table.specs.Normal.{fields_of, IsItem, kind_at}
 use Rattle.mrpc_table.specs.View.{item_of, items_of, pairs_of, content_of}
 use Rattle.mrpc_table.specs.Words.{key_kind}
 use Rattle.mrpc_table.specs.Weight.{weight, content_weight, item_weight, items_weight, pairs_weight}
 use Rattle.mrpc_table.specs.declared.tree.FieldValue.{FieldValue}
 use Rattle.mrpc_table.specs.declared.tree.Value.{Value}
-use Rattle.graph_form.specs.Roles.{oneofs_of, is_member, member_kind, run_words}
+use Rattle.graph_form.specs.Roles.{oneofs_of, is_member, run_words}
 use Rattle.graph_place.specs.Laid.{is_member_at}
 use Rattle.graph_place.specs.Size.{item_words, content_words, many_words, pairs_words}
 use Rattle.graph_place.specs.declared.builder.Builder.{Builder}
@@ -28,7 +28,7 @@ use Rattle.graph_place.proofs.builder.Builder.+builder.Goals as goal
 
 pub case-returns-then-member-eq0-clause-free : goal.case-returns-then-member-eq0-clause-free
 case-returns-then-member-eq0-clause-free t c =
-    let none = found_none c.args.table.now (member_kind (fields_of c.args.table.now c.args.message) c.args.member) c.args.member c.args.tree.now (c.requires.member.1.some c.if-member-eq0.true) in
+    let none = found_none c.args.table.now (kind_at (fields_of c.args.table.now c.args.message) c.args.member) c.args.member c.args.tree.now (c.requires.member.1.some c.if-member-eq0.true) in
     omega (arith, none, c.put.ensures.free)
 
 pub case-returns-then-member-eq0-clause-puts : goal.case-returns-then-member-eq0-clause-puts
@@ -41,16 +41,16 @@ case-value_of-requires t c =
 
 pub case-item-requires : goal.case-item-requires
 case-item-requires t c =
-    let found = found_there c.args.table.now (member_kind (fields_of c.args.table.now c.args.message) c.args.member) c.args.member c.args.tree.now (one (item_of c.in-Some.value.now)) c.in-Some.ensures.some in
-    let kind : item_words c.args.table.now c.kind_of.result (item_of c.in-Some.value.now) ≡ item_words c.args.table.now (member_kind (fields_of c.args.table.now c.args.message) c.args.member) (item_of c.in-Some.value.now) = ap (λ k. item_words c.args.table.now k (item_of c.in-Some.value.now)) c.kind_of.ensures in
+    let found = found_there c.args.table.now (kind_at (fields_of c.args.table.now c.args.message) c.args.member) c.args.member c.args.tree.now (one (item_of c.in-Some.value.now)) c.in-Some.ensures.some in
+    let kind : item_words c.args.table.now c.kind_of.result (item_of c.in-Some.value.now) ≡ item_words c.args.table.now (kind_at (fields_of c.args.table.now c.args.message) c.args.member) (item_of c.in-Some.value.now) = ap (λ k. item_words c.args.table.now k (item_of c.in-Some.value.now)) c.kind_of.ensures in
     let wide = narrow c.kind_of.result in
     let item = subst (λ k. IsItem c.args.table.now k (item_of c.in-Some.value.now)) (sym c.kind_of.ensures) (one_item c.args.table.now (fields_of c.args.table.now c.args.message) c.args.tree.now c.args.member (item_of c.in-Some.value.now) c.requires.fields c.in-Some.ensures.some) in
     (omega (arith, c.in-Some.ensures.less, c.decreases), (c.requires.valid, (item, (omega arith, (omega (arith, wide, c.requires.slot, c.put.ensures.free), omega (arith, found, kind, c.requires.room, c.put.ensures.free))))))
 
 pub case-returns-in-Some-clause-free : goal.case-returns-in-Some-clause-free
 case-returns-in-Some-clause-free t c =
-    let found = found_there c.args.table.now (member_kind (fields_of c.args.table.now c.args.message) c.args.member) c.args.member c.args.tree.now (one (item_of c.in-Some.value.now)) c.in-Some.ensures.some in
-    let kind : item_words c.args.table.now c.kind_of.result (item_of c.in-Some.value.now) ≡ item_words c.args.table.now (member_kind (fields_of c.args.table.now c.args.message) c.args.member) (item_of c.in-Some.value.now) = ap (λ k. item_words c.args.table.now k (item_of c.in-Some.value.now)) c.kind_of.ensures in
+    let found = found_there c.args.table.now (kind_at (fields_of c.args.table.now c.args.message) c.args.member) c.args.member c.args.tree.now (one (item_of c.in-Some.value.now)) c.in-Some.ensures.some in
+    let kind : item_words c.args.table.now c.kind_of.result (item_of c.in-Some.value.now) ≡ item_words c.args.table.now (kind_at (fields_of c.args.table.now c.args.message) c.args.member) (item_of c.in-Some.value.now) = ap (λ k. item_words c.args.table.now k (item_of c.in-Some.value.now)) c.kind_of.ensures in
     on_ok_weaker c.item.result (λ size. omega (arith, size, found, kind, c.put.ensures.free)) c.item.ensures.free
 
 pub case-returns-in-Some-clause-puts : goal.case-returns-in-Some-clause-puts
