@@ -1,12 +1,7 @@
 -- What a tree has at the end of a path (Protocol Buffers, "Field Presence").
-use Rattle.std.specs.Prelude.{ℕ, ◌<◌, ◌==◌, if◌then◌else◌, List, [], ◌∷◌, Option, Some, None, option_and_then}
-use Rattle.mrpc_table.specs.Node.{Node, no_fields, field, Content, one, Item, node}
+use Rattle.std.specs.Prelude.{ℕ, ◌<◌, List, [], ◌∷◌, Option, Some, None, option_and_then}
+use Rattle.mrpc_table.specs.Node.{Node, no_fields, field, Content, one, Item, node, content_at}
 use Rattle.field_path.specs.declared.path.Path.{Path}
-
--- what a tree has under a number
-abbrev pub content_under : Node → ℕ → Option Content
-content_under no_fields n = None
-content_under (field m c t) n = if m == n then Some c else content_under t n
 
 -- one value, and the message that it is
 abbrev pub item_in : Content → Option Item
@@ -19,7 +14,7 @@ message_in _ = None
 
 -- the message that a tree has under a number
 abbrev pub message_under : Node → ℕ → Option Node
-message_under t n = option_and_then message_in (option_and_then item_in (content_under t n))
+message_under t n = option_and_then message_in (option_and_then item_in (content_at t n))
 
 -- the message at the end of a way; none where one on the way is unset
 abbrev pub message_behind : Node → List ℕ → Option Node
@@ -28,7 +23,7 @@ message_behind t (n ∷ way) = option_and_then (λ m. message_behind m way) (mes
 
 -- what the tree has at the end of a path
 abbrev pub content_behind : Node → Path → Option Content
-content_behind t path = option_and_then (λ m. content_under m path.number) (message_behind t path.way)
+content_behind t path = option_and_then (λ m. content_at m path.number) (message_behind t path.way)
 
 -- the numbers of a message's fields ascend, and so in each message inside it that stands alone in its field
 abbrev mutual

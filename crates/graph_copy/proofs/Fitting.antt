@@ -3,7 +3,7 @@ use Rattle.std.proofs.Common.{◌≡◌, ◌≢◌, ℕ, zero, suc, ◌+◌, ◌
 use Rattle.std.specs.Prelude.{nat_le}
 use Rattle.std.proofs.lemmas.Bool.{eqb-false}
 use Rattle.std.proofs.lemmas.Bool.Decides.{leb_tells}
-use Rattle.mrpc_table.specs.Normal.{fields_of}
+use Rattle.mrpc_table.specs.Normal.{fields_of, kind_at}
 use Rattle.mrpc_table.specs.declared.table.Kind.{Kind}
 use Rattle.mrpc_table.specs.declared.table.Kind.TheVariants.{Text, Octets, Message as OfMessage}
 use Rattle.mrpc_table.specs.declared.table.Label.{Label}
@@ -11,7 +11,7 @@ use Rattle.mrpc_table.specs.declared.table.Label.TheVariants.{Optional, Repeated
 use Rattle.mrpc_table.specs.declared.table.Field.{Field}
 use Rattle.mrpc_table.specs.declared.table.Table.{Table}
 use Rattle.graph_form.specs.declared.reason.Reason.TheVariants.{Address}
-use Rattle.graph_form.specs.Roles.{Role as Use, value, presence, run_length, run_presence, run_address, run_word, link, count, elements_address, entry_count, entries_address, case_word, Expected, behind, plain_role, optional_role, slot_role, slots_from, cases_from, elements_from, entries_from, node_words, own_slots, oneofs_of, size_words, element_words, run_words, word_bytes, member_kind}
+use Rattle.graph_form.specs.Roles.{Role as Use, value, presence, run_length, run_presence, run_address, run_word, link, count, elements_address, entry_count, entries_address, case_word, Expected, behind, plain_role, optional_role, slot_role, slots_from, cases_from, elements_from, entries_from, node_words, own_slots, oneofs_of, size_words, element_words, run_words, word_bytes}
 use Rattle.graph_form.specs.Placed.{LiesIn, IsFine}
 use Rattle.graph_copy.specs.Expects.{words_from, IsSome, Fits, AllFit}
 
@@ -121,8 +121,8 @@ behind_fits T H (entry_count key k depth) p v fine fits = unless_zero H v ((entr
 behind_fits T H (entries_address key k n depth) p v fine fits =
     let lies = lies_by_not H v (4 * n) (fine Address) in entries_fit H n key k depth v lies.to_end
 behind_fits T H (case_word fs oneof depth) p v fine fits =
-    unless_zero H v ((plain_role (member_kind fs v) depth true, p + 1) ∷ [])
-    (λ n. ((plain_some (member_kind fs v) depth true, omega (arith, fits.1, plain_words (member_kind fs v) depth true, element_most (member_kind fs v))), tt))
+    unless_zero H v ((plain_role (kind_at fs v) depth true, p + 1) ∷ [])
+    (λ n. ((plain_some (kind_at fs v) depth true, omega (arith, fits.1, plain_words (kind_at fs v) depth true, element_most (kind_at fs v))), tt))
 
 pub all_fit_both : (H : ℕ) (es others : Expected) → AllFit H es → AllFit H others → AllFit H (es ++ others)
 all_fit_both H [] others here rest = rest

@@ -5,7 +5,7 @@ use Rattle.std.proofs.lemmas.Bool.{ne_eqb}
 use Rattle.std.proofs.lemmas.Bool.Decides.{eqb_tells}
 use Rattle.map_entries.specs.Sorted.{items_of_entry}
 use Rattle.mrpc_table.specs.Node.{Node, no_fields, one, Item, Items, no_items, item}
-use Rattle.mrpc_table.specs.Normal.{fields_of, field_at}
+use Rattle.mrpc_table.specs.Normal.{fields_of, field_at, kind_at}
 use Rattle.mrpc_table.specs.View.{item_of, items_of, content_of}
 use Rattle.mrpc_table.specs.declared.table.Kind.{Kind}
 use Rattle.mrpc_table.specs.declared.table.Kind.TheVariants.{Uint64}
@@ -14,7 +14,7 @@ use Rattle.mrpc_table.specs.declared.table.Table.{Table}
 use Rattle.mrpc_table.specs.declared.tree.FieldValue.{FieldValue}
 use Rattle.mrpc_table.specs.declared.tree.Value.{Value}
 use Rattle.graph_form.specs.declared.reason.Reason.TheVariants.{Case}
-use Rattle.graph_form.specs.Roles.{elements_address, entries_address, case_word, Expected, behind, plain_role, slot_role, slots_from, cases_from, elements_from, entries_from, node_words, own_slots, oneofs_of, element_words, member_kind}
+use Rattle.graph_form.specs.Roles.{elements_address, entries_address, case_word, Expected, behind, plain_role, slot_role, slots_from, cases_from, elements_from, entries_from, node_words, own_slots, oneofs_of, element_words}
 use Rattle.graph_form.specs.Placed.{Placed, first, Word, word, loads, IsFine, AreSound}
 use Rattle.graph_form.specs.Forgotten.{insert_field, with_field, slots_tree, slot_content, with_member, plain_item, elements_at, elements_in, entries_at, entries_in, tree_of}
 use Rattle.graph_copy.specs.Makes.{insert_all, Takes, TakesWord, TakesSlots}
@@ -244,14 +244,14 @@ pub member_found : (T : Table) (fs : List Field) (room v : ℕ) (before mid next
     → (place depth oneof : ℕ) → depth + room ≡ 32 → TakesWord T (case_word fs oneof depth, place) before next (λ w. (t : Node) → insert_all found (with_member T fs w t) ≡ insert_all most t)
 member_found T fs room v before mid next found most f i gives some at takes put place depth oneof deep = λ H n content rest small fine sound is.
     let g = gives (place, n) (loads content ++ rest) is in
-    let kind : member_kind fs v ≡ f.kind = ap (λ o. unwrap_or (option_map (λ x. x.kind) o) Uint64) at in
+    let kind : kind_at fs v ≡ f.kind = ap (λ o. unwrap_or (option_map (λ x. x.kind) o) Uint64) at in
     let known : AreSound T H (behind T (case_word fs oneof depth) place v) content = subst (λ n. AreSound T H (behind T (case_word fs oneof depth) place n) content) (sym g.0) sound in
-    let inner = subst (λ b. AreSound T H (cond b [] ((plain_role (member_kind fs v) depth true, place + 1) ∷ [])) content) (ne_eqb v 0 some) known in
+    let inner = subst (λ b. AreSound T H (cond b [] ((plain_role (kind_at fs v) depth true, place + 1) ∷ [])) content) (ne_eqb v 0 some) known in
     let plain = subst (λ k. AreSound T H ((plain_role k depth true, place + 1) ∷ []) content) kind inner in
     let w = one_of T H (plain_role f.kind depth true, place + 1) content rest mid plain g.1 in
     let t = takes (place + 1) depth deep H w.number w.content rest w.small w.fine w.sound w.now_is in (
       λ u. ap (λ P. insert_all found (with_member T fs (word place n P) u)) w.is
-          ∙ ap (λ m. insert_all found (insert_field m (one (plain_item T (member_kind fs m) (word (place + 1) w.number w.content))) u)) (sym g.0)
+          ∙ ap (λ m. insert_all found (insert_field m (one (plain_item T (kind_at fs m) (word (place + 1) w.number w.content))) u)) (sym g.0)
           ∙ ap (λ k. insert_all found (insert_field v (one (plain_item T k (word (place + 1) w.number w.content))) u)) kind
           ∙ ap (λ m. insert_all found (insert_field m (one (plain_item T f.kind (word (place + 1) w.number w.content))) u)) (sym (number_at_field fs v f at))
           ∙ ap (λ j. insert_all found (insert_field f.number (one j) u)) (sym t.0)

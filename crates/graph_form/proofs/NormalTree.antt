@@ -5,7 +5,7 @@ use Rattle.std.specs.List.{AllByRecursion}
 use Rattle.std.proofs.lemmas.Bool.{eqb-false, ne_eqb, cases_lt}
 use Rattle.std.proofs.lemmas.Bool.Decides.{nat_tests, eqb_tells}
 use Rattle.mrpc_table.specs.Node.{Node, no_fields, field, Content, one, many, pairs, Item, number, run, node, Items, no_items, no_pairs}
-use Rattle.mrpc_table.specs.Normal.{fields_of, field_at, membership, members_in, TakesOne, TakesMany, KeysAscend, HasFields, HasContent, IsItem, AreItems, ArePairs, OneMemberEach, depth, content_depth, item_depth, items_depth, pairs_depth, IsNormal}
+use Rattle.mrpc_table.specs.Normal.{fields_of, field_at, membership, members_in, TakesOne, TakesMany, KeysAscend, HasFields, HasContent, IsItem, AreItems, ArePairs, OneMemberEach, depth, content_depth, item_depth, items_depth, pairs_depth, IsNormal, kind_at}
 use Rattle.mrpc_table.specs.Valid.{IsValid}
 use Rattle.mrpc_table.specs.declared.table.Kind.{Kind}
 use Rattle.mrpc_table.specs.declared.table.Kind.TheVariants.{Uint64, Text, Octets, Message as OfMessage}
@@ -15,7 +15,7 @@ use Rattle.mrpc_table.specs.declared.table.Field.{Field}
 use Rattle.mrpc_table.specs.declared.table.Table.{Table}
 use Rattle.map_entries.specs.Last.{last_of_each}
 use Rattle.graph_form.specs.declared.reason.Reason.TheVariants.{Address, Case, Depth}
-use Rattle.graph_form.specs.Roles.{value, run_address, link, count, elements_address, entry_count, entries_address, case_word, Expected, behind, plain_role, optional_role, slot_role, is_member, own_slots, oneofs_of, slots_from, cases_from, node_words, elements_from, entries_from, element_words, member_kind}
+use Rattle.graph_form.specs.Roles.{value, run_address, link, count, elements_address, entry_count, entries_address, case_word, Expected, behind, plain_role, optional_role, slot_role, is_member, own_slots, oneofs_of, slots_from, cases_from, node_words, elements_from, entries_from, element_words}
 use Rattle.graph_form.specs.Placed.{Placed, nothing, first, word, IsFine, AreSound, IsSound}
 use Rattle.graph_form.specs.Forgotten.{insert_field, with_field, run_at, number_at, unless_zero, optional_item, slots_tree, slot_content, with_member, plain_item, elements_at, elements_in, entries_at, entries_in, tree_of}
 use Rattle.graph_form.proofs.FieldOrder.{IsNoMessage, HasPlainKey, AllRise, all-rise, SlotsFrom, slots-own}
@@ -334,9 +334,9 @@ case-of : (T : Table) (H : ℕ) (fs : List Field) (o d v : ℕ) → v ≢ 0 → 
 case-of T H fs o d v some fine = case-go T H fs o d v (field_at fs v) (is-case (field_at fs v) o) refl refl some fine
 
 -- the fields with one member more
-member-good : (T : Table) (fs : List Field) (room o v : ℕ) (i : Item) (t : Node) → v ≢ 0 → IsCaseOf fs o v → GoodItem T (member_kind fs v) room i → GoodNode T fs room (IsMemberFrom fs (o + 1)) t → GoodNode T fs room (IsMemberFrom fs o) (insert_field v (one i) t)
+member-good : (T : Table) (fs : List Field) (room o v : ℕ) (i : Item) (t : Node) → v ≢ 0 → IsCaseOf fs o v → GoodItem T (kind_at fs v) room i → GoodNode T fs room (IsMemberFrom fs (o + 1)) t → GoodNode T fs room (IsMemberFrom fs o) (insert_field v (one i) t)
 member-good T fs room o v i t some case good rest =
-    let kind : member_kind fs v ≡ case.field.kind = ap (λ x. unwrap_or (option_map (λ (f : Field). f.kind) x) Uint64) case.at in
+    let kind : kind_at fs v ≡ case.field.kind = ap (λ x. unwrap_or (option_map (λ (f : Field). f.kind) x) Uint64) case.at in
     let is : IsItem T case.field.kind i = subst (λ k. IsItem T k i) kind good.is in
     let takes : TakesOne case.field.label i = subst (λ l. TakesOne l i) (sym case.label) tt in
     let has : HasContent T fs v (one i) = (case.field, case.at, takes, is) in
@@ -361,15 +361,15 @@ member-good T fs room o v i t some case good rest =
     (eqb_tells o p))
     rest
 
-with_member-go : (T : Table) (H : ℕ) (fs : List Field) (o d p v : ℕ) (c : Placed) (b : Bool) (t : Node) → (v == 0) ≡ b → d ≤ 32 → IsFine T H (case_word fs o d) v → AreSound T H (cond b [] ((plain_role (member_kind fs v) d true, p + 1) ∷ [])) c → Facts T H c → GoodNode T fs (33 - d) (IsMemberFrom fs (o + 1)) t → GoodNode T fs (33 - d) (IsMemberFrom fs o) (with_member T fs (word p v c) t)
+with_member-go : (T : Table) (H : ℕ) (fs : List Field) (o d p v : ℕ) (c : Placed) (b : Bool) (t : Node) → (v == 0) ≡ b → d ≤ 32 → IsFine T H (case_word fs o d) v → AreSound T H (cond b [] ((plain_role (kind_at fs v) d true, p + 1) ∷ [])) c → Facts T H c → GoodNode T fs (33 - d) (IsMemberFrom fs (o + 1)) t → GoodNode T fs (33 - d) (IsMemberFrom fs o) (with_member T fs (word p v c) t)
 with_member-go T H fs o d p v nothing true t e low fine h facts rest =
     weaker-good T fs (33 - d) (IsMemberFrom fs (o + 1)) (IsMemberFrom fs o) t
     (λ n m. record { field = m.field; oneof = m.oneof; at = m.at; label = m.label; from = let a = m.from in omega (arith, a) }) rest
 with_member-go T H fs o d p v (first w c) true t e low fine h facts rest = absurd h
 with_member-go T H fs o d p v nothing false t e low fine h facts rest = absurd h
 with_member-go T H fs o d p v (first w c) false t e low fine h facts rest =
-    member-good T fs (33 - d) o v (plain_item T (member_kind fs v) w) t (not-zero-of v e) (case-of T H fs o d v (not-zero-of v e) fine)
-    (facts.head (member_kind fs v) d (p + 1) [] low h) rest
+    member-good T fs (33 - d) o v (plain_item T (kind_at fs v) w) t (not-zero-of v e) (case-of T H fs o d v (not-zero-of v e) fine)
+    (facts.head (kind_at fs v) d (p + 1) [] low h) rest
 
 -- ---- all words
 

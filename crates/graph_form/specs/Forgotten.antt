@@ -1,7 +1,7 @@
 -- The tree of a placed tree: its values without their places, in normal form.
 use Rattle.std.specs.Prelude.{ℕ, ◌-◌, List, [], ◌∷◌, ◌++◌, take, Option, Some, None, if◌then◌else◌, ◌==◌, nat_lt}
 use Rattle.mrpc_table.specs.Node.{Node, no_fields, field, Content, one, many, pairs, Item, number, run, node, Items, no_items, item}
-use Rattle.mrpc_table.specs.Normal.{fields_of}
+use Rattle.mrpc_table.specs.Normal.{fields_of, kind_at}
 use Rattle.map_entries.specs.Last.{last_of_each}
 use Rattle.mrpc_table.specs.declared.table.Kind.{Kind}
 use Rattle.mrpc_table.specs.declared.table.Kind.TheVariants.{Text, Octets, Message as OfMessage}
@@ -9,7 +9,7 @@ use Rattle.mrpc_table.specs.declared.table.Label.{Label}
 use Rattle.mrpc_table.specs.declared.table.Label.TheVariants.{Optional, Repeated, Packed, Map}
 use Rattle.mrpc_table.specs.declared.table.Field.{Field}
 use Rattle.mrpc_table.specs.declared.table.Table.{Table}
-use Rattle.graph_form.specs.Roles.{own_slots, member_kind, word_bytes}
+use Rattle.graph_form.specs.Roles.{own_slots, word_bytes}
 use Rattle.graph_form.specs.Placed.{Placed, nothing, first, Word, word}
 
 -- the fields with one more, by ascending number
@@ -74,7 +74,7 @@ abbrev mutual
   -- the fields with the member that a oneof's slot has, if its case isn't 0
   pub with_member : Table → List Field → Word → Node → Node
   with_member T fs (word place v nothing) t = t
-  with_member T fs (word place v (first w others)) t = insert_field v (one (plain_item T (member_kind fs v) w)) t
+  with_member T fs (word place v (first w others)) t = insert_field v (one (plain_item T (kind_at fs v) w)) t
 
   -- the value of a plain slot: that of a message is the tree of the node behind its address
   pub plain_item : Table → Kind → Word → Item

@@ -1,9 +1,9 @@
 -- How a message lies in a heap of words: what each loaded word is for, and which words are loaded behind it.
 use Rattle.std.specs.Prelude.{ℕ, zero, suc, ◌+◌, ◌-◌, ◌*◌, ◌/◌, Bool, true, false, List, [], ◌∷◌, ◌++◌, length, filter, slice_get, option_map, unwrap_or, if◌then◌else◌, ◌==◌, nat_le}
 use Rattle.std.specs.Int.{w64, to_le_bytes}
-use Rattle.mrpc_table.specs.Normal.{fields_of, field_at}
+use Rattle.mrpc_table.specs.Normal.{fields_of, field_at, kind_at}
 use Rattle.mrpc_table.specs.declared.table.Kind.{Kind}
-use Rattle.mrpc_table.specs.declared.table.Kind.TheVariants.{Text, Octets, Message as OfMessage, Uint64}
+use Rattle.mrpc_table.specs.declared.table.Kind.TheVariants.{Text, Octets, Message as OfMessage}
 use Rattle.mrpc_table.specs.declared.table.Label.{Label}
 use Rattle.mrpc_table.specs.declared.table.Label.TheVariants.{Optional, Repeated, Packed, Map, Member}
 use Rattle.mrpc_table.specs.declared.table.Field.{Field}
@@ -129,10 +129,6 @@ word_bytes v = to_le_bytes w64 v
 abbrev pub run_words : ℕ → ℕ
 run_words bytes = (bytes + 7) / 8
 
--- the kind of the member of this number
-abbrev pub member_kind : List Field → ℕ → Kind
-member_kind fs n = unwrap_or (option_map (λ f. f.kind) (field_at fs n)) Uint64
-
 -- the words that are loaded right behind a word of a role, at a place, with a value
 abbrev pub behind : Table → Role → ℕ → ℕ → Expected
 behind T (value k) p v = []
@@ -147,4 +143,4 @@ behind T (count k depth) p v = if v == 0 then [] else (elements_address k v dept
 behind T (elements_address k elements depth) p v = elements_from elements k depth v
 behind T (entry_count key k depth) p v = if v == 0 then [] else (entries_address key k v depth, p + 1) ∷ []
 behind T (entries_address key k entries depth) p v = entries_from entries key k depth v
-behind T (case_word fs oneof depth) p v = if v == 0 then [] else (plain_role (member_kind fs v) depth true, p + 1) ∷ []
+behind T (case_word fs oneof depth) p v = if v == 0 then [] else (plain_role (kind_at fs v) depth true, p + 1) ∷ []

@@ -1,6 +1,6 @@
 -- What the slot of a field puts, by what its calls put.
 use Rattle.std.proofs.Common.{◌≡◌, ◌≢◌, ℕ, ◌+◌, ◌<◌, ◌≤◌, ◌^◌, false, List, [], ◌∷◌, ◌++◌, length, Some, None, refl, sym, ap, subst, arith}
-use Rattle.mrpc_table.specs.Node.{Node, Content, one, many, pairs, Item, number, run, node, no_pairs}
+use Rattle.mrpc_table.specs.Node.{Node, Content, one, many, pairs, Item, number, run, node, no_pairs, content_at}
 use Rattle.mrpc_table.specs.Normal.{field_at, HasFields, IsItem, ArePairs, KeysAscend, content_depth, items_depth, pairs_depth}
 use Rattle.mrpc_table.specs.Valid.{IsField}
 use Rattle.mrpc_table.specs.View.{item_of, items_of, pairs_of, content_of}
@@ -16,7 +16,6 @@ use Rattle.mrpc_table.specs.declared.tree.FieldValue.TheVariants.{One, Many, Pai
 use Rattle.std.specs.Global.{Vec}
 use Rattle.graph_form.specs.Roles.{elements_address, entries_address, slot_role, is_member}
 use Rattle.graph_form.specs.Forgotten.{slot_content, elements_at, entries_at}
-use Rattle.graph_place.specs.Content.{content_at}
 use Rattle.graph_place.specs.Laid.{Puts, PutsWord, HoldsContent, listed, found_words, run_words_of, NoMessage}
 use Rattle.graph_place.specs.Size.{content_words, item_words, many_words, pairs_words}
 use Rattle.graph_place.proofs.Absent.{no_slot}
@@ -109,23 +108,23 @@ slot_pairs_put T l k key fv es place c mid_free d before mid next is holds says 
 
 -- ---- the slot of a field
 
-pub field_there : (T : Table) (f : Field) (t : Node) (content : Content) (place c d : ℕ) (before next : Loads) → content_at f.number t ≡ Some content → SlotPut T f.label f.kind content place c before d next → FieldPut T f t place c before d next
+pub field_there : (T : Table) (f : Field) (t : Node) (content : Content) (place c d : ℕ) (before next : Loads) → content_at t f.number ≡ Some content → SlotPut T f.label f.kind content place c before d next → FieldPut T f t place c before d next
 field_there T f t content place c d before next found puts = λ H level within deep.
     let low = content_within f.number content t found in
     subst (λ o. PutsWord T H (slot_role f.label f.kind level, place) (place + 2) c d before next (λ w. slot_content T f.label f.kind w ≡ o)) (sym found) (puts H level within (omega (arith, deep, low)))
 
-pub field_absent : (T : Table) (f : Field) (t : Node) (place c d : ℕ) (before next : Loads) → is_member f.label ≡ false → content_at f.number t ≡ None → place + 2 ≤ c → d ≡ c → next ≡ before ++ (place, 0) ∷ [] → FieldPut T f t place c before d next
+pub field_absent : (T : Table) (f : Field) (t : Node) (place c d : ℕ) (before next : Loads) → is_member f.label ≡ false → content_at t f.number ≡ None → place + 2 ≤ c → d ≡ c → next ≡ before ++ (place, 0) ∷ [] → FieldPut T f t place c before d next
 field_absent T f t place c d before next own none slot size put = λ H level within deep.
     let low : c ≤ H = omega (arith, size, within) in
-    subst (λ e. PutsWord T H (slot_role f.label f.kind level, place) (place + 2) c e before next (λ w. slot_content T f.label f.kind w ≡ content_at f.number t)) (sym size)
+    subst (λ e. PutsWord T H (slot_role f.label f.kind level, place) (place + 2) c e before next (λ w. slot_content T f.label f.kind w ≡ content_at t f.number)) (sym size)
     (subst (λ o. PutsWord T H (slot_role f.label f.kind level, place) (place + 2) c c before next (λ w. slot_content T f.label f.kind w ≡ o)) (sym none) (no_slot T H f.label f.kind level place c before next own slot low put))
 
-pub found_there : (T : Table) (k : Kind) (n : ℕ) (t : Node) (content : Content) → content_at n t ≡ Some content → found_words T k (content_at n t) ≡ content_words T k content
+pub found_there : (T : Table) (k : Kind) (n : ℕ) (t : Node) (content : Content) → content_at t n ≡ Some content → found_words T k (content_at t n) ≡ content_words T k content
 found_there T k n t content found = ap (found_words T k) found
 
-pub found_none : (T : Table) (k : Kind) (n : ℕ) (t : Node) → content_at n t ≡ None → found_words T k (content_at n t) ≡ 0
+pub found_none : (T : Table) (k : Kind) (n : ℕ) (t : Node) → content_at t n ≡ None → found_words T k (content_at t n) ≡ 0
 found_none T k n t none = ap (found_words T k) none
 
 -- what the field has in the tree
-pub field_holds : (T : Table) (fs : List Field) (oneofs : ℕ) (f : Field) (t : Node) (content : Content) → HasFields T fs 0 t → field_at fs f.number ≡ Some f → IsField T oneofs f → content_at f.number t ≡ Some content → HoldsContent T f.label f.kind content
+pub field_holds : (T : Table) (fs : List Field) (oneofs : ℕ) (f : Field) (t : Node) (content : Content) → HasFields T fs 0 t → field_at fs f.number ≡ Some f → IsField T oneofs f → content_at t f.number ≡ Some content → HoldsContent T f.label f.kind content
 field_holds T fs oneofs f t content has known is found = content_holds T oneofs fs f.number f content is known (content_has T fs 0 f.number content t has found)

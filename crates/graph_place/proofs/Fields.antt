@@ -5,7 +5,7 @@ use Rattle.std.proofs.lemmas.Bool.{ne_eqb, cases_Bool, or_from, or_left, or_righ
 use Rattle.std.proofs.lemmas.Bool.Decides.{eqb_tells}
 use Rattle.std.proofs.lemmas.Option.{slice_get_cases}
 use Rattle.std.proofs.lemmas.List.Elements.{All-head, All-tail}
-use Rattle.mrpc_table.specs.Node.{Node, no_fields, field, Content, one, many, pairs}
+use Rattle.mrpc_table.specs.Node.{Node, no_fields, field, Content, one, many, pairs, content_at, NumbersAscend}
 use Rattle.mrpc_table.specs.Normal.{fields_of, field_at, HasFields, HasContent, depth, content_depth}
 use Rattle.mrpc_table.specs.Valid.{IsValid, IsMessage, IsField, Ascends as InOrder, Joins, OneofsFollow, GoesWith}
 use Rattle.mrpc_table.specs.declared.table.Field.{Field}
@@ -14,37 +14,37 @@ use Rattle.mrpc_table.specs.declared.table.Label.TheVariants.{Plain, Optional, R
 use Rattle.mrpc_table.specs.declared.table.Message.{Message}
 use Rattle.mrpc_table.specs.declared.table.Table.{Table}
 use Rattle.graph_form.specs.Roles.{own_slots, oneofs_of, is_member}
-use Rattle.graph_place.specs.Content.{content_at, Ascends, is_of, is_member_of}
+use Rattle.graph_place.specs.Content.{is_of, is_member_of}
 use Rattle.graph_place.specs.Laid.{is_member_at, keep, members}
 use Rattle.graph_place.proofs.Keeping.{Each, each_weaker, each_always, keep_same, keep_all, or_none}
 
 -- ---- a tree
 
-pub fields_ascend : (T : Table) (fs : List Field) (last : ℕ) (t : Node) → HasFields T fs last t → Ascends last t
+pub fields_ascend : (T : Table) (fs : List Field) (last : ℕ) (t : Node) → HasFields T fs last t → NumbersAscend last t
 fields_ascend T fs last no_fields h = tt
 fields_ascend T fs last (field n c t) h = (h.0, fields_ascend T fs n t h.2)
 
-pub content_has : (T : Table) (fs : List Field) (last n : ℕ) (c : Content) (t : Node) → HasFields T fs last t → content_at n t ≡ Some c → HasContent T fs n c
+pub content_has : (T : Table) (fs : List Field) (last n : ℕ) (c : Content) (t : Node) → HasFields T fs last t → content_at t n ≡ Some c → HasContent T fs n c
 content_has T fs last n c no_fields h at = absurd (cc)
 content_has T fs last n c (field m d t) h at =
     elim (eqb_tells m n) [
       | inl same ↦
-          let e : Some d ≡ Some c = sym (ap (λ b. cond b (Some d) (content_at n t)) same.0) ∙ at in
+          let e : Some d ≡ Some c = sym (ap (λ b. cond b (Some d) (content_at t n)) same.0) ∙ at in
           let is : d ≡ c = cc in
           subst (HasContent T fs n) is (subst (λ k. HasContent T fs k d) same.1 h.1)
-      | inr other ↦ content_has T fs m n c t h.2 (sym (ap (λ b. cond b (Some d) (content_at n t)) other.0) ∙ at)
+      | inr other ↦ content_has T fs m n c t h.2 (sym (ap (λ b. cond b (Some d) (content_at t n)) other.0) ∙ at)
     ]
 
-pub content_within : (n : ℕ) (c : Content) (t : Node) → content_at n t ≡ Some c → content_depth c ≤ depth t
+pub content_within : (n : ℕ) (c : Content) (t : Node) → content_at t n ≡ Some c → content_depth c ≤ depth t
 content_within n c no_fields at = absurd (cc)
 content_within n c (field m d t) at =
     elim (eqb_tells m n) [
       | inl same ↦
-          let e : Some d ≡ Some c = sym (ap (λ b. cond b (Some d) (content_at n t)) same.0) ∙ at in
+          let e : Some d ≡ Some c = sym (ap (λ b. cond b (Some d) (content_at t n)) same.0) ∙ at in
           let is : d ≡ c = cc in
           omega (arith, ap content_depth is)
       | inr other ↦
-          let rest = content_within n c t (sym (ap (λ b. cond b (Some d) (content_at n t)) other.0) ∙ at) in
+          let rest = content_within n c t (sym (ap (λ b. cond b (Some d) (content_at t n)) other.0) ∙ at) in
           omega (arith, rest)
     ]
 

@@ -5,7 +5,6 @@ mod Chain
 mod Contents
 mod Fields
 mod Fine
-mod Found
 mod Items
 mod Keeping
 mod Laying

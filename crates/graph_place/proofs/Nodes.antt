@@ -1,17 +1,17 @@
 -- What the parts of a node put, by what their calls put.
 use Rattle.std.proofs.Common.{◌≡◌, ◌≢◌, ℕ, suc, ◌+◌, ◌-◌, ◌*◌, ◌<◌, ◌≤◌, ◌^◌, Bool, true, false, cond, List, [], ◌∷◌, ◌++◌, length, drop, get_or, Some, sym, ap, subst, ◌∙◌, arith, inl, inr}
 use Rattle.std.proofs.lemmas.Bool.{cases_Bool}
-use Rattle.mrpc_table.specs.Node.{Node, no_fields, field, Content, one, many, pairs, Item}
-use Rattle.mrpc_table.specs.Normal.{fields_of, field_at, HasFields, OneMemberEach, TakesMany, IsItem, depth, item_depth}
+use Rattle.mrpc_table.specs.Node.{Node, no_fields, field, Content, one, many, pairs, Item, content_at}
+use Rattle.mrpc_table.specs.Normal.{fields_of, field_at, HasFields, OneMemberEach, TakesMany, IsItem, depth, item_depth, kind_at}
 use Rattle.mrpc_table.specs.Valid.{IsValid, IsField}
 use Rattle.mrpc_table.specs.declared.table.Kind.{Kind}
 use Rattle.mrpc_table.specs.declared.table.Label.{Label}
 use Rattle.mrpc_table.specs.declared.table.Label.TheVariants.{Map, Member}
 use Rattle.mrpc_table.specs.declared.table.Field.{Field}
 use Rattle.mrpc_table.specs.declared.table.Table.{Table}
-use Rattle.graph_form.specs.Roles.{Expected, slot_role, case_word, slots_from, cases_from, own_slots, oneofs_of, size_words, is_member, member_kind}
+use Rattle.graph_form.specs.Roles.{Expected, slot_role, case_word, slots_from, cases_from, own_slots, oneofs_of, size_words, is_member}
 use Rattle.graph_form.specs.Forgotten.{with_field, slots_tree, slot_content, with_member}
-use Rattle.graph_place.specs.Content.{content_at, is_member_of, member_of}
+use Rattle.graph_place.specs.Content.{is_member_of, member_of}
 use Rattle.graph_place.specs.Laid.{Puts, PutsWord, Begun, keep, is_member_at, members, found_words, IsMemberOf}
 use Rattle.graph_place.specs.Size.{fields_words}
 use Rattle.graph_place.proofs.Beginning.{Loads}
@@ -62,7 +62,7 @@ node_puts T m t f0 at f1 place f2 f3 w0 w1 w2 w3 first grown words behind middle
 
 abbrev pub FieldPut : Table → Field → Node → ℕ → ℕ → Loads → ℕ → Loads → Type 0
 FieldPut T f t place c before d next =
-    (H level : ℕ) → d ≤ H → level + depth t ≤ 33 → PutsWord T H (slot_role f.label f.kind level, place) (place + 2) c d before next (λ w. slot_content T f.label f.kind w ≡ content_at f.number t)
+    (H level : ℕ) → d ≤ H → level + depth t ≤ 33 → PutsWord T H (slot_role f.label f.kind level, place) (place + 2) c d before next (λ w. slot_content T f.label f.kind w ≡ content_at t f.number)
 
 -- what the slot of the next field may be given
 pub record FieldFits (T : Table) (f : Field) (t : Node) (place free : ℕ) : Type 0 where
@@ -70,7 +70,7 @@ pub record FieldFits (T : Table) (f : Field) (t : Node) (place free : ℕ) : Typ
   pub field : (oneofs : ℕ) × IsField T oneofs f
   pub from : 1 ≤ place
   pub slot : is_member f.label ≡ false → place + 2 ≤ free
-  pub room : is_member f.label ≡ false → free + found_words T f.kind (content_at f.number t) < 2 ^ 64
+  pub room : is_member f.label ≡ false → free + found_words T f.kind (content_at t f.number) < 2 ^ 64
 
 pub field_fits : (T : Table) (m : ℕ) (t : Node) (at c : ℕ) (before : Loads) (all : List Field) (i : ℕ) (f : Field) (place free : ℕ) (now : Loads) → IsValid T → HasFields T (fields_of T m) 0 t → 1 ≤ at → at + 2 * length (own_slots (fields_of T m)) ≤ c
     → c + fields_words T (fields_of T m) t < 2 ^ 64 → i < length all → f ≡ get_or all i f → SlotsOn T (fields_of T m) t at c before (drop i all) place free now → FieldFits T f t place free
@@ -88,7 +88,7 @@ pub slots_step : (T : Table) (fs : List Field) (t : Node) (at c : ℕ) (before :
     → i < length all → f ≡ get_or all i f → SlotsOn T fs t at c before (drop i all) place free now
     → (is_member f.label ≡ true → (next ≡ place) × (free2 ≡ free) × (now2 ≡ now))
     → (is_member f.label ≡ false → next ≡ place + 2)
-    → (is_member f.label ≡ false → free2 ≡ free + found_words T f.kind (content_at f.number t))
+    → (is_member f.label ≡ false → free2 ≡ free + found_words T f.kind (content_at t f.number))
     → (is_member f.label ≡ false → FieldPut T f t place free now free2 now2)
     → SlotsOn T fs t at c before (drop (i + 1) all) next free2 now2
 slots_step T fs t at c before all i f place next free free2 now now2 has slots within is on past moved size puts =
@@ -110,7 +110,7 @@ slots_step T fs t at c before all i f place next free free2 now now2 has slots w
 abbrev pub CasePut : Table → List Field → Node → ℕ → ℕ → ℕ → Loads → ℕ → Loads → Type 0
 CasePut T fs t member place c before d next =
     (H level oneof : ℕ) → d ≤ H → level + depth t ≤ 33 → IsMemberOf fs oneof t member
-    → PutsWord T H (case_word fs oneof level, place) (place + 3) c d before next (λ w. (u : Node) → with_member T fs w u ≡ with_field member (content_at member t) u)
+    → PutsWord T H (case_word fs oneof level, place) (place + 3) c d before next (λ w. (u : Node) → with_member T fs w u ≡ with_field member (content_at t member) u)
 
 pub cases_first : (T : Table) (m : ℕ) (t : Node) (at c : ℕ) (before : Loads) → IsValid T → HasFields T (fields_of T m) 0 t → CasesOn T (fields_of T m) t (oneofs_of T m) at c before 0 (oneofs_of T m - 0) at c before
 cases_first T m t at c before valid has =
@@ -122,7 +122,7 @@ pub record CaseFits (T : Table) (fs : List Field) (t : Node) (member place free 
   pub known : (oneof : ℕ) × IsMemberOf fs oneof t member
   pub from : 1 ≤ place
   pub slot : place + 3 ≤ free
-  pub room : free + found_words T (member_kind fs member) (content_at member t) < 2 ^ 64
+  pub room : free + found_words T (kind_at fs member) (content_at t member) < 2 ^ 64
 
 tells : (T : Table) (fs : List Field) (o : ℕ) (t : Node) (member : ℕ) → HasFields T fs 0 t → OneMemberEach fs t → member ≡ member_of fs o 0 t → Tells fs o t member
 tells T fs o t member has few is = subst (Tells fs o t) (sym is) (member_tells fs o t (fields_ascend T fs 0 t has) (few o))
@@ -143,7 +143,7 @@ case_fits T fs t all at c before o place free member now has few from slots room
     }
 
 pub cases_step : (T : Table) (fs : List Field) (t : Node) (all at c : ℕ) (before : Loads) (o place next free free2 member : ℕ) (now now2 : Loads) → HasFields T fs 0 t → OneMemberEach fs t → at + 3 * all ≤ c → o < all
-    → member ≡ member_of fs o 0 t → next ≡ place + 3 → CasesOn T fs t all at c before o (all - o) place free now → free2 ≡ free + found_words T (member_kind fs member) (content_at member t) → CasePut T fs t member place free now free2 now2
+    → member ≡ member_of fs o 0 t → next ≡ place + 3 → CasesOn T fs t all at c before o (all - o) place free now → free2 ≡ free + found_words T (kind_at fs member) (content_at t member) → CasePut T fs t member place free now free2 now2
     → CasesOn T fs t all at c before (o + 1) (all - (o + 1)) next free2 now2
 cases_step T fs t all at c before o place next free free2 member now now2 has few slots more is step on size puts =
     let left : all - o ≡ suc (all - (o + 1)) = omega (arith, more) in
@@ -159,14 +159,14 @@ cases_step T fs t all at c before o place next free free2 member now now2 has fe
 -- no member
 pub case_none : (T : Table) (fs : List Field) (t : Node) (member place c d : ℕ) (before next : Loads) → member ≡ 0 → place + 3 ≤ c → d ≡ c → next ≡ before ++ (place, member) ∷ [] → CasePut T fs t member place c before d next
 case_none T fs t member place c d before next none slot size put = λ H level oneof within deep known.
-    subst (λ e. PutsWord T H (case_word fs oneof level, place) (place + 3) c e before next (λ w. (u : Node) → with_member T fs w u ≡ with_field member (content_at member t) u)) (sym size)
+    subst (λ e. PutsWord T H (case_word fs oneof level, place) (place + 3) c e before next (λ w. (u : Node) → with_member T fs w u ≡ with_field member (content_at t member) u)) (sym size)
     (no_case T H fs oneof level place c member t before next none (known.some none) slot put)
 
 -- a member
-pub case_some : (T : Table) (fs : List Field) (t : Node) (member place c mid_free d : ℕ) (i : Item) (before mid next : Loads) → member ≢ 0 → member < 2 ^ 64 → content_at member t ≡ Some (one i) → place + 3 ≤ c → mid_free ≡ c → c ≤ d
-    → mid ≡ before ++ (place, member) ∷ [] → ItemPut T (member_kind fs member) i (place + 1) mid_free mid d next → CasePut T fs t member place c before d next
+pub case_some : (T : Table) (fs : List Field) (t : Node) (member place c mid_free d : ℕ) (i : Item) (before mid next : Loads) → member ≢ 0 → member < 2 ^ 64 → content_at t member ≡ Some (one i) → place + 3 ≤ c → mid_free ≡ c → c ≤ d
+    → mid ≡ before ++ (place, member) ∷ [] → ItemPut T (kind_at fs member) i (place + 1) mid_free mid d next → CasePut T fs t member place c before d next
 case_some T fs t member place c mid_free d i before mid next some small found slot same grown put puts = λ H level oneof within deep known.
-    let there : ItemPut T (member_kind fs member) i (place + 1) c mid d next = subst (λ e. ItemPut T (member_kind fs member) i (place + 1) e mid d next) same puts in
+    let there : ItemPut T (kind_at fs member) i (place + 1) c mid d next = subst (λ e. ItemPut T (kind_at fs member) i (place + 1) e mid d next) same puts in
     let low : item_depth i ≤ depth t = content_within member (one i) t found in
     some_case T H fs oneof level place c d member t i before mid next some small found (known.there some).2 slot grown put (there H level true within (omega (arith, deep, low)))
 
@@ -178,7 +178,7 @@ no_map : (key : Kind) (o : ℕ) → Map key ≡ Member o → ⊥
 no_map key o same = subst IsMap same tt
 
 -- the content of a member is one value
-pub member_item : (T : Table) (fs : List Field) (t : Node) (o n : ℕ) (c : Content) → HasFields T fs 0 t → is_member_of fs o n ≡ true → content_at n t ≡ Some c → (i : Item) × (content_at n t ≡ Some (one i))
+pub member_item : (T : Table) (fs : List Field) (t : Node) (o n : ℕ) (c : Content) → HasFields T fs 0 t → is_member_of fs o n ≡ true → content_at t n ≡ Some c → (i : Item) × (content_at t n ≡ Some (one i))
 member_item T fs t o n (one i) has member at = (i, at)
 member_item T fs t o n (many is) has member at =
     let h = content_has T fs 0 n (many is) t has at in
@@ -192,14 +192,14 @@ member_item T fs t o n (pairs ps) has member at =
     absurd (no_map h.1 o (sym h.3 ∙ ap (λ (f : Field). f.label) same ∙ m.2))
 
 -- a member has a value
-pub some_member : (T : Table) (fs : List Field) (t : Node) (o n : ℕ) → HasFields T fs 0 t → IsMemberOf fs o t n → n ≢ 0 → ((i : Item) → content_at n t ≢ Some (one i)) → ⊥
+pub some_member : (T : Table) (fs : List Field) (t : Node) (o n : ℕ) → HasFields T fs 0 t → IsMemberOf fs o t n → n ≢ 0 → ((i : Item) → content_at t n ≢ Some (one i)) → ⊥
 some_member T fs t o n has known some none =
     let there = known.there some in
     let found = member_item T fs t o n there.0 has there.2 there.1 in
     none found.0 found.1
 
 -- the value of a field is of its kind
-pub one_item : (T : Table) (fs : List Field) (t : Node) (n : ℕ) (i : Item) → HasFields T fs 0 t → content_at n t ≡ Some (one i) → IsItem T (member_kind fs n) i
+pub one_item : (T : Table) (fs : List Field) (t : Node) (n : ℕ) (i : Item) → HasFields T fs 0 t → content_at t n ≡ Some (one i) → IsItem T (kind_at fs n) i
 one_item T fs t n i has at =
     let h = content_has T fs 0 n (one i) t has at in
     subst (λ k. IsItem T k i) (sym (kind_is fs n h.0 h.1)) h.3

@@ -1,7 +1,8 @@
 -- The parts of a list that are left, one by one.
 use Rattle.std.proofs.Common.{◌≡◌, ℕ, zero, suc, ◌+◌, ◌<◌, ◌≤◌, List, [], ◌∷◌, length, drop, get_or, sym, ap, arith, add-one, drop-cons}
-use Rattle.mrpc_table.specs.View.{item_of, items_of, pairs_of}
-use Rattle.mrpc_table.specs.Weight.{item_weight, items_weight, pairs_weight}
+use Rattle.mrpc_table.specs.View.{content_of, item_of, items_of, node_of, pairs_of}
+use Rattle.mrpc_table.specs.Weight.{weight, content_weight, item_weight, items_weight, pairs_weight}
+use Rattle.mrpc_table.specs.declared.tree.FieldValue.{FieldValue}
 use Rattle.mrpc_table.specs.declared.tree.Value.{Value}
 
 -- the next part, where `x` is what stands at the place
@@ -23,3 +24,11 @@ entry_at (x ∷ xs) (suc i) d h = let rest = entry_at xs i d (omega (arith, h)) 
 
 pub entry_weight : (xs : List (Value × Value)) (i : ℕ) (x : Value × Value) → i < length xs → x ≡ get_or xs i x → item_weight (item_of x.0) + item_weight (item_of x.1) ≤ pairs_weight (pairs_of xs)
 entry_weight xs i x h is = let below = entry_at xs i x h in let same = ap (λ (y : Value × Value). item_weight (item_of y.0) + item_weight (item_of y.1)) is in omega (arith, below, same)
+
+content_there : (xs : List (ℕ × FieldValue)) (i : ℕ) (d : ℕ × FieldValue) → i < length xs → content_weight (content_of (get_or xs i d).1) < weight (node_of xs)
+content_there [] i d h = absurd (omega (arith, h))
+content_there (x ∷ xs) zero d h = omega arith
+content_there (x ∷ xs) (suc i) d h = let rest = content_there xs i d (omega (arith, h)) in omega (arith, rest)
+
+pub field_weight : (xs : List (ℕ × FieldValue)) (i : ℕ) (x : ℕ × FieldValue) → i < length xs → x ≡ get_or xs i x → content_weight (content_of x.1) < weight (node_of xs)
+field_weight xs i x h is = let below = content_there xs i x h in let same = ap (λ (y : ℕ × FieldValue). content_weight (content_of y.1)) is in omega (arith, below, same)

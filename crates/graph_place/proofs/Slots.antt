@@ -3,15 +3,15 @@ use Rattle.std.proofs.Common.{◌≡◌, ◌≢◌, ℕ, suc, ◌+◌, ◌*◌, 
 use Rattle.std.specs.Prelude.{option_map, unwrap_or}
 use Rattle.std.specs.List.{AllByRecursion}
 use Rattle.std.proofs.lemmas.Bool.{eq-eqb, ne_eqb, or_from, cases_Bool}
-use Rattle.mrpc_table.specs.Node.{Node, no_fields, one, Item}
-use Rattle.mrpc_table.specs.Normal.{fields_of, field_at, HasFields, depth}
+use Rattle.mrpc_table.specs.Node.{Node, no_fields, one, Item, content_at, NumbersAscend}
+use Rattle.mrpc_table.specs.Normal.{fields_of, field_at, HasFields, depth, kind_at}
 use Rattle.mrpc_table.specs.declared.table.Kind.TheVariants.{Uint64}
 use Rattle.mrpc_table.specs.declared.table.Field.{Field}
 use Rattle.mrpc_table.specs.declared.table.Table.{Table}
-use Rattle.graph_form.specs.Roles.{Expected, behind, plain_role, slot_role, case_word, slots_from, cases_from, node_words, own_slots, oneofs_of, size_words, is_member, member_kind, element_words}
+use Rattle.graph_form.specs.Roles.{Expected, behind, plain_role, slot_role, case_word, slots_from, cases_from, node_words, own_slots, oneofs_of, size_words, is_member, element_words}
 use Rattle.graph_form.specs.Placed.{word}
 use Rattle.graph_form.specs.Forgotten.{with_field, slots_tree, slot_content, with_member, tree_of}
-use Rattle.graph_place.specs.Content.{content_at, Ascends, is_member_of}
+use Rattle.graph_place.specs.Content.{is_member_of}
 use Rattle.graph_place.specs.Laid.{Puts, PutsWord, Begun, HoldsItem, keep, is_member_at, members, found_words}
 use Rattle.graph_place.specs.Size.{fields_words}
 use Rattle.graph_place.proofs.Beginning.{Loads, begun_none, begun_more, begun_end, begun_join, word_put, one_put, word_wide, content_put}
@@ -105,30 +105,30 @@ slots_past T fs t at c before f rest place free now r holds =
           (r.on H level others within deep);
     }
 
-left_next : (fs : List Field) (f : Field) (rest : List Field) (t : Node) → Ascends 0 t → field_at fs f.number ≡ Some f → is_member f.label ≡ false → InNumbers (f ∷ rest)
-    → keep (is_left fs (f ∷ own_slots rest)) t ≡ with_field f.number (content_at f.number t) (Left fs rest t)
+left_next : (fs : List Field) (f : Field) (rest : List Field) (t : Node) → NumbersAscend 0 t → field_at fs f.number ≡ Some f → is_member f.label ≡ false → InNumbers (f ∷ rest)
+    → keep (is_left fs (f ∷ own_slots rest)) t ≡ with_field f.number (content_at t f.number) (Left fs rest t)
 left_next fs f rest t up found fails ascend =
     keep_step (is_left fs (f ∷ own_slots rest)) (is_left fs (own_slots rest)) f.number 0 t up
     (each_always (λ n. is_left fs (f ∷ own_slots rest) n ≡ (is_left fs (own_slots rest) n || f.number == n)) t (left_step fs (own_slots rest) f))
     (or_from (is_member_at fs f.number) (has_number (own_slots rest) f.number) (member_at fs f.number f found ∙ fails) (no_number f.number rest (above f rest ascend)))
 
-pub kind_is : (fs : List Field) (n : ℕ) (f : Field) → field_at fs n ≡ Some f → member_kind fs n ≡ f.kind
+pub kind_is : (fs : List Field) (n : ℕ) (f : Field) → field_at fs n ≡ Some f → kind_at fs n ≡ f.kind
 kind_is fs n f at = ap (λ o. unwrap_or (option_map (λ x. x.kind) o) Uint64) at
 
 -- the words behind the slot of the next field are among those that are left
 pub next_words : (T : Table) (fs : List Field) (t : Node) (at c : ℕ) (before : Loads) (f : Field) (rest : List Field) (place free : ℕ) (now : Loads) → HasFields T fs 0 t → SlotsOn T fs t at c before (f ∷ rest) place free now → is_member f.label ≡ false
-    → free + (found_words T f.kind (content_at f.number t) + fields_words T fs (Left fs rest t)) ≡ c + fields_words T fs t
+    → free + (found_words T f.kind (content_at t f.number) + fields_words T fs (Left fs rest t)) ≡ c + fields_words T fs t
 next_words T fs t at c before f rest place free now has r fails =
     let same = own_here f rest fails in
     let step = left_next fs f rest t (fields_ascend T fs 0 t has) r.each.0 fails r.ascend in
-    let sum : fields_words T fs (keep (is_left fs (f ∷ own_slots rest)) t) ≡ found_words T f.kind (content_at f.number t) + fields_words T fs (Left fs rest t)
-    = ap (fields_words T fs) step ∙ with_words T fs f.number (content_at f.number t) (Left fs rest t) ∙ ap (λ k. found_words T k (content_at f.number t) + fields_words T fs (Left fs rest t)) (kind_is fs f.number f r.each.0) in
+    let sum : fields_words T fs (keep (is_left fs (f ∷ own_slots rest)) t) ≡ found_words T f.kind (content_at t f.number) + fields_words T fs (Left fs rest t)
+    = ap (fields_words T fs) step ∙ with_words T fs f.number (content_at t f.number) (Left fs rest t) ∙ ap (λ k. found_words T k (content_at t f.number) + fields_words T fs (Left fs rest t)) (kind_is fs f.number f r.each.0) in
     let now_is : free + fields_words T fs (keep (is_left fs (f ∷ own_slots rest)) t) ≡ c + fields_words T fs t = ap (λ xs. free + fields_words T fs (keep (is_left fs xs) t)) (sym same) ∙ r.free_is in
     ap (λ n. free + n) (sym sum) ∙ now_is
 
 pub slots_more : (T : Table) (fs : List Field) (t : Node) (at c : ℕ) (before : Loads) (f : Field) (rest : List Field) (place free free2 : ℕ) (now now2 : Loads) → HasFields T fs 0 t → at + 2 * length (own_slots fs) ≤ c
-    → SlotsOn T fs t at c before (f ∷ rest) place free now → is_member f.label ≡ false → free2 ≡ free + found_words T f.kind (content_at f.number t)
-    → ((H level : ℕ) → free2 ≤ H → level + depth t ≤ 33 → PutsWord T H (slot_role f.label f.kind level, place) (place + 2) free free2 now now2 (λ w. slot_content T f.label f.kind w ≡ content_at f.number t))
+    → SlotsOn T fs t at c before (f ∷ rest) place free now → is_member f.label ≡ false → free2 ≡ free + found_words T f.kind (content_at t f.number)
+    → ((H level : ℕ) → free2 ≤ H → level + depth t ≤ 33 → PutsWord T H (slot_role f.label f.kind level, place) (place + 2) free free2 now now2 (λ w. slot_content T f.label f.kind w ≡ content_at t f.number))
     → SlotsOn T fs t at c before rest (place + 2) free2 now2
 slots_more T fs t at c before f rest place free free2 now now2 has room r fails size puts =
     let same = own_here f rest fails in
@@ -147,9 +147,9 @@ slots_more T fs t at c before f rest place free free2 now now2 has room r fails 
           let all : Begun T H (slots_from (own_slots fs) level at ++ others) ((slot_role f.label f.kind level, place) ∷ (slots_from (own_slots rest) level (place + 2) ++ others)) at place c free before now (λ P. slots_tree T fs (own_slots fs) P ≡ t) (λ Q. slots_tree T fs (f ∷ own_slots rest) Q ≡ keep (is_left fs (f ∷ own_slots rest)) t)
           = subst (λ xs. Begun T H (slots_from (own_slots fs) level at ++ others) (slots_from xs level place ++ others) at place c free before now (λ P. slots_tree T fs (own_slots fs) P ≡ t) (λ Q. slots_tree T fs xs Q ≡ keep (is_left fs xs) t)) same (r.on H level others (omega (arith, within, size)) deep) in
           begun_more T H (slots_from (own_slots fs) level at ++ others) (slot_role f.label f.kind level, place) (slots_from (own_slots rest) level (place + 2) ++ others)
-          at place (place + 2) c free free2 before now now2 (λ P. slots_tree T fs (own_slots fs) P ≡ t) (λ Q. slots_tree T fs (f ∷ own_slots rest) Q ≡ keep (is_left fs (f ∷ own_slots rest)) t) (λ Q. slots_tree T fs (own_slots rest) Q ≡ Left fs rest t) (λ w. slot_content T f.label f.kind w ≡ content_at f.number t)
+          at place (place + 2) c free free2 before now now2 (λ P. slots_tree T fs (own_slots fs) P ≡ t) (λ Q. slots_tree T fs (f ∷ own_slots rest) Q ≡ keep (is_left fs (f ∷ own_slots rest)) t) (λ Q. slots_tree T fs (own_slots rest) Q ≡ Left fs rest t) (λ w. slot_content T f.label f.kind w ≡ content_at t f.number)
           r.from (omega arith) (omega (arith, place_next, room)) r.past (omega (arith, size)) refl all (puts H level within deep)
-          (λ Q w holds less. ap (λ o. with_field f.number o (slots_tree T fs (own_slots rest) Q)) holds ∙ ap (with_field f.number (content_at f.number t)) less ∙ sym step);
+          (λ Q w holds less. ap (λ o. with_field f.number o (slots_tree T fs (own_slots rest) Q)) holds ∙ ap (with_field f.number (content_at t f.number)) less ∙ sym step);
     }
 
 -- behind the last field
@@ -205,24 +205,24 @@ or_turned true false x e = e
 or_turned false true x e = refl
 or_turned false false x e = e
 
-behind_next : (fs : List Field) (o left m : ℕ) (t : Node) → Ascends 0 t → Tells fs o t m → Behind fs o (suc left) t ≡ with_field m (content_at m t) (Behind fs (o + 1) left t)
+behind_next : (fs : List Field) (o left m : ℕ) (t : Node) → NumbersAscend 0 t → Tells fs o t m → Behind fs o (suc left) t ≡ with_field m (content_at t m) (Behind fs (o + 1) left t)
 behind_next fs o left m t up (tells_none is none) =
     keep_same (in_oneofs fs o (suc left)) (in_oneofs fs (o + 1) left) t (each_weaker (λ n. is_member_of fs o n ≡ false) (λ n. in_oneofs fs o (suc left) n ≡ in_oneofs fs (o + 1) left n) t (λ n fails. ap (λ b. b || in_oneofs fs (o + 1) left n) fails) none)
-    ∙ ap (λ x. with_field m x (Behind fs (o + 1) left t)) (sym (ap (λ n. content_at n t) is ∙ absent 0 0 t (omega arith) up))
+    ∙ ap (λ x. with_field m x (Behind fs (o + 1) left t)) (sym (ap (λ n. content_at t n) is ∙ absent 0 0 t (omega arith) up))
 behind_next fs o left m t up (tells_one some sole) =
     keep_step (in_oneofs fs o (suc left)) (in_oneofs fs (o + 1) left) m 0 t up
     (each_weaker (λ n. is_member_of fs o n ≡ (m == n)) (λ n. in_oneofs fs o (suc left) n ≡ (in_oneofs fs (o + 1) left n || m == n)) t (λ n e. or_turned (is_member_of fs o n) (in_oneofs fs (o + 1) left n) (m == n) e) sole.alone)
     (not_behind fs o left m sole.is)
 
-pub next_case_words : (T : Table) (fs : List Field) (t : Node) (all at c : ℕ) (before : Loads) (o left place free m : ℕ) (now : Loads) → Ascends 0 t → Tells fs o t m → CasesOn T fs t all at c before o (suc left) place free now
-    → free + (found_words T (member_kind fs m) (content_at m t) + fields_words T fs (Behind fs (o + 1) left t)) ≡ c + fields_words T fs (members fs t)
+pub next_case_words : (T : Table) (fs : List Field) (t : Node) (all at c : ℕ) (before : Loads) (o left place free m : ℕ) (now : Loads) → NumbersAscend 0 t → Tells fs o t m → CasesOn T fs t all at c before o (suc left) place free now
+    → free + (found_words T (kind_at fs m) (content_at t m) + fields_words T fs (Behind fs (o + 1) left t)) ≡ c + fields_words T fs (members fs t)
 next_case_words T fs t all at c before o left place free m now up tells r =
-    let sum = ap (fields_words T fs) (behind_next fs o left m t up tells) ∙ with_words T fs m (content_at m t) (Behind fs (o + 1) left t) in
+    let sum = ap (fields_words T fs) (behind_next fs o left m t up tells) ∙ with_words T fs m (content_at t m) (Behind fs (o + 1) left t) in
     ap (λ n. free + n) (sym sum) ∙ r.free_is
 
-pub cases_more : (T : Table) (fs : List Field) (t : Node) (all at c : ℕ) (before : Loads) (o left place free free2 m : ℕ) (now now2 : Loads) → Ascends 0 t → Tells fs o t m → at + 3 * all ≤ c
-    → CasesOn T fs t all at c before o (suc left) place free now → free2 ≡ free + found_words T (member_kind fs m) (content_at m t)
-    → ((H level : ℕ) → free2 ≤ H → level + depth t ≤ 33 → PutsWord T H (case_word fs o level, place) (place + 3) free free2 now now2 (λ w. (u : Node) → with_member T fs w u ≡ with_field m (content_at m t) u))
+pub cases_more : (T : Table) (fs : List Field) (t : Node) (all at c : ℕ) (before : Loads) (o left place free free2 m : ℕ) (now now2 : Loads) → NumbersAscend 0 t → Tells fs o t m → at + 3 * all ≤ c
+    → CasesOn T fs t all at c before o (suc left) place free now → free2 ≡ free + found_words T (kind_at fs m) (content_at t m)
+    → ((H level : ℕ) → free2 ≤ H → level + depth t ≤ 33 → PutsWord T H (case_word fs o level, place) (place + 3) free free2 now now2 (λ w. (u : Node) → with_member T fs w u ≡ with_field m (content_at t m) u))
     → CasesOn T fs t all at c before (o + 1) left (place + 3) free2 now2
 cases_more T fs t all at c before o left place free free2 m now now2 up tells room r size puts =
     let sum = next_case_words T fs t all at c before o left place free m now up tells r in
@@ -234,9 +234,9 @@ cases_more T fs t all at c before o left place free free2 m now now2 up tells ro
       past = omega (arith, r.past, size);
       on = λ H level within deep.
           begun_more T H (cases_from all fs 0 level at) (case_word fs o level, place) (cases_from left fs (o + 1) level (place + 3)) at place (place + 3) c free free2 before now now2
-          (λ P. slots_tree T fs [] P ≡ members fs t) (λ Q. slots_tree T fs [] Q ≡ Behind fs o (suc left) t) (λ Q. slots_tree T fs [] Q ≡ Behind fs (o + 1) left t) (λ w. (u : Node) → with_member T fs w u ≡ with_field m (content_at m t) u)
+          (λ P. slots_tree T fs [] P ≡ members fs t) (λ Q. slots_tree T fs [] Q ≡ Behind fs o (suc left) t) (λ Q. slots_tree T fs [] Q ≡ Behind fs (o + 1) left t) (λ w. (u : Node) → with_member T fs w u ≡ with_field m (content_at t m) u)
           r.from (omega arith) (omega (arith, r.place_is, room)) r.past (omega (arith, size)) refl (r.on H level (omega (arith, within, size)) deep) (puts H level within deep)
-          (λ Q w holds less. holds (slots_tree T fs [] Q) ∙ ap (with_field m (content_at m t)) less ∙ sym step);
+          (λ Q w holds less. holds (slots_tree T fs [] Q) ∙ ap (with_field m (content_at t m)) less ∙ sym step);
     }
 
 all_past : (fs : List Field) (o : ℕ) (t : Node) → Behind fs o 0 t ≡ no_fields
@@ -254,28 +254,28 @@ cases_free T fs t all at c before o place free now r = let none = ap (fields_wor
 
 -- ---- the slot of a oneof
 
-pub no_case : (T : Table) (H : ℕ) (fs : List Field) (o level place c m : ℕ) (t : Node) (before after : Loads) → m ≡ 0 → content_at m t ≡ None → place + 3 ≤ c → after ≡ before ++ (place, m) ∷ []
-    → PutsWord T H (case_word fs o level, place) (place + 3) c c before after (λ w. (u : Node) → with_member T fs w u ≡ with_field m (content_at m t) u)
+pub no_case : (T : Table) (H : ℕ) (fs : List Field) (o level place c m : ℕ) (t : Node) (before after : Loads) → m ≡ 0 → content_at t m ≡ None → place + 3 ≤ c → after ≡ before ++ (place, m) ∷ []
+    → PutsWord T H (case_word fs o level, place) (place + 3) c c before after (λ w. (u : Node) → with_member T fs w u ≡ with_field m (content_at t m) u)
 no_case T H fs o level place c m t before after is none slot put =
     let put_zero : after ≡ before ++ (place, 0) ∷ [] = put ∙ ap (λ v. before ++ (place, v) ∷ []) is in
-    lone_word T H (case_word fs o level) place 0 (place + 3) c before after (λ w. (u : Node) → with_member T fs w u ≡ with_field m (content_at m t) u) refl (omega arith)
+    lone_word T H (case_word fs o level) place 0 (place + 3) c before after (λ w. (u : Node) → with_member T fs w u ≡ with_field m (content_at t m) u) refl (omega arith)
     (fine_case T H fs o level 0 (λ some. absurd (some refl))) (omega arith) slot put_zero (λ u. ap (λ x. with_field m x u) (sym none))
 
-pub some_case : (T : Table) (H : ℕ) (fs : List Field) (o level place c d m : ℕ) (t : Node) (i : Item) (before mid next : Loads) → m ≢ 0 → m < 2 ^ 64 → content_at m t ≡ Some (one i) → is_member_of fs o m ≡ true → place + 3 ≤ c → c ≤ d
+pub some_case : (T : Table) (H : ℕ) (fs : List Field) (o level place c d m : ℕ) (t : Node) (i : Item) (before mid next : Loads) → m ≢ 0 → m < 2 ^ 64 → content_at t m ≡ Some (one i) → is_member_of fs o m ≡ true → place + 3 ≤ c → c ≤ d
     → mid ≡ before ++ (place, m) ∷ []
-    → PutsWord T H (plain_role (member_kind fs m) level true, place + 1) (place + 1 + element_words (member_kind fs m)) c d mid next (HoldsItem T (member_kind fs m) i)
-    → PutsWord T H (case_word fs o level, place) (place + 3) c d before next (λ w. (u : Node) → with_member T fs w u ≡ with_field m (content_at m t) u)
+    → PutsWord T H (plain_role (kind_at fs m) level true, place + 1) (place + 1 + element_words (kind_at fs m)) c d mid next (HoldsItem T (kind_at fs m) i)
+    → PutsWord T H (case_word fs o level, place) (place + 3) c d before next (λ w. (u : Node) → with_member T fs w u ≡ with_field m (content_at t m) u)
 some_case T H fs o level place c d m t i before mid next some small found member slot cd put puts =
-    let wide = narrow (member_kind fs m) in
-    let inner : Puts T H ((plain_role (member_kind fs m) level true, place + 1) ∷ []) (place + 1) (place + 3) c d mid next (λ P. (u : Node) → with_member T fs (word place m P) u ≡ with_field m (content_at m t) u)
-    = one_put T H (plain_role (member_kind fs m) level true, place + 1) (place + 3) c d mid next (HoldsItem T (member_kind fs m) i) (λ P. (u : Node) → with_member T fs (word place m P) u ≡ with_field m (content_at m t) u)
-    (word_wide T H (plain_role (member_kind fs m) level true, place + 1) (place + 1 + element_words (member_kind fs m)) (place + 3) c d mid next (HoldsItem T (member_kind fs m) i) (HoldsItem T (member_kind fs m) i) (omega (arith, wide)) puts (λ w holds. holds))
+    let wide = narrow (kind_at fs m) in
+    let inner : Puts T H ((plain_role (kind_at fs m) level true, place + 1) ∷ []) (place + 1) (place + 3) c d mid next (λ P. (u : Node) → with_member T fs (word place m P) u ≡ with_field m (content_at t m) u)
+    = one_put T H (plain_role (kind_at fs m) level true, place + 1) (place + 3) c d mid next (HoldsItem T (kind_at fs m) i) (λ P. (u : Node) → with_member T fs (word place m P) u ≡ with_field m (content_at t m) u)
+    (word_wide T H (plain_role (kind_at fs m) level true, place + 1) (place + 1 + element_words (kind_at fs m)) (place + 3) c d mid next (HoldsItem T (kind_at fs m) i) (HoldsItem T (kind_at fs m) i) (omega (arith, wide)) puts (λ w holds. holds))
     (λ w holds. λ u. ap (λ j. with_field m (Some (one j)) u) holds.item ∙ ap (λ x. with_field m x u) (sym found)) in
-    let behind_is : behind T (case_word fs o level) place m ≡ (plain_role (member_kind fs m) level true, place + 1) ∷ []
-    = ap (λ b. cond b [] ((plain_role (member_kind fs m) level true, place + 1) ∷ [])) (ne_eqb m 0 some) in
-    word_put T H (case_word fs o level) place m (place + 3) c d before mid next (λ P. (u : Node) → with_member T fs (word place m P) u ≡ with_field m (content_at m t) u) (λ w. (u : Node) → with_member T fs w u ≡ with_field m (content_at m t) u)
+    let behind_is : behind T (case_word fs o level) place m ≡ (plain_role (kind_at fs m) level true, place + 1) ∷ []
+    = ap (λ b. cond b [] ((plain_role (kind_at fs m) level true, place + 1) ∷ [])) (ne_eqb m 0 some) in
+    word_put T H (case_word fs o level) place m (place + 3) c d before mid next (λ P. (u : Node) → with_member T fs (word place m P) u ≡ with_field m (content_at t m) u) (λ w. (u : Node) → with_member T fs w u ≡ with_field m (content_at t m) u)
     (omega arith) slot cd small (fine_case T H fs o level m (λ _. member_found fs o m member)) put
-    (subst (λ es. Puts T H es (place + 1) (place + 3) c d mid next (λ P. (u : Node) → with_member T fs (word place m P) u ≡ with_field m (content_at m t) u)) (sym behind_is) inner)
+    (subst (λ es. Puts T H es (place + 1) (place + 3) c d mid next (λ P. (u : Node) → with_member T fs (word place m P) u ≡ with_field m (content_at t m) u)) (sym behind_is) inner)
     (λ P made. made)
 
 -- ---- a node

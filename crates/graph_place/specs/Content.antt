@@ -1,20 +1,10 @@
--- What a message has under a number.
-use Rattle.std.specs.Prelude.{ℕ, ◌<◌, ◌==◌, Bool, false, List, Option, Some, None, option_map, unwrap_or, if◌then◌else◌}
-use Rattle.mrpc_table.specs.Node.{Node, no_fields, field, Content}
+-- Which oneof a field is a member of, and which member a message has.
+use Rattle.std.specs.Prelude.{ℕ, ◌==◌, Bool, false, List, option_map, unwrap_or, if◌then◌else◌}
+use Rattle.mrpc_table.specs.Node.{Node, no_fields, field}
 use Rattle.mrpc_table.specs.Normal.{field_at}
 use Rattle.mrpc_table.specs.declared.table.Label.{Label}
 use Rattle.mrpc_table.specs.declared.table.Label.TheVariants.{Member}
 use Rattle.mrpc_table.specs.declared.table.Field.{Field}
-
--- the content of the first field of a number
-abbrev pub content_at : ℕ → Node → Option Content
-content_at n no_fields = None
-content_at n (field m c t) = if m == n then Some c else content_at n t
-
--- numbers ascend from above `last`
-abbrev pub Ascends : ℕ → Node → Type 0
-Ascends last no_fields = Unit {0}
-Ascends last (field n c t) = (last < n) × Ascends n t
 
 -- whether a label is that of a member of the oneof
 abbrev pub is_of : ℕ → Label → Bool

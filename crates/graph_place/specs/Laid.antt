@@ -1,7 +1,7 @@
 -- What a pass over a part of a message puts behind the words so far, in the words of the builder.
 use Rattle.std.specs.Prelude.{◌≡◌, ◌≢◌, ℕ, ◌+◌, ◌*◌, ◌<◌, ◌≤◌, ◌^◌, take, Bool, true, false, List, [], ◌∷◌, ◌++◌, length, Option, Some, None, if◌then◌else◌, ◌==◌}
 use Rattle.std.specs.List.{AllByRecursion}
-use Rattle.mrpc_table.specs.Node.{Node, no_fields, field, Content, one, many, pairs, Item, run, node, no_items, Pairs, no_pairs, pair}
+use Rattle.mrpc_table.specs.Node.{Node, no_fields, field, Content, one, many, pairs, Item, run, node, no_items, Pairs, no_pairs, pair, content_at}
 use Rattle.mrpc_table.specs.Normal.{IsDefault, TakesOne, TakesMany, IsItem, AreItems, ArePairs, KeysAscend}
 use Rattle.mrpc_table.specs.declared.table.Kind.{Kind}
 use Rattle.mrpc_table.specs.declared.table.Kind.TheVariants.{Message as OfMessage}
@@ -12,7 +12,7 @@ use Rattle.mrpc_table.specs.declared.table.Table.{Table}
 use Rattle.graph_form.specs.Roles.{Role, run_address, Expected, behind, is_member, run_words, word_bytes}
 use Rattle.graph_form.specs.Placed.{Placed, Word, word, loads, IsFine, AreSound}
 use Rattle.graph_form.specs.Forgotten.{plain_item}
-use Rattle.graph_place.specs.Content.{content_at, is_member_of}
+use Rattle.graph_place.specs.Content.{is_member_of}
 use Rattle.graph_place.specs.Size.{content_words}
 
 -- ---- where words stand
@@ -112,8 +112,8 @@ listed (pair i j ps) = (i, j) ∷ listed ps
 
 -- of the oneof the tree has the member of this number, and no other; or none, and the number is 0
 pub record IsMemberOf (fs : List Field) (oneof : ℕ) (t : Node) (n : ℕ) : Type 0 where
-  pub some : n ≡ 0 → content_at n t ≡ None
-  pub there : n ≢ 0 → (c : Content) × (content_at n t ≡ Some c) × (is_member_of fs oneof n ≡ true)
+  pub some : n ≡ 0 → content_at t n ≡ None
+  pub there : n ≢ 0 → (c : Content) × (content_at t n ≡ Some c) × (is_member_of fs oneof n ≡ true)
 
 -- what stands under a label that isn't a member's
 abbrev pub HoldsContent : Table → Label → Kind → Content → Type 0

@@ -1,12 +1,12 @@
 -- How many words a message takes in a heap: those of its node, and those of the content that stands behind.
 use Rattle.std.specs.Prelude.{ℕ, ◌+◌, ◌-◌, ◌^◌, min, List, length}
 use Rattle.mrpc_table.specs.Node.{Node, no_fields, field, Content, one, many, pairs, Item, number, run, node, Items, no_items, item, Pairs, no_pairs, pair}
-use Rattle.mrpc_table.specs.Normal.{fields_of}
+use Rattle.mrpc_table.specs.Normal.{fields_of, kind_at}
 use Rattle.mrpc_table.specs.Words.{message_of}
 use Rattle.mrpc_table.specs.declared.table.Kind.{Kind}
 use Rattle.mrpc_table.specs.declared.table.Field.{Field}
 use Rattle.mrpc_table.specs.declared.table.Table.{Table}
-use Rattle.graph_form.specs.Roles.{size_words, run_words, element_words, member_kind}
+use Rattle.graph_form.specs.Roles.{size_words, run_words, element_words}
 
 -- the words of a key's content: a key is a number or a run
 abbrev pub key_words : Item → ℕ
@@ -17,7 +17,7 @@ abbrev mutual
   -- the content of all fields of a message
   pub fields_words : Table → List Field → Node → ℕ
   fields_words T fs no_fields = 0
-  fields_words T fs (field n c t) = content_words T (member_kind fs n) c + fields_words T fs t
+  fields_words T fs (field n c t) = content_words T (kind_at fs n) c + fields_words T fs t
 
   -- what a field has beside its slot: each element has a word, or two where it is a run, and each entry of a map has
   -- four

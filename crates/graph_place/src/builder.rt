@@ -2,21 +2,20 @@
 
 ghost use Rattle.std.specs.Prelude.{◌≡◌, ◌≢◌, ◌≤◌, ◌<◌, ◌+◌, ◌*◌, ◌^◌, ℕ, Bool, true, false, List, [], ◌∷◌, ◌++◌, length, IfOk, OnOk, Some};
 ghost use Rattle.std.specs.Str.{IsUtf8};
-ghost use Rattle.mrpc_table.specs.Node.{Node, one};
-ghost use Rattle.mrpc_table.specs.Normal.{fields_of, field_at, HasFields, OneMemberEach, IsItem, AreItems, ArePairs, depth, content_depth, item_depth, items_depth, pairs_depth};
+ghost use Rattle.mrpc_table.specs.Node.{Node, one, content_at};
+ghost use Rattle.mrpc_table.specs.Normal.{fields_of, field_at, HasFields, OneMemberEach, IsItem, AreItems, ArePairs, depth, content_depth, item_depth, items_depth, pairs_depth, kind_at};
 ghost use Rattle.mrpc_table.specs.Valid.{IsValid, IsField};
 ghost use Rattle.mrpc_table.specs.View.{item_of, items_of, pairs_of, content_of};
 ghost use Rattle.mrpc_table.specs.declared.limits.TheConstants.{MAX_DEPTH};
 ghost use Rattle.mrpc_table.specs.declared.table.Kind.{Kind};
 ghost use Rattle.mrpc_table.specs.declared.table.Field.{Field};
 ghost use Rattle.mrpc_table.specs.declared.table.Table.{Table};
-ghost use Rattle.graph_form.specs.Roles.{Expected, elements_address, entries_address, case_word, plain_role, optional_role, slot_role, slots_from, cases_from, node_words, own_slots, oneofs_of, is_member, member_kind, element_words, run_words};
+ghost use Rattle.graph_form.specs.Roles.{Expected, elements_address, entries_address, case_word, plain_role, optional_role, slot_role, slots_from, cases_from, node_words, own_slots, oneofs_of, is_member, element_words, run_words};
 ghost use Rattle.graph_form.specs.Forgotten.{run_at, slot_content, slots_tree, with_field, with_member, elements_at, entries_at, tree_of};
-ghost use Rattle.graph_place.specs.Content.{content_at};
 ghost use Rattle.graph_place.specs.Laid.{Puts, PutsWord, Begun, HoldsItem, members, found_words, listed, IsMemberOf, HoldsContent, run_words_of, NoMessage, run_expected, HasBytes};
 ghost use Rattle.graph_place.specs.Size.{tree_words, fields_words, content_words, item_words, many_words, pairs_words};
 
-use crate::look_up::{content_of, kind_of, members_of, value_of};
+use crate::look_up::{kind_of, members_of, value_of};
 use graph_form::{element_words, is_member, oneofs_of, run_words, size_words};
 use mrpc_table::{Entries, Field, FieldValue, Kind, Label, Memory, Table, Tree, Value, Values};
 use std::alloc::Global;
@@ -124,22 +123,22 @@ impl Builder {
         requires from_one { 1 ≤ place }
         requires slot { is_member field.now.label ≡ false → place + 2 ≤ self.old.free }
         requires room { is_member field.now.label ≡ false
-            → self.old.free + found_words table.now field.now.kind (content_at field.now.number tree.now) < 2 ^ 64 }
+            → self.old.free + found_words table.now field.now.kind (content_at tree.now field.now.number) < 2 ^ 64 }
         ensures member { is_member field.now.label ≡ true
             → IfOk result (λ next. (next ≡ place) × (self.new ≡ self.old)) }
         ensures place { is_member field.now.label ≡ false → IfOk result (λ next. next ≡ place + 2) }
         ensures free { is_member field.now.label ≡ false → OnOk result (self.new.free
-            ≡ self.old.free + found_words table.now field.now.kind (content_at field.now.number tree.now)) }
+            ≡ self.old.free + found_words table.now field.now.kind (content_at tree.now field.now.number)) }
         ensures puts { is_member field.now.label ≡ false → OnOk result ((H level : ℕ)
             → self.new.free ≤ H → level + depth tree.now ≤ MAX_DEPTH + 1
             → PutsWord table.now H (slot_role field.now.label field.now.kind level, place)
             (place + 2) self.old.free self.new.free self.old.words.items self.new.words.items
-            (λ w. slot_content table.now field.now.label field.now.kind w ≡ content_at field.now.number tree.now)) }
+            (λ w. slot_content table.now field.now.label field.now.kind w ≡ content_at tree.now field.now.number)) }
     {
         if is_member(field.label) {
             return Ok(place);
         }
-        match content_of(tree, field.number) {
+        match tree.content(field.number) {
             Some(content) => {
                 self.slot(table, field.label, field.kind, content, place)?;
                 Ok(place + 2)
@@ -196,16 +195,16 @@ impl Builder {
         requires from_one { 1 ≤ place }
         requires slot { place + 3 ≤ self.old.free }
         requires room { self.old.free
-            + found_words table.now (member_kind (fields_of table.now message) member) (content_at member tree.now)
+            + found_words table.now (kind_at (fields_of table.now message) member) (content_at tree.now member)
             < 2 ^ 64 }
         ensures free { OnOk result (self.new.free ≡ self.old.free
-            + found_words table.now (member_kind (fields_of table.now message) member) (content_at member tree.now)) }
+            + found_words table.now (kind_at (fields_of table.now message) member) (content_at tree.now member)) }
         ensures puts { OnOk result ((H level oneof : ℕ) → self.new.free ≤ H → level + depth tree.now ≤ MAX_DEPTH + 1
             → IsMemberOf (fields_of table.now message) oneof tree.now member
             → PutsWord table.now H (case_word (fields_of table.now message) oneof level, place)
             (place + 3) self.old.free self.new.free self.old.words.items self.new.words.items
             (λ w. (t : Node) → with_member table.now (fields_of table.now message) w t
-            ≡ with_field member (content_at member tree.now) t)) }
+            ≡ with_field member (content_at tree.now member) t)) }
     {
         self.put(place, u64::from(member))?;
         if member == 0 {

@@ -1,22 +1,21 @@
 //! What a table and a tree say of a message.
 
 ghost use Rattle.std.specs.Prelude.{◌≡◌, ◌≢◌, ◌<◌, ◌*◌, ℕ, length, IfNone, IfSome, Some, None, slice_index, if◌then◌else◌};
-ghost use Rattle.mrpc_table.specs.Node.{Item, one};
-ghost use Rattle.mrpc_table.specs.Normal.{fields_of};
+ghost use Rattle.mrpc_table.specs.Node.{Item, one, content_at, NumbersAscend};
+ghost use Rattle.mrpc_table.specs.Normal.{fields_of, kind_at};
 ghost use Rattle.mrpc_table.specs.Valid.{IsValid};
-ghost use Rattle.mrpc_table.specs.View.{content_of, item_of};
+ghost use Rattle.mrpc_table.specs.View.{item_of};
 ghost use Rattle.mrpc_table.specs.declared.limits.TheConstants.{MAX_FIELDS};
 ghost use Rattle.mrpc_table.specs.declared.table.Label.TheVariants.{Member};
-ghost use Rattle.mrpc_table.specs.Weight.{weight, content_weight, item_weight};
-ghost use Rattle.graph_form.specs.Roles.{member_kind};
-ghost use Rattle.graph_place.specs.Content.{content_at, Ascends, is_of, is_member_of, member_of};
+ghost use Rattle.mrpc_table.specs.Weight.{weight, item_weight};
+ghost use Rattle.graph_place.specs.Content.{is_of, is_member_of, member_of};
 
 use mrpc_table::{FieldValue, Kind, Label, MAX_FIELDS, Table, Tree, Value};
 
 /// The kind of the field of a number in the message at a place of the table.
 pub fn kind_of(table: &Table, message: u32, number: u32) -> Kind
     requires { IsValid table.now }
-    ensures { result ≡ member_kind (fields_of table.now message) number }
+    ensures { result ≡ kind_at (fields_of table.now message) number }
 {
     match table.field(message, number) {
         Some(field) => field.kind,
@@ -24,28 +23,14 @@ pub fn kind_of(table: &Table, message: u32, number: u32) -> Kind
     }
 }
 
-/// What a tree has under a number, in time by the logarithm of its fields.
-pub fn content_of(tree: &Tree, number: u32) -> Option<&FieldValue>
-    requires { Ascends 0 tree.now }
-    ensures some { IfSome result (λ content. content_at number tree.now ≡ Some (content_of content.now)) }
-    ensures less { IfSome result (λ content. content_weight (content_of content.now) < weight tree.now) }
-    ensures none { IfNone result (content_at number tree.now ≡ None) }
-{
-    let fields = tree.fields.as_slice();
-    match fields.binary_search_by_key(&number, |field| field.0) {
-        Ok(place) => Some(&fields[place].1),
-        Err(_) => None,
-    }
-}
-
 /// The value that a tree has under a number, if it has a single one there.
 pub fn value_of(tree: &Tree, number: u32) -> Option<&Value>
-    requires { Ascends 0 tree.now }
-    ensures some { IfSome result (λ value. content_at number tree.now ≡ Some (one (item_of value.now))) }
+    requires { NumbersAscend 0 tree.now }
+    ensures some { IfSome result (λ value. content_at tree.now number ≡ Some (one (item_of value.now))) }
     ensures less { IfSome result (λ value. item_weight (item_of value.now) < weight tree.now) }
-    ensures none { IfNone result ((i : Item) → content_at number tree.now ≢ Some (one i)) }
+    ensures none { IfNone result ((i : Item) → content_at tree.now number ≢ Some (one i)) }
 {
-    match content_of(tree, number) {
+    match tree.content(number) {
         Some(content) => match content {
             FieldValue::One(value) => Some(value),
             FieldValue::Many(_) | FieldValue::Pairs(_) => None,

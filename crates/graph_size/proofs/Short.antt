@@ -4,7 +4,7 @@ use Rattle.std.proofs.Common.{◌≡◌, ℕ, ◌+◌, ◌-◌, ◌*◌, ◌<◌
 use Rattle.std.proofs.lemmas.List.{length-take}
 use Rattle.std.specs.Prelude.{option_map, unwrap_or, nat_lt}
 use Rattle.mrpc_table.specs.Node.{Node, no_fields, field, Content, one, many, pairs, Item, number, Items, no_items, item}
-use Rattle.mrpc_table.specs.Normal.{fields_of}
+use Rattle.mrpc_table.specs.Normal.{fields_of, kind_at}
 use Rattle.mrpc_table.specs.Valid.{IsValid}
 use Rattle.mrpc_table.specs.declared.table.Kind.{Kind}
 use Rattle.mrpc_table.specs.declared.table.Kind.TheVariants.{Text, Octets, Message as OfMessage, Uint64}
@@ -13,10 +13,10 @@ use Rattle.mrpc_table.specs.declared.table.Label.TheVariants.{Plain, Optional, R
 use Rattle.mrpc_table.specs.declared.table.Field.{Field}
 use Rattle.mrpc_table.specs.declared.table.Table.{Table}
 use Rattle.map_entries.specs.Last.{last_of_each}
-use Rattle.wire_base.specs.Encoding.{tag, delimited, kind_at, label_at, is_packed, fields_bytes, content_bytes, item_bytes, joined_bytes, records_bytes, entries_bytes, encoding}
+use Rattle.wire_base.specs.Encoding.{tag, delimited, label_at, is_packed, fields_bytes, content_bytes, item_bytes, joined_bytes, records_bytes, entries_bytes, encoding}
 use Rattle.mrpc_table.specs.Words.{key_kind}
 use Rattle.mrpc_table.specs.WireTypes.{wire_len, wire_type_of}
-use Rattle.graph_form.specs.Roles.{own_slots, member_kind, word_bytes}
+use Rattle.graph_form.specs.Roles.{own_slots, word_bytes}
 use Rattle.graph_form.specs.Placed.{Placed, nothing, first, Word, word, loads}
 use Rattle.graph_form.specs.Forgotten.{insert_field, with_field, chain_bytes, run_at, number_at, unless_zero, optional_item, slots_tree, slot_content, with_member, plain_item, elements_at, elements_in, entries_at, entries_in, tree_of}
 use Rattle.graph_size.proofs.Bytes.{TenBytes, wire_type-small, tag-at_most_five, tag-at_most_one, number-at_most_ten, delimited-short}
@@ -224,7 +224,7 @@ with_field-length T fs n (Some c) t = insert-length T fs n c t
 member-short : (ten : TenBytes) (T : Table) (fs : List Field) (p v : ℕ) (c : Placed) (t : Node) (bound : ℕ) → Facts T c → length (fields_bytes T fs t) ≤ bound → length (fields_bytes T fs (with_member T fs (word p v c) t)) ≤ 15 * (1 + count c) + bound
 member-short ten T fs p v nothing t bound facts rest = omega (arith, rest)
 member-short ten T fs p v (first w P) t bound facts rest =
-    let k = member_kind fs v in
+    let k = kind_at fs v in
     let i = plain_item T k w in
     let e = one-at T fs v k i 10 (count (first w P)) refl (ten _) (facts.head k) in
     let f = insert-length T fs v (one i) t in

@@ -1,3 +1,4 @@
+mod ContentLemmas
 mod Cuts
 mod Digits
 mod FieldLemmas

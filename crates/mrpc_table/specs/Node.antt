@@ -1,5 +1,5 @@
 -- A message as data: its fields in order, each a number with what the field has.
-use Rattle.std.specs.Prelude.{ℕ, List}
+use Rattle.std.specs.Prelude.{ℕ, ◌<◌, ◌==◌, if◌then◌else◌, List, Option, Some, None}
 
 mutual
   pub data Node : Type 0 where
@@ -23,6 +23,16 @@ mutual
   pub data Pairs : Type 0 where
     no_pairs : Pairs
     pair : Item → Item → Pairs → Pairs
+
+-- what a message has under a number: the content of its first field of that number
+abbrev pub content_at : Node → ℕ → Option Content
+content_at no_fields n = None
+content_at (field m c t) n = if m == n then Some c else content_at t n
+
+-- the numbers of a message's fields ascend from above `last`
+abbrev pub NumbersAscend : ℕ → Node → Type 0
+NumbersAscend last no_fields = Unit {0}
+NumbersAscend last (field n c t) = (last < n) × NumbersAscend n t
 
 -- the fields, and one more at the end
 abbrev pub push_field : Node → ℕ → Content → Node

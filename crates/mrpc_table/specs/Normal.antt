@@ -10,7 +10,7 @@ use Rattle.mrpc_table.specs.Node.{Node, no_fields, field, Content, one, many, pa
 use Rattle.mrpc_table.specs.Words.{IsWordForm, rank}
 use Rattle.mrpc_table.specs.declared.limits.TheConstants.{MAX_DEPTH}
 use Rattle.mrpc_table.specs.declared.table.Kind.{Kind}
-use Rattle.mrpc_table.specs.declared.table.Kind.TheVariants.{Text, Octets, Message as OfMessage}
+use Rattle.mrpc_table.specs.declared.table.Kind.TheVariants.{Uint64, Text, Octets, Message as OfMessage}
 use Rattle.mrpc_table.specs.declared.table.Label.{Label}
 use Rattle.mrpc_table.specs.declared.table.Label.TheVariants.{Plain, Optional, Repeated, Packed, Map, Member}
 use Rattle.mrpc_table.specs.declared.table.Field.{Field}
@@ -22,6 +22,10 @@ fields_of T i = unwrap_or (option_map (λ m. m.fields) (slice_get T.messages i))
 
 abbrev pub field_at : List Field → ℕ → Option Field
 field_at fs n = find (λ f. f.number == n) fs
+
+-- the kind of the field of a number
+abbrev pub kind_at : List Field → ℕ → Kind
+kind_at fs n = unwrap_or (option_map (λ f. f.kind) (field_at fs n)) Uint64
 
 -- a number of 0, or a run of nothing
 abbrev pub IsDefault : Item → Type 0

@@ -31,7 +31,7 @@ pub use table::{
     ChoiceValues, Choices, Enums, Field, Fields, Kind, Label, Message, Messages, Method, Methods,
     Names, Table,
 };
-pub use tree::{Entries, FieldValue, Numbered, Tree, Value, Values};
+pub use tree::{Entries, FieldValue, Numbered, Tree, Value, Values, find_content};
 pub use words::{
     Decimal, cut, is_full_form, is_full_name, is_name, is_name_form, is_short, is_short_full,
     line_count, number_of,

@@ -1,5 +1,11 @@
 //! A message as a tree of numbers, runs of bytes and messages.
 
+ghost use Rattle.std.specs.Prelude.{◌≡◌, ◌<◌, ℕ, None, length, option_map, slice_index_or, IfSome, IfNone};
+ghost use Rattle.std.specs.Option.{option_copied};
+ghost use Rattle.mrpc_table.specs.Node.{content_at, NumbersAscend};
+ghost use Rattle.mrpc_table.specs.View.{content_of, node_of};
+ghost use Rattle.mrpc_table.specs.Weight.{weight, content_weight};
+
 use crate::sequence::Bytes;
 use std::marker::Model;
 
@@ -61,4 +67,37 @@ impl Model for Tree {
     ghost use Rattle.mrpc_table.specs.Falls.{deep_tree};
 
     ghost size_decreases = { λ a h. deep_tree a.fields.items };
+}
+
+impl Tree {
+    /// What the tree has under a number, in time by the logarithm of its fields.
+    pub fn content(&self, number: u32) -> Option<&FieldValue>
+        requires { NumbersAscend 0 self.now }
+        ensures content { option_map content_of (option_copied result) ≡ content_at self.now number }
+        ensures less { IfSome result (λ content. content_weight (content_of content.now) < weight self.now) }
+    {
+        content_among(self.fields.as_slice(), number)
+    }
+}
+
+fn content_among(fields: &[(u32, FieldValue)], number: u32) -> Option<&FieldValue>
+    requires { NumbersAscend 0 (node_of fields.now) }
+    ensures content { option_map content_of (option_copied result) ≡ content_at (node_of fields.now) number }
+    ensures less { IfSome result (λ content. content_weight (content_of content.now) < weight (node_of fields.now)) }
+{
+    let place = find_content(fields, number)?;
+    Some(&fields[place].1)
+}
+
+/// The place of the field of a number among the fields of a tree, in time by the logarithm of the fields.
+pub fn find_content(fields: &[(u32, FieldValue)], number: u32) -> Option<usize>
+    requires { NumbersAscend 0 (node_of fields.now) }
+    ensures within { IfSome result (λ place. place < length fields.now) }
+    ensures numbered { IfSome result (λ place. (f : ℕ × FieldValue) → (slice_index_or fields.now place f).0 ≡ number) }
+    ensures none { IfNone result (content_at (node_of fields.now) number ≡ None) }
+{
+    match fields.binary_search_by_key(&number, |field| field.0) {
+        Ok(place) => Some(place),
+        Err(_) => None,
+    }
 }

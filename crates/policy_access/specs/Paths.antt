@@ -1,12 +1,12 @@
 -- The value that a tree has at the end of a path (this project's own rule language, over the presence of
 -- Protocol Buffers, "Field Presence").
 use Rattle.std.specs.Prelude.{[], Option, Some, None, option_and_then}
-use Rattle.mrpc_table.specs.Node.{Node, Content, Item, number, run, node}
+use Rattle.mrpc_table.specs.Node.{Node, Content, Item, number, run, node, content_at}
 use Rattle.mrpc_table.specs.declared.table.Kind.{Kind}
 use Rattle.mrpc_table.specs.declared.table.Kind.TheVariants.{Text, Octets, Message}
 use Rattle.mrpc_table.specs.declared.table.Label.{Label}
 use Rattle.mrpc_table.specs.declared.table.Label.TheVariants.{Plain}
-use Rattle.field_path.specs.Trees.{content_under, item_in, message_behind}
+use Rattle.field_path.specs.Trees.{item_in, message_behind}
 use Rattle.field_path.specs.declared.path.Path.{Path}
 
 -- the default of a kind: 0, the empty text or no bytes; a message has none
@@ -36,5 +36,5 @@ item_of_field k label (Some c) = option_and_then compared_item (item_in c)
 abbrev pub item_behind : Node → Path → Option Item
 item_behind t path =
     option_and_then
-    (λ m. item_of_field path.kind path.label (content_under m path.number))
+    (λ m. item_of_field path.kind path.label (content_at m path.number))
     (message_behind t path.way)

@@ -11,7 +11,7 @@ ghost use Rattle.policy_access.specs.Verdict.{is_among, matches};
 
 use crate::call::{Call, is_reply};
 use crate::rule::{About, Calls, Comparison, Condition, Operand, Rule, Test};
-use field_path::{Path, content_under, message_behind};
+use field_path::{Path, message_behind, numbers_ascend};
 use mrpc_table::{FieldValue, Kind, Label, Tree, Value};
 
 fn number_compares(comparison: Comparison, kind: Kind, wanted: &Operand, word: u64) -> bool
@@ -89,7 +89,8 @@ fn meets(tree: &Tree, test: &Test) -> bool
     let Some(message) = message_behind(tree, path.way.as_slice()) else {
         return false;
     };
-    let content = content_under(message, path.number);
+    numbers_ascend();
+    let content = message.content(path.number);
     match &test.condition {
         Condition::Present => content.is_some(),
         Condition::Compares(comparison, wanted) => {

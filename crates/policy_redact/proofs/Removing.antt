@@ -4,11 +4,11 @@ use Rattle.std.specs.Prelude.{remove}
 use Rattle.std.specs.Str.{bytes_eq}
 use Rattle.std.proofs.lemmas.Bool.{eq-eqb}
 use Rattle.std.proofs.lemmas.List.{take_all}
-use Rattle.mrpc_table.specs.Node.{Node, no_fields, field, Content}
+use Rattle.mrpc_table.specs.Node.{Node, no_fields, field, Content, content_at}
 use Rattle.mrpc_table.specs.View.{node_of, content_of}
 use Rattle.mrpc_table.specs.Weight.{weight, content_weight}
 use Rattle.mrpc_table.specs.declared.tree.FieldValue.{FieldValue}
-use Rattle.field_path.specs.Trees.{content_under, AscendsFrom, HoldsAscending, IsAscending}
+use Rattle.field_path.specs.Trees.{AscendsFrom, HoldsAscending, IsAscending}
 use Rattle.policy_redact.specs.Leaving.{without, content_without}
 use Rattle.policy_redact.proofs.Leaving.{other, at_end, on_way, above}
 
@@ -18,10 +18,10 @@ none_by : (same : Bool) (m n : ℕ) (c : Content) (rest : Option Content) → (m
 none_by true m n c rest is none = absurd cc
 none_by false m n c rest is none = (λ e. let clash : true ≡ false = sym (eq-eqb m n e) ∙ is in absurd cc, none)
 
-none_here : (m n : ℕ) (c : Content) (t : Node) → content_under (field m c t) n ≡ None → (m ≢ n) × (content_under t n ≡ None)
-none_here m n c t none = none_by (m == n) m n c (content_under t n) refl none
+none_here : (m n : ℕ) (c : Content) (t : Node) → content_at (field m c t) n ≡ None → (m ≢ n) × (content_at t n ≡ None)
+none_here m n c t none = none_by (m == n) m n c (content_at t n) refl none
 
-pub none-under : (t : Node) (n : ℕ) (path : List ℕ) → content_under t n ≡ None → without (bytes_eq (n ∷ path)) t ≡ t
+pub none-under : (t : Node) (n : ℕ) (path : List ℕ) → content_at t n ≡ None → without (bytes_eq (n ∷ path)) t ≡ t
 none-under no_fields n path none = refl
 none-under (field m c t) n path none =
     let less = none_here m n c t none in

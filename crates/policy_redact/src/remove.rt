@@ -8,8 +8,8 @@ ghost use Rattle.mrpc_table.specs.Weight.{weight, content_weight};
 ghost use Rattle.field_path.specs.Trees.{IsAscending, HoldsAscending};
 ghost use Rattle.policy_redact.specs.Leaving.{without, content_without};
 
-use field_path::place_under;
-use mrpc_table::{FieldValue, Tree, Value};
+use field_path::numbers_ascend;
+use mrpc_table::{FieldValue, Tree, Value, find_content};
 
 fn remove_field(tree: &mut Tree, number: u32) -> bool
     requires { IsAscending tree.old }
@@ -17,7 +17,8 @@ fn remove_field(tree: &mut Tree, number: u32) -> bool
     ensures smaller { OnTrue result (weight tree.new < weight tree.old) }
     ensures unchanged { OnFalse result (tree.new ≡ tree.old) }
 {
-    let Some(place) = place_under(tree.fields.as_slice(), number) else {
+    numbers_ascend();
+    let Some(place) = find_content(tree.fields.as_slice(), number) else {
         return false;
     };
     tree.fields.remove(place);
@@ -50,9 +51,10 @@ pub fn remove_at(tree: &mut Tree, way: &[u32], number: u32) -> bool
     ensures smaller { OnTrue result (weight tree.new < weight tree.old) }
     ensures unchanged { OnFalse result (tree.new ≡ tree.old) }
 {
+    numbers_ascend();
     match way {
         [] => remove_field(tree, number),
-        [first, rest @ ..] => match place_under(tree.fields.as_slice(), *first) {
+        [first, rest @ ..] => match find_content(tree.fields.as_slice(), *first) {
             None => false,
             Some(place) => remove_inside(&mut tree.fields[place].1, rest, number),
         },

@@ -3,11 +3,11 @@
 use Rattle.std.specs.Prelude.{ℕ, zero, suc, ◌+◌, ◌-◌, ◌*◌, ◌/◌, ◌%◌, ◌^◌, List, [], ◌∷◌, ◌++◌, length, option_map, unwrap_or, if◌then◌else◌, nat_lt, Bool, true, false}
 use Rattle.std.specs.Int.{w32, w64, to_le_bytes}
 use Rattle.mrpc_table.specs.Node.{Node, no_fields, field, Content, one, many, pairs, Item, number, run, node, Items, no_items, item, Pairs, no_pairs, pair}
-use Rattle.mrpc_table.specs.Normal.{fields_of, field_at}
+use Rattle.mrpc_table.specs.Normal.{fields_of, field_at, kind_at}
 use Rattle.mrpc_table.specs.WireTypes.{wire_len, wire_type_of}
 use Rattle.mrpc_table.specs.Words.{key_kind, message_of}
 use Rattle.mrpc_table.specs.declared.table.Kind.{Kind}
-use Rattle.mrpc_table.specs.declared.table.Kind.TheVariants.{Uint64, Sint32, Sint64, Fixed32, Fixed64, Sfixed32, Sfixed64, Float, Double}
+use Rattle.mrpc_table.specs.declared.table.Kind.TheVariants.{Sint32, Sint64, Fixed32, Fixed64, Sfixed32, Sfixed64, Float, Double}
 use Rattle.mrpc_table.specs.declared.table.Label.{Label}
 use Rattle.mrpc_table.specs.declared.table.Label.TheVariants.{Plain, Packed}
 use Rattle.mrpc_table.specs.declared.table.Field.{Field}
@@ -46,10 +46,7 @@ number_bytes Sfixed32 n = to_le_bytes w32 (n % 2 ^ 32)
 number_bytes Float n = to_le_bytes w32 n
 number_bytes _ n = varint n
 
--- the kind and the label of the field of a number
-abbrev pub kind_at : List Field → ℕ → Kind
-kind_at fs n = unwrap_or (option_map (λ f. f.kind) (field_at fs n)) Uint64
-
+-- the label of the field of a number
 abbrev pub label_at : List Field → ℕ → Label
 label_at fs n = unwrap_or (option_map (λ f. f.label) (field_at fs n)) Plain
 

@@ -6,7 +6,7 @@ use Rattle.std.specs.Ordering.{nat_cmp, ordering_then}
 use Rattle.std.specs.declared.cmp.Ordering.TheVariants.{Less, Equal, Greater}
 use Rattle.mrpc_table.specs.Node.{Node, no_fields, field, Content, one, many, pairs, Item, number, run, node, Items, no_items, item, Pairs, no_pairs, pair}
 use Rattle.mrpc_table.specs.Words.{is_numeric, rank, key_kind, message_of}
-use Rattle.mrpc_table.specs.Normal.{fields_of, field_at, IsDefault, IsBefore, AscendFrom, KeysAscend, TakesOne, TakesMany, HasFields, HasContent, IsItem, AreItems, ArePairs, IsNormal, depth, content_depth, item_depth, items_depth, pairs_depth}
+use Rattle.mrpc_table.specs.Normal.{fields_of, field_at, IsDefault, IsBefore, AscendFrom, KeysAscend, TakesOne, TakesMany, HasFields, HasContent, IsItem, AreItems, ArePairs, IsNormal, depth, content_depth, item_depth, items_depth, pairs_depth, kind_at}
 use Rattle.mrpc_table.specs.Fits.{FitsWithin}
 use Rattle.mrpc_table.specs.declared.table.Kind.{Kind}
 use Rattle.mrpc_table.specs.declared.table.Kind.TheVariants.{Message as OfMessage}
@@ -14,7 +14,7 @@ use Rattle.mrpc_table.specs.declared.table.Label.{Label}
 use Rattle.mrpc_table.specs.declared.table.Label.TheVariants.{Plain, Optional, Repeated, Packed, Map, Member}
 use Rattle.mrpc_table.specs.declared.table.Field.{Field}
 use Rattle.mrpc_table.specs.declared.table.Table.{Table}
-use Rattle.wire_base.specs.Encoding.{kind_at, label_at, is_packed, encoding}
+use Rattle.wire_base.specs.Encoding.{label_at, is_packed, encoding}
 use Rattle.wire_decode.specs.Reads.{Reads, read_end, is_message}
 use Rattle.wire_decode.specs.Merges.{Merges}
 use Rattle.map_entries.specs.Last.{key_cmp, with_pair, last_of_each}

@@ -5,7 +5,7 @@ use Rattle.std.specs.Str.{IsUtf8}
 use Rattle.std.proofs.lemmas.List.{length-append}
 use Rattle.std.proofs.lemmas.Bool.Decides.{eqb_tells}
 use Rattle.mrpc_table.specs.Node.{Node, no_fields, field, Content, one, many, pairs, Item, number, run, node, Items, no_items, item, Pairs, no_pairs, pair}
-use Rattle.mrpc_table.specs.Normal.{fields_of, field_at, IsRun, HasFields, HasContent, TakesOne, TakesMany, IsItem, AreItems, ArePairs, depth, content_depth, item_depth, items_depth, pairs_depth}
+use Rattle.mrpc_table.specs.Normal.{fields_of, field_at, IsRun, HasFields, HasContent, TakesOne, TakesMany, IsItem, AreItems, ArePairs, depth, content_depth, item_depth, items_depth, pairs_depth, kind_at}
 use Rattle.mrpc_table.specs.Words.{is_numeric, IsWordForm, key_kind, message_of}
 use Rattle.mrpc_table.specs.declared.table.Kind.{Kind}
 use Rattle.mrpc_table.specs.declared.table.Kind.TheVariants.{Uint64, Fixed32, Fixed64, Sfixed32, Sfixed64, Float, Double, Text, Octets, Message as OfMessage}
@@ -13,7 +13,7 @@ use Rattle.mrpc_table.specs.declared.table.Label.{Label}
 use Rattle.mrpc_table.specs.declared.table.Label.TheVariants.{Plain, Optional, Packed, Map}
 use Rattle.mrpc_table.specs.declared.table.Field.{Field}
 use Rattle.mrpc_table.specs.declared.table.Table.{Table}
-use Rattle.wire_base.specs.Encoding.{number_bytes, tag, delimited, kind_at, label_at, is_packed, fields_bytes, content_bytes, item_bytes, joined_bytes, records_bytes, entries_bytes}
+use Rattle.wire_base.specs.Encoding.{number_bytes, tag, delimited, label_at, is_packed, fields_bytes, content_bytes, item_bytes, joined_bytes, records_bytes, entries_bytes}
 use Rattle.mrpc_table.specs.WireTypes.{wire_type_of}
 use Rattle.wire_base.specs.Records.{PayloadAt}
 use Rattle.wire_base.specs.declared.records.Payload.{Payload}

@@ -1,11 +1,11 @@
 -- What the records of an encoding have: the contents of a tree, a record for each that has its own.
 use Rattle.std.proofs.Common.{ℕ, List, cond}
 use Rattle.mrpc_table.specs.Node.{Node, no_fields, field, Content, one, many, pairs, Item, number, run, node, Items, no_items, item, Pairs, no_pairs, pair}
-use Rattle.mrpc_table.specs.Normal.{fields_of}
+use Rattle.mrpc_table.specs.Normal.{fields_of, kind_at}
 use Rattle.mrpc_table.specs.declared.table.Kind.{Kind}
 use Rattle.mrpc_table.specs.declared.table.Field.{Field}
 use Rattle.mrpc_table.specs.declared.table.Table.{Table}
-use Rattle.wire_base.specs.Encoding.{kind_at, label_at, is_packed}
+use Rattle.wire_base.specs.Encoding.{label_at, is_packed}
 use Rattle.mrpc_table.specs.Words.{key_kind, message_of}
 use Rattle.wire_decode.specs.Merged.{join_fields}
 

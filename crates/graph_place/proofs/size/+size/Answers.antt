@@ -4,8 +4,7 @@ use Rattle.mrpc_table.specs.Normal.{fields_of}
 use Rattle.mrpc_table.specs.View.{items_of, pairs_of, node_of}
 use Rattle.mrpc_table.specs.Weight.{weight, items_weight, pairs_weight}
 use Rattle.graph_place.specs.Size.{fields_words, many_words, pairs_words}
-use Rattle.graph_place.proofs.Found.{field_weight}
-use Rattle.graph_place.proofs.Parts.{element_weight, entry_weight}
+use Rattle.graph_place.proofs.Parts.{field_weight, element_weight, entry_weight}
 use Rattle.graph_place.proofs.size.+size.Goals as goal
 
 pub node_words-content_words-requires : goal.node_words-content_words-requires

@@ -1,11 +1,11 @@
 use Rattle.std.proofs.Common.{◌≡◌, ℕ, ◌-◌, ◌<◌, Bool, true, false, List, [], ◌∷◌, ◌++◌, length, length-take, length-drop, drop, get_or, set, None, ap, sym, ◌∙◌, subst, arith}
 use Rattle.std.specs.Str.{bytes_eq}
 use Rattle.std.specs.Bool.{OnTrue, OnFalse}
-use Rattle.mrpc_table.specs.Node.{Node}
+use Rattle.mrpc_table.specs.Node.{Node, content_at}
 use Rattle.mrpc_table.specs.View.{node_of, content_of}
 use Rattle.mrpc_table.specs.Weight.{weight, content_weight}
 use Rattle.mrpc_table.specs.declared.tree.FieldValue.{FieldValue}
-use Rattle.field_path.specs.Trees.{IsAscending, HoldsAscending, content_under}
+use Rattle.field_path.specs.Trees.{IsAscending, HoldsAscending}
 use Rattle.policy_redact.specs.Leaving.{without}
 use Rattle.policy_redact.proofs.Removing.{none-under, stepped, same-inside, lighter-inside, held, begins, rest_of}
 use Rattle.policy_redact.proofs.remove.+remove.Goals as goal
@@ -20,8 +20,8 @@ remove_at-remove_inside-requires t c =
 pub remove_at-returns-in-None-clause-left : goal.remove_at-returns-in-None-clause-left
 remove_at-returns-in-None-clause-left t c =
     let n = get_or c.args.way.now 0 0 in
-    let none = subst (λ (l : List (ℕ × FieldValue)). content_under (node_of l) n ≡ None) c.as_slice.ensures.value c.in-None.ensures.none in
-    let none_in = subst (λ (u : Node). content_under u n ≡ None) c.tree.view_is none in
+    let none = subst (λ (l : List (ℕ × FieldValue)). content_at (node_of l) n ≡ None) c.as_slice.ensures.value c.in-None.ensures.none in
+    let none_in = subst (λ (u : Node). content_at u n ≡ None) c.tree.view_is none in
     sym (ap (λ (path : List ℕ). without (bytes_eq path) c.args.tree.now) (begins c.args.way.now c.args.number c.in-len1-up.len_at_least)
     ∙ none-under c.args.tree.now n (rest_of c.args.way.now ++ c.args.number ∷ []) none_in)
 

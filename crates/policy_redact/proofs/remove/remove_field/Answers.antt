@@ -1,18 +1,18 @@
 use Rattle.std.proofs.Common.{◌≡◌, ℕ, ◌<◌, List, [], ◌∷◌, length, get_or, None, ap, sym, ◌∙◌, subst}
 use Rattle.std.specs.Str.{bytes_eq}
-use Rattle.mrpc_table.specs.Node.{Node}
+use Rattle.mrpc_table.specs.Node.{Node, content_at}
 use Rattle.mrpc_table.specs.View.{node_of}
 use Rattle.mrpc_table.specs.Weight.{weight}
 use Rattle.mrpc_table.specs.declared.tree.FieldValue.{FieldValue}
-use Rattle.field_path.specs.Trees.{IsAscending, content_under}
+use Rattle.field_path.specs.Trees.{IsAscending}
 use Rattle.policy_redact.specs.Leaving.{without}
 use Rattle.policy_redact.proofs.Removing.{none-under, removed, lighter}
 use Rattle.policy_redact.proofs.remove.remove_field.Goals as goal
 
 pub returns-in_default-clause-left : goal.returns-in_default-clause-left
 returns-in_default-clause-left c =
-    let none = subst (λ (fs : List (ℕ × FieldValue)). content_under (node_of fs) c.args.number ≡ None) c.as_slice.ensures.value c.in_default.ensures.none in
-    sym (none-under c.args.tree.now c.args.number [] (subst (λ (t : Node). content_under t c.args.number ≡ None) c.tree.view_is none))
+    let none = subst (λ (fs : List (ℕ × FieldValue)). content_at (node_of fs) c.args.number ≡ None) c.as_slice.ensures.value c.in_default.ensures.none in
+    sym (none-under c.args.tree.now c.args.number [] (subst (λ (t : Node). content_at t c.args.number ≡ None) c.tree.view_is none))
 
 pub returns-clause-left : goal.returns-clause-left
 returns-clause-left c =

@@ -4,13 +4,13 @@ use Rattle.std.proofs.lemmas.Bool.{true≢false}
 use Rattle.std.proofs.lemmas.List.{drop_all}
 use Rattle.std.proofs.lemmas.Result.{on_ok_weaker}
 use Rattle.mrpc_table.specs.Node.{one}
-use Rattle.mrpc_table.specs.Normal.{fields_of, IsItem}
+use Rattle.mrpc_table.specs.Normal.{fields_of, IsItem, kind_at}
 use Rattle.mrpc_table.specs.View.{item_of, items_of, pairs_of, content_of}
 use Rattle.mrpc_table.specs.Words.{key_kind}
 use Rattle.mrpc_table.specs.Weight.{weight, content_weight, item_weight, items_weight, pairs_weight}
 use Rattle.mrpc_table.specs.declared.tree.FieldValue.{FieldValue}
 use Rattle.mrpc_table.specs.declared.tree.Value.{Value}
-use Rattle.graph_form.specs.Roles.{oneofs_of, is_member, member_kind, run_words}
+use Rattle.graph_form.specs.Roles.{oneofs_of, is_member, run_words}
 use Rattle.graph_place.specs.Laid.{is_member_at}
 use Rattle.graph_place.specs.Size.{item_words, content_words, many_words, pairs_words}
 use Rattle.graph_place.specs.declared.builder.Builder.{Builder}
@@ -28,7 +28,7 @@ use Rattle.graph_place.proofs.builder.Builder.+builder.Goals as goal
 
 pub case-returns-then-member-eq0-clause-free : goal.case-returns-then-member-eq0-clause-free
 case-returns-then-member-eq0-clause-free t c =
-    let none = found_none c.args.table.now (member_kind (fields_of c.args.table.now c.args.message) c.args.member) c.args.member c.args.tree.now (c.requires.member.1.some c.if-member-eq0.true) in
+    let none = found_none c.args.table.now (kind_at (fields_of c.args.table.now c.args.message) c.args.member) c.args.member c.args.tree.now (c.requires.member.1.some c.if-member-eq0.true) in
     omega (arith, none, c.put.ensures.free)
 
 pub case-returns-then-member-eq0-clause-puts : goal.case-returns-then-member-eq0-clause-puts
@@ -41,16 +41,16 @@ case-value_of-requires t c =
 
 pub case-item-requires : goal.case-item-requires
 case-item-requires t c =
-    let found = found_there c.args.table.now (member_kind (fields_of c.args.table.now c.args.message) c.args.member) c.args.member c.args.tree.now (one (item_of c.in-Some.value.now)) c.in-Some.ensures.some in
-    let kind : item_words c.args.table.now c.kind_of.result (item_of c.in-Some.value.now) ≡ item_words c.args.table.now (member_kind (fields_of c.args.table.now c.args.message) c.args.member) (item_of c.in-Some.value.now) = ap (λ k. item_words c.args.table.now k (item_of c.in-Some.value.now)) c.kind_of.ensures in
+    let found = found_there c.args.table.now (kind_at (fields_of c.args.table.now c.args.message) c.args.member) c.args.member c.args.tree.now (one (item_of c.in-Some.value.now)) c.in-Some.ensures.some in
+    let kind : item_words c.args.table.now c.kind_of.result (item_of c.in-Some.value.now) ≡ item_words c.args.table.now (kind_at (fields_of c.args.table.now c.args.message) c.args.member) (item_of c.in-Some.value.now) = ap (λ k. item_words c.args.table.now k (item_of c.in-Some.value.now)) c.kind_of.ensures in
     let wide = narrow c.kind_of.result in
     let item = subst (λ k. IsItem c.args.table.now k (item_of c.in-Some.value.now)) (sym c.kind_of.ensures) (one_item c.args.table.now (fields_of c.args.table.now c.args.message) c.args.tree.now c.args.member (item_of c.in-Some.value.now) c.requires.fields c.in-Some.ensures.some) in
     (omega (arith, c.in-Some.ensures.less, c.decreases), (c.requires.valid, (item, (omega arith, (omega (arith, wide, c.requires.slot, c.put.ensures.free), omega (arith, found, kind, c.requires.room, c.put.ensures.free))))))
 
 pub case-returns-in-Some-clause-free : goal.case-returns-in-Some-clause-free
 case-returns-in-Some-clause-free t c =
-    let found = found_there c.args.table.now (member_kind (fields_of c.args.table.now c.args.message) c.args.member) c.args.member c.args.tree.now (one (item_of c.in-Some.value.now)) c.in-Some.ensures.some in
-    let kind : item_words c.args.table.now c.kind_of.result (item_of c.in-Some.value.now) ≡ item_words c.args.table.now (member_kind (fields_of c.args.table.now c.args.message) c.args.member) (item_of c.in-Some.value.now) = ap (λ k. item_words c.args.table.now k (item_of c.in-Some.value.now)) c.kind_of.ensures in
+    let found = found_there c.args.table.now (kind_at (fields_of c.args.table.now c.args.message) c.args.member) c.args.member c.args.tree.now (one (item_of c.in-Some.value.now)) c.in-Some.ensures.some in
+    let kind : item_words c.args.table.now c.kind_of.result (item_of c.in-Some.value.now) ≡ item_words c.args.table.now (kind_at (fields_of c.args.table.now c.args.message) c.args.member) (item_of c.in-Some.value.now) = ap (λ k. item_words c.args.table.now k (item_of c.in-Some.value.now)) c.kind_of.ensures in
     on_ok_weaker c.item.result (λ size. omega (arith, size, found, kind, c.put.ensures.free)) c.item.ensures.free
 
 pub case-returns-in-Some-clause-puts : goal.case-returns-in-Some-clause-puts
@@ -230,15 +230,15 @@ pub field-returns-then-is_member-clause-puts : goal.field-returns-then-is_member
 field-returns-then-is_member-clause-puts t c =
     let own : is_member c.args.field.now.label ≡ true = sym c.is_member.ensures ∙ c.if-is_member.true in λ fails. absurd (true≢false (sym own ∙ fails))
 
-pub field-content_of-requires : goal.field-content_of-requires
-field-content_of-requires t c =
+pub field-content-requires : goal.field-content-requires
+field-content-requires t c =
     fields_ascend c.args.table.now c.requires.fields.0 0 c.args.tree.now c.requires.fields.1
 
 pub field-slot-requires : goal.field-slot-requires
 field-slot-requires t c =
     let own : is_member c.args.field.now.label ≡ false = sym c.is_member.ensures ∙ c.if-is_member.false in
-    let found = found_there c.args.table.now c.args.field.now.kind c.args.field.now.number c.args.tree.now (content_of c.in-Some.content.now) c.in-Some.ensures.some in
-    let holds = field_holds c.args.table.now c.requires.fields.0 c.requires.field.0 c.args.field.now c.args.tree.now (content_of c.in-Some.content.now) c.requires.fields.1 c.requires.fields.2 c.requires.field.1 c.in-Some.ensures.some in
+    let found = found_there c.args.table.now c.args.field.now.kind c.args.field.now.number c.args.tree.now (content_of c.in-Some.content.now) (sym c.in-Some.ensures.content) in
+    let holds = field_holds c.args.table.now c.requires.fields.0 c.requires.field.0 c.args.field.now c.args.tree.now (content_of c.in-Some.content.now) c.requires.fields.1 c.requires.fields.2 c.requires.field.1 (sym c.in-Some.ensures.content) in
     let room = c.requires.room own in
     (omega (arith, c.in-Some.ensures.less, c.decreases), (c.requires.valid, (own, (holds, (c.requires.from_one, (c.requires.slot own, omega (arith, found, room)))))))
 
@@ -252,11 +252,11 @@ field-returns-in_ok-slot-in-Some-clause-place t c =
 
 pub field-returns-in_ok-slot-in-Some-clause-free : goal.field-returns-in_ok-slot-in-Some-clause-free
 field-returns-in_ok-slot-in-Some-clause-free t c =
-    let found = found_there c.args.table.now c.args.field.now.kind c.args.field.now.number c.args.tree.now (content_of c.in-Some.content.now) c.in-Some.ensures.some in λ _. omega (arith, found, c.in_ok-slot-in-Some.ensures.free)
+    let found = found_there c.args.table.now c.args.field.now.kind c.args.field.now.number c.args.tree.now (content_of c.in-Some.content.now) (sym c.in-Some.ensures.content) in λ _. omega (arith, found, c.in_ok-slot-in-Some.ensures.free)
 
 pub field-returns-in_ok-slot-in-Some-clause-puts : goal.field-returns-in_ok-slot-in-Some-clause-puts
 field-returns-in_ok-slot-in-Some-clause-puts t c =
-    λ _. field_there c.args.table.now c.args.field.now c.args.tree.now (content_of c.in-Some.content.now) c.args.place c.args.self.now.free c.slot.new.self.free c.args.self.now.words.items c.slot.new.self.words.items c.in-Some.ensures.some c.in_ok-slot-in-Some.ensures.puts
+    λ _. field_there c.args.table.now c.args.field.now c.args.tree.now (content_of c.in-Some.content.now) c.args.place c.args.self.now.free c.slot.new.self.free c.args.self.now.words.items c.slot.new.self.words.items (sym c.in-Some.ensures.content) c.in_ok-slot-in-Some.ensures.puts
 
 pub field-returns-in_ok-put-in-None-clause-member : goal.field-returns-in_ok-put-in-None-clause-member
 field-returns-in_ok-put-in-None-clause-member t c =
@@ -268,11 +268,11 @@ field-returns-in_ok-put-in-None-clause-place t c =
 
 pub field-returns-in_ok-put-in-None-clause-free : goal.field-returns-in_ok-put-in-None-clause-free
 field-returns-in_ok-put-in-None-clause-free t c =
-    let none = found_none c.args.table.now c.args.field.now.kind c.args.field.now.number c.args.tree.now c.in-None.ensures.none in λ _. omega (arith, none, c.put.ensures.free)
+    let none = found_none c.args.table.now c.args.field.now.kind c.args.field.now.number c.args.tree.now (sym c.in-None.ensures.content) in λ _. omega (arith, none, c.put.ensures.free)
 
 pub field-returns-in_ok-put-in-None-clause-puts : goal.field-returns-in_ok-put-in-None-clause-puts
 field-returns-in_ok-put-in-None-clause-puts t c =
-    λ own. field_absent c.args.table.now c.args.field.now c.args.tree.now c.args.place c.args.self.now.free c.put.new.self.free c.args.self.now.words.items c.put.new.self.words.items own c.in-None.ensures.none (c.requires.slot own) c.put.ensures.free c.in_ok-put-in-None.ensures.words
+    λ own. field_absent c.args.table.now c.args.field.now c.args.tree.now c.args.place c.args.self.now.free c.put.new.self.free c.args.self.now.words.items c.put.new.self.words.items own (sym c.in-None.ensures.content) (c.requires.slot own) c.put.ensures.free c.in_ok-put-in-None.ensures.words
 
 pub item-returns-in-Number-clause-free : goal.item-returns-in-Number-clause-free
 item-returns-in-Number-clause-free t c =

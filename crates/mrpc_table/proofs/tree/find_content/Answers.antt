@@ -1,7 +1,7 @@
 use Rattle.std.proofs.Common.{rules}
 use Rattle.std.proofs.lemmas.List.Sorted.{answers_always}
-use Rattle.field_path.proofs.Finding.{missed, equal_is}
-use Rattle.field_path.proofs.find.place_under.Goals as goal
+use Rattle.mrpc_table.proofs.ContentLemmas.{missed, equal_is}
+use Rattle.mrpc_table.proofs.tree.find_content.Goals as goal
 
 pub returns-in-Ok-clause-numbered : goal.returns-in-Ok-clause-numbered
 returns-in-Ok-clause-numbered c =
