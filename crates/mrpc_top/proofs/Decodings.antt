@@ -40,7 +40,7 @@ lines-append T (f ∷ fs) gs a b p q = (p.0, p.1 ++ b, p.2, lines-append T fs gs
 line_alone : (T : Table) (f : Frame) (line : List ℕ) → IsLineOf T f line → AreLinesOf T (f ∷ []) line
 line_alone T f line h = (line, [], h, refl, sym (append-nil line))
 
-joined-append : (fs gs : List Frame) (more : List ℕ) → joined (fs ++ gs) ++ more ≡ joined fs ++ (joined gs ++ more)
+pub joined-append : (fs gs : List Frame) (more : List ℕ) → joined (fs ++ gs) ++ more ≡ joined fs ++ (joined gs ++ more)
 joined-append fs gs more = ap (λ (bs : List ℕ). bs ++ more) (flat_map-append bytes_of fs gs) ∙ append_assoc (joined fs) (joined gs) more
 
 joined_alone : (f : Frame) → joined (f ∷ []) ≡ bytes_of f

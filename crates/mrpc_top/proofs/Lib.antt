@@ -1,5 +1,7 @@
 mod CheckFaults
+mod CheckNeither
 mod DecodeAnswers
+mod DecodeNeither
 mod DecodeTexts
 mod Decodings
 mod Faults

@@ -1,20 +1,20 @@
 -- The laws of the crates below, as the proofs here use them together.
-use Rattle.std.specs.Prelude.{◌≡◌, ℕ, ◌+◌, ◌<◌, List, [], ◌++◌, length, All}
+use Rattle.std.specs.Prelude.{◌≡◌, ◌⊎◌, ℕ, ◌+◌, ◌<◌, List, [], ◌++◌, length, All}
 use Rattle.mrpc_table.specs.Node.{Node}
 use Rattle.mrpc_table.specs.Text.{table_text}
 use Rattle.mrpc_table.specs.Valid.{IsValid, AreDistinct, HaveOneTextEach}
 use Rattle.mrpc_table.specs.declared.table.Table.{Table}
 use Rattle.table_text.specs.Faults.{IsFirstFault as IsTextFault}
-use Rattle.table_text.specs.TableText.{HasTableBehind}
+use Rattle.table_text.specs.TableText.{HasTableBehind, IsEndless}
 use Rattle.table_text.specs.declared.fault.TableReason.{TableReason}
 use Rattle.wire_decode.specs.Means.{Means}
 use Rattle.wire_decode.specs.Faults.{IsFirstFault}
 use Rattle.wire_decode.specs.declared.fault.DecodeReason.{DecodeReason}
 use Rattle.file_bundle.specs.Bundle.{File as PackedFile, paths_of}
-use Rattle.file_bundle.specs.Laws.{SpellsOnce, NeverSetAndFault, OneFault}
+use Rattle.file_bundle.specs.Laws.{SpellsOnce, NeverSetAndFault, SetOrFault, OneFault}
 use Rattle.schema_files.specs.Resolving.{FilesResolve, HasFilesFault}
 use Rattle.schema_files.specs.declared.fault.FilesReason.{FilesReason}
-use Rattle.frame_transport.specs.Frames.{SplitsOnce, EndsOnce, IsFrame, bytes_of, joined, StandFrom, IsPartial, IsFaultAt, Splits}
+use Rattle.frame_transport.specs.Frames.{SplitsOnce, AlwaysEnds, EndsOnce, IsFrame, bytes_of, joined, StandFrom, IsPartial, IsFaultAt, Splits}
 use Rattle.frame_transport.specs.declared.format.Frame.{Frame}
 use Rattle.frame_transport.specs.declared.fault.FeedFault.{FeedFault}
 use Rattle.proto_file.specs.declared.file.File.{File}
@@ -27,8 +27,13 @@ use Rattle.schema_offences.specs.declared.reason.ResolveReason.{ResolveReason}
 use Rattle.schema_resolve.specs.Resolving.{Resolves}
 use Rattle.schema_resolve.specs.Tables.{IsTableOf}
 
--- one table's text stands behind a head at most, it has one first fault at most, and none where it is canonical
+-- behind a head one table's text stands or no `end` line follows; a text is canonical or has one first fault, and never
+-- both
 pub record TextLaw : Type 0 where
+  pub some_behind : (head body : List ℕ) → ((table : List ℕ) × (rest : List ℕ) × HasTableBehind head (head ++ body) table rest)
+      ⊎ IsEndless head (head ++ body) body
+  pub table_or_fault : (text : List ℕ) → ((t : Table) × IsValid t × (text ≡ table_text t))
+      ⊎ ((line : ℕ) × (reason : TableReason) × IsTextFault text line reason)
   pub one_behind : (head text table rest other more : List ℕ) → HasTableBehind head text table rest
       → HasTableBehind head text other more → (other ≡ table) × (more ≡ rest)
   pub one_first : (text : List ℕ) (m n : ℕ) (r q : TableReason) → IsTextFault text m r → IsTextFault text n q
@@ -37,8 +42,9 @@ pub record TextLaw : Type 0 where
       → ⊥
   pub one_each : HaveOneTextEach
 
--- a stream splits in one way, and ends in one
+-- a stream of bytes splits in one way, and ends in one
 pub record FrameLaw : Type 0 where
+  pub ends : AlwaysEnds
   pub splits_once : SplitsOnce
   pub ends_once : EndsOnce
   pub one_frame : (f g : Frame) (more others : List ℕ) → IsFrame f → IsFrame g
@@ -55,8 +61,10 @@ pub record FrameLaw : Type 0 where
       → StandFrom place frames → Splits (place + length (joined frames)) stream others rest
       → Splits place (joined frames ++ stream) (frames ++ others) rest
 
--- bytes mean one message at most, have one first fault at most, and never both
+-- bytes mean one message or have one first fault, and never both
 pub record MeaningLaw : Type 0 where
+  pub either : (T : Table) (msg : ℕ) (bytes : List ℕ) → ((t : Node) × Means T msg bytes t)
+      ⊎ ((reason : DecodeReason) × (place : ℕ) × IsFirstFault T msg bytes reason place)
   pub one_meaning : (T : Table) (msg : ℕ) (bytes : List ℕ) (t u : Node) → Means T msg bytes t → Means T msg bytes u
       → t ≡ u
   pub one_fault : (T : Table) (msg : ℕ) (bytes : List ℕ) (reason other : DecodeReason) (place at : ℕ)
@@ -65,9 +73,12 @@ pub record MeaningLaw : Type 0 where
       → Means T msg bytes t → IsFirstFault T msg bytes reason place → ⊥
   pub frames : FrameLaw
 
--- a text is of one file at most, has one first fault at most, and never both; and a file has one table at most, one
--- first offence at most, and never both
+-- a text is of one file or has one first fault, and never both; and a file that was read has one table or one first
+-- offence, and never both
 pub record FileLaw : Type 0 where
+  pub either : (text : List ℕ) → ((f : File) × IsTextOf text f) ⊎ ((q : ProtoReason) × (s : Span) × HasFault text q s)
+  pub never_neither : (text : List ℕ) (F : File) → IsTextOf text F → ((T : Table) → Resolves F T → ⊥)
+      → ((q : ResolveReason) (s : Span) → HasOffence F q s → ⊥) → ⊥
   pub one_file : (text : List ℕ) (f g : File) → IsTextOf text f → IsTextOf text g → f ≡ g
   pub one_fault : (text : List ℕ) (q r : ProtoReason) (s t : Span) → HasFault text q s → HasFault text r t
       → (q ≡ r) × (s ≡ t)
@@ -79,9 +90,12 @@ pub record FileLaw : Type 0 where
       → HasOffence F q s → HasOffence F r t → (q ≡ r) × (s ≡ t)
   pub table_or_offence : (F : File) (T : Table) (q : ResolveReason) (s : Span) → Resolves F T → HasOffence F q s → ⊥
 
--- an input is one set of files at most, has one first fault at most, and never both; and files have one table at most,
--- one first fault at most, and never both
+-- behind the first line an input is one set of files or has one first fault, and never both; and files with paths of
+-- their own have one table or one first fault, and never both
 pub record SetLaw : Type 0 where
+  pub either : SetOrFault
+  pub never_neither : (files : List PackedFile) → 0 < length files → AreDistinct (paths_of files)
+      → ((T : Table) → FilesResolve files T → ⊥) → ((i l : ℕ) (q : FilesReason) → HasFilesFault files i l q → ⊥) → ⊥
   pub one_set : SpellsOnce
   pub one_fault : OneFault
   pub set_or_fault : NeverSetAndFault

@@ -136,13 +136,15 @@ fn table_of_set(alloc: Global, text: &[u8]) -> Result<Table, CheckFault>
     }
 }
 
-/// A text has one table at most, and one fault at most, and never both.
+/// A text has one table or one first fault, and never both.
 pub fn one_check()
     ensures tables { (text : List ℕ) (T U : Table) → ChecksAs text T → ChecksAs text U → T ≡ U }
     ensures faults { (text word spelled : List ℕ) (spot at : Spot) → IsCheckFault text spot word
         → IsCheckFault text at spelled → (spot ≡ at) × (word ≡ spelled) }
-    ensures not_both { (text word : List ℕ) (T : Table) (spot : Spot) → ChecksAs text T
+    ensures never_both { (text word : List ℕ) (T : Table) (spot : Spot) → ChecksAs text T
         → IsCheckFault text spot word → ⊥ }
+    ensures never_neither { (text : List ℕ) → ((T : Table) → ChecksAs text T → ⊥)
+        → ((spot : Spot) (word : List ℕ) → IsCheckFault text spot word → ⊥) → ⊥ }
 {
     file_law();
     set_law();

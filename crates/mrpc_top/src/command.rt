@@ -1,6 +1,6 @@
 //! The top call: the words of a command line, the whole input, and the answer.
 
-ghost use Rattle.std.specs.Prelude.{◌≡◌, ◌≢◌, ◌↔◌, ◌≤◌, ◌⊎◌, List, ℕ, ◌++◌, length, IfOk, OnOk, IfSome, IfNone, Some};
+ghost use Rattle.std.specs.Prelude.{◌≡◌, ◌≢◌, ◌↔◌, ◌<◌, ◌≤◌, ◌⊎◌, List, ℕ, ◌++◌, length, All, IfOk, OnOk, IfSome, IfNone, Some};
 ghost use Rattle.std.specs.Io.KnownBytes.{Appends};
 ghost use Rattle.mrpc_base.specs.Faults.{HasCause};
 ghost use Rattle.mrpc_table.specs.declared.table.Table.{Table};
@@ -126,8 +126,8 @@ pub fn run_command<S: Source, K: Sink, W: Sink>(
     }
 }
 
-/// A text has one decoding. It is of one table and one stream, or its text has one first fault; and the
-/// stream is frames to its end, with their lines, or has one first fault, with the lines in front of it.
+/// A text has one decoding. It is of one table and one stream or has one first fault, and never both; and a stream of
+/// bytes is frames to its end, with their lines, or has one first fault, with the lines in front of it, and never both.
 pub fn one_decoding()
     ensures parts { (text stream other : List ℕ) (T U : Table) → Holds text T stream → Holds text U other
         → (T ≡ U) × (stream ≡ other) }
@@ -135,6 +135,8 @@ pub fn one_decoding()
         → IsTextFault text at spelled → (line ≡ at) × (word ≡ spelled) }
     ensures no_text_fault { (text stream word : List ℕ) (T : Table) (line : ℕ) → Holds text T stream
         → IsTextFault text line word → ⊥ }
+    ensures text_or_fault { (text : List ℕ) → ((T : Table) × (stream : List ℕ) × Holds text T stream)
+        ⊎ ((line : ℕ) × (word : List ℕ) × IsTextFault text line word) }
     ensures lines { (T : Table) (stream told other : List ℕ) → IsDecoded T stream told → IsDecoded T stream other
         → told ≡ other }
     ensures cut { (T : Table) (stream told other word spelled : List ℕ) (place at : ℕ)
@@ -142,6 +144,9 @@ pub fn one_decoding()
         → IsCutAt T 0 stream other at spelled → (place ≡ at) × (word ≡ spelled) × (told ≡ other) }
     ensures no_cut { (T : Table) (stream told other word : List ℕ) (place : ℕ) → IsDecoded T stream told
         → IsCutAt T 0 stream other place word → ⊥ }
+    ensures lines_or_cut { (T : Table) (stream : List ℕ) → All (λ byte. byte < 256) stream
+        → ((told : List ℕ) × IsDecoded T stream told)
+        ⊎ ((told : List ℕ) × (place : ℕ) × (word : List ℕ) × IsCutAt T 0 stream told place word) }
 {
     text_law();
     meaning_law();

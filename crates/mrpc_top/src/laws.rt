@@ -7,7 +7,7 @@ use frame_transport::{frames_join, one_frame, one_split};
 use proto_schema::{alone_is_ordered, file_or_fault, one_fault as one_proto_fault, one_file};
 use schema_files::{one_files_fault, one_files_table, table_or_files_fault};
 use schema_resolve::{one_offence, one_table, table_or_offence};
-use table_text::{one_fault as one_table_fault, one_table_behind, one_text};
+use table_text::{one_fault as one_table_fault, one_table_behind, one_text, table_or_fault};
 use wire_decode::{meaning_or_fault, one_fault, one_meaning};
 
 /// What holds of the text of a table within a text.
@@ -17,6 +17,7 @@ pub(crate) fn text_law()
     one_text();
     one_table_fault();
     one_table_behind();
+    table_or_fault();
 }
 
 /// What holds of frames and streams.

@@ -1,5 +1,6 @@
 mod InSet
 mod Lists
+mod Neither
 mod Ones
 mod Placed
 mod Rows

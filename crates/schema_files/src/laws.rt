@@ -14,8 +14,8 @@ use proto_join::{joined_is_ordered, places_apart};
 use proto_schema::{
     file_is_ordered, file_is_within, file_or_fault, one_fault as one_text_fault, one_file,
 };
-use schema_offences::one_offence;
-use schema_resolve::one_table;
+use schema_offences::{offences_stand, one_offence};
+use schema_resolve::{one_table, table_or_offence};
 
 /// The files of a set are joined to one list of parts at most.
 pub fn one_join()
@@ -61,15 +61,23 @@ pub fn one_files_fault()
     places_apart();
 }
 
-/// A set of files never has both a table and a first fault.
+/// Files that have paths of their own, at least one, have a table or a first fault, and never both.
 pub fn table_or_files_fault()
-    ensures { (files : List PackedFile) (t : Table) (i l : ℕ) (q : FilesReason) → AreDistinct (paths_of files)
+    ensures never_both { (files : List PackedFile) (t : Table) (i l : ℕ) (q : FilesReason) → AreDistinct (paths_of files)
         → FilesResolve files t → HasFilesFault files i l q → ⊥ }
+    ensures never_neither { (files : List PackedFile) → 0 < length files → AreDistinct (paths_of files)
+        → ((t : Table) → FilesResolve files t → ⊥)
+        → ((i l : ℕ) (q : FilesReason) → HasFilesFault files i l q → ⊥) → ⊥ }
 {
     one_file();
     file_or_fault();
     one_reach();
     reach_or_fault();
+    joined_is_sound();
+    joined_is_ordered();
+    offences_stand();
+    places_apart();
+    table_or_offence();
 }
 
 /// The first fault of a set stands in one of its files.

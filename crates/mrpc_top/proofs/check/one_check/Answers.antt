@@ -1,4 +1,5 @@
 use Rattle.mrpc_top.proofs.OneCheck.{one_of_each, one_check_fault, no_check_fault}
+use Rattle.mrpc_top.proofs.CheckNeither.{no_check_neither}
 use Rattle.mrpc_top.proofs.check.one_check.Goals as goal
 
 pub returns-clause-tables : goal.returns-clause-tables
@@ -7,5 +8,8 @@ returns-clause-tables c = one_of_each c.file_law.ensures c.set_law.ensures
 pub returns-clause-faults : goal.returns-clause-faults
 returns-clause-faults c = λ text word spelled spot at. one_check_fault c.file_law.ensures c.set_law.ensures text spot at word spelled
 
-pub returns-clause-not_both : goal.returns-clause-not_both
-returns-clause-not_both c = no_check_fault c.file_law.ensures c.set_law.ensures
+pub returns-clause-never_neither : goal.returns-clause-never_neither
+returns-clause-never_neither c = no_check_neither c.file_law.ensures c.set_law.ensures
+
+pub returns-clause-never_both : goal.returns-clause-never_both
+returns-clause-never_both c = no_check_fault c.file_law.ensures c.set_law.ensures

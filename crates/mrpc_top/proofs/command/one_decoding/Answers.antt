@@ -1,4 +1,5 @@
 use Rattle.mrpc_top.proofs.DecodeAnswers.{no_stream_fault}
+use Rattle.mrpc_top.proofs.DecodeNeither.{held_or_faulty, told_or_cut}
 use Rattle.mrpc_top.proofs.OneDecoding.{one_decoded, one_cut}
 use Rattle.mrpc_top.proofs.TextAnswers.{one_holding, no_text_fault, one_text_fault}
 use Rattle.mrpc_top.proofs.command.one_decoding.Goals as goal
@@ -20,3 +21,9 @@ returns-clause-cut c = λ T stream told other word spelled place at. one_cut c.m
 
 pub returns-clause-no_cut : goal.returns-clause-no_cut
 returns-clause-no_cut c = λ T stream told other word place. no_stream_fault c.meaning_law.ensures T stream told other place word
+
+pub returns-clause-text_or_fault : goal.returns-clause-text_or_fault
+returns-clause-text_or_fault c = held_or_faulty c.text_law.ensures
+
+pub returns-clause-lines_or_cut : goal.returns-clause-lines_or_cut
+returns-clause-lines_or_cut c = told_or_cut c.meaning_law.ensures

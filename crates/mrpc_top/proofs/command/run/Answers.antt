@@ -32,5 +32,5 @@ returns-in-Whole-clause-unchecked g c faulty check =
 pub returns-in-Whole-clause-check_faults : goal.returns-in-Whole-clause-check_faults
 returns-in-Whole-clause-check_faults g c text told check fault done =
     let input : IsInput (g.S.Source.left c.args.input.now) c.in-Whole.text.items = record { all = c.in-Whole.ensures.whole.1; short = c.in-Whole.ensures.whole.0 } in
-    no_check c.one_check.ensures.not_both _ text c.in-Whole.text.items _ _ told fault input
+    no_check c.one_check.ensures.never_both _ text c.in-Whole.text.items _ _ told fault input
     (subst (λ t. ChecksText t (g.K.Sink.written c.args.out.now) (g.K.Sink.written c.check_text.new.out)) c.deref-in-Check.ensures.value (c.check_text.ensures.done done))

@@ -3,6 +3,8 @@ use Rattle.mrpc_top.proofs.laws.file_law.Goals as goal
 
 pub returns : goal.returns
 returns c = record {
+  either = c.file_or_fault.ensures.either;
+  never_neither = c.table_or_offence.ensures.not_neither;
   one_file = c.one_file.ensures;
   one_fault = c.one_fault.ensures;
   file_or_fault = c.file_or_fault.ensures.not_both;

@@ -2,6 +2,7 @@ use Rattle.mrpc_top.proofs.laws.frame_law.Goals as goal
 
 pub returns : goal.returns
 returns c = record {
+  ends = c.one_split.ensures.ends;
   splits_once = c.one_split.ensures.once;
   ends_once = c.one_split.ensures.one_end;
   one_frame = c.one_frame.ensures.once;

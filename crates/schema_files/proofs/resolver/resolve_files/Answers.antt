@@ -16,7 +16,7 @@ pub returns-in_err-members-clause-only : goal.returns-in_err-members-clause-only
 returns-in_err-members-clause-only c = λ t R.
     let p = err_from_is_err_and c.from_residual.result c.from_residual.ensures.1 in
     rw (p.1, p.2)
-    (memory_only c.table_or_files_fault.ensures (files_of c.args.files.now) c.requires.distinct t R
+    (memory_only c.table_or_files_fault.ensures.never_both (files_of c.args.files.now) c.requires.distinct t R
     c.in_err-members.field-0.0 c.in_err-members.ensures.fault)
 
 pub reached-requires-clause-some : goal.reached-requires-clause-some
@@ -44,7 +44,7 @@ returns-in_err-reach-clause-only c = λ t R.
     let files = c.args.files.now in
     let p = err_from_is_err_and c.from_residual-in_err-reach.result c.from_residual-in_err-reach.ensures.1 in
     rw (p.1, p.2)
-    (memory_only c.table_or_files_fault.ensures (files_of files) c.requires.distinct t R c.in_err-reach.field-0.0
+    (memory_only c.table_or_files_fault.ensures.never_both (files_of files) c.requires.distinct t R c.in_err-reach.field-0.0
     (c.in_err-reach.ensures.fault (files_of files)
     (subst (λ (ms : List Member). ReadAs (files_of files) ms) (sym c.as_slice.ensures.value)
     c.in_ok-members.ensures.read)))
