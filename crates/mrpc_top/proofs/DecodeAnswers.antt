@@ -1,18 +1,17 @@
 -- A text that is a table's text and whole frames has no fault.
-use Rattle.std.proofs.Common.{◌≡◌, ℕ, ◌+◌, ◌≤◌, List, [], ◌∷◌, ◌++◌, length, Option, Some, refl, sym, ap, subst, ◌∙◌, append_assoc, arith}
+use Rattle.std.proofs.Common.{◌≡◌, ℕ, ◌+◌, List, [], ◌∷◌, ◌++◌, length, Option, refl, sym, ap, subst, ◌∙◌, append_assoc, arith}
 use Rattle.std.proofs.lemmas.List.Elements.{All-head, All-tail}
 use Rattle.mrpc_table.specs.declared.table.Table.{Table}
 use Rattle.frame_transport.specs.Frames.{IsFrame, bytes_of, joined, StandFrom, IsPartial, Splits, IsFaultAt}
 use Rattle.frame_transport.specs.declared.format.Frame.{Frame}
 use Rattle.frame_transport.specs.declared.fault.FeedFault.{FeedFault}
-use Rattle.mrpc_top.specs.Reading.{IsAllOf}
 use Rattle.mrpc_top.specs.Decoding.{message_in, IsLineOf, AreLinesOf, IsFaultIn, StandInFront, IsDecoded, IsCutAt}
 use Rattle.mrpc_top.specs.Decoding.IsLineOf.{line_of_hello, line_of_call}
 use Rattle.mrpc_top.specs.Decoding.IsFaultIn.{no_method, in_payload}
 use Rattle.mrpc_top.specs.Decoding.IsCutAt.{in_frame, in_header, in_short_frame}
 use Rattle.mrpc_top.specs.DecodeInput.{Holds, IsTextFault}
-use Rattle.mrpc_top.specs.Command.{IsInput, DecodesText, HasDecodeFault}
-use Rattle.mrpc_top.specs.Command.HasDecodeFault.{too_long, fault_in_text, fault_in_stream}
+use Rattle.mrpc_top.specs.Command.{DecodesText, HasDecodeFault}
+use Rattle.mrpc_top.specs.Command.HasDecodeFault.{fault_in_text, fault_in_stream}
 use Rattle.mrpc_top.specs.Laws.{MeaningLaw}
 
 -- ---- the frames
@@ -86,16 +85,9 @@ pub record DecodingLaw : Type 0 where
   pub no_text_fault : (text stream word : List ℕ) (T : Table) (line : ℕ) → Holds text T stream → IsTextFault text line word → ⊥
   pub no_cut : (T : Table) (stream told other word : List ℕ) (place : ℕ) → IsDecoded T stream told → IsCutAt T 0 stream other place word → ⊥
 
-no_fault_of : DecodingLaw → (text : List ℕ) (out out' : Option (List ℕ)) → length text ≤ 16777216 → DecodesText text out out' → HasDecodeFault text → ⊥
-no_fault_of law text out out' short d (too_long long) = omega (arith, short, long)
-no_fault_of law text out out' short d (fault_in_text line word fault) = law.no_text_fault text d.stream word d.table line d.holds fault
-no_fault_of law text out out' short d (fault_in_stream U other told place word holds cut) =
+pub no_fault_of : DecodingLaw → (text : List ℕ) (out out' : Option (List ℕ)) → DecodesText text out out' → HasDecodeFault text → ⊥
+no_fault_of law text out out' d (fault_in_text line word fault) = law.no_text_fault text d.stream word d.table line d.holds fault
+no_fault_of law text out out' d (fault_in_stream U other told place word holds cut) =
     let same = law.parts text d.stream other d.table U d.holds holds in
     law.no_cut d.table d.stream d.lines told word place d.decoded
     (subst (λ (s : List ℕ). IsCutAt d.table 0 s told place word) (sym same.1) (subst (λ (T : Table). IsCutAt T 0 other told place word) (sym same.0) cut))
-
--- an input that was decoded has no fault
-pub no_decoding : DecodingLaw → (left : Option (List ℕ)) (text found : List ℕ) (out out' : Option (List ℕ)) → left ≡ Some text → HasDecodeFault text → IsInput left found → DecodesText found out out' → ⊥
-no_decoding law left text found out out' told fault input d =
-    let all : text ≡ found = subst (λ l. IsAllOf l found) told input.all in
-    no_fault_of law found out out' input.short d (subst HasDecodeFault all fault)

@@ -1,10 +1,10 @@
 mod CheckFaults
 mod CheckNeither
+mod Commands
 mod DecodeAnswers
 mod DecodeNeither
 mod DecodeTexts
 mod Decodings
-mod Faults
 mod KnownBytes
 mod OneCheck
 mod OneDecoding

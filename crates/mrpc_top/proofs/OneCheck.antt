@@ -1,5 +1,5 @@
 -- A text has one table or one fault.
-use Rattle.std.proofs.Common.{◌≡◌, ℕ, ◌+◌, List, length, Option, Some, ⊎_elim, ap, subst, refl, arith}
+use Rattle.std.proofs.Common.{◌≡◌, ℕ, ◌+◌, List, ap, subst, refl}
 use Rattle.mrpc_table.specs.declared.table.Table.{Table}
 use Rattle.file_bundle.specs.Bundle.{File as PackedFile}
 use Rattle.file_bundle.specs.Faults.{IsSet, IsFirstFault as IsBundleFault}
@@ -14,11 +14,9 @@ use Rattle.schema_resolve.specs.Resolving.{Resolves}
 use Rattle.schema_files.specs.Reason.{files_word}
 use Rattle.schema_files.specs.Resolving.{FilesResolve, HasFilesFault}
 use Rattle.schema_files.specs.declared.fault.FilesReason.{FilesReason}
-use Rattle.mrpc_top.specs.Reading.{IsAllOf}
 use Rattle.mrpc_top.specs.Checking.{ChecksAs, IsCheckFault}
 use Rattle.mrpc_top.specs.Checking.ChecksAs.{a_file, a_set}
 use Rattle.mrpc_top.specs.Checking.IsCheckFault.{unread, unresolved, no_such_file, wrong_path, in_set}
-use Rattle.mrpc_top.specs.Command.{IsInput, ChecksText, HasCheckFault}
 use Rattle.mrpc_top.specs.Laws.{FileLaw, SetLaw}
 use Rattle.mrpc_top.specs.declared.check.Spot.{Spot}
 use Rattle.mrpc_top.specs.declared.check.Spot.TheVariants.{Line, InFile, OfFile}
@@ -128,16 +126,5 @@ no_check_fault law sets text word T spot (a_set files set are resolves) (wrong_p
 no_check_fault law sets text word T spot (a_set files set are resolves) (in_set others i l q set' are' stands) =
     sets.table_or_files_fault files T i l q (set_paths are) resolves (set_fault sets are are' stands)
 
--- ---- the whole
-
--- no text has a table and a fault
 abbrev pub NotBoth : Type 0
 NotBoth = (text word : List ℕ) (T : Table) (spot : Spot) → ChecksAs text T → IsCheckFault text spot word → ⊥
-
--- an input that has a table has no fault
-pub no_check : NotBoth → (left : Option (List ℕ)) (text found : List ℕ) (out out' : Option (List ℕ)) → left ≡ Some text → HasCheckFault text → IsInput left found → ChecksText found out out' → ⊥
-no_check law left text found out out' told fault input c =
-    let all : text ≡ found = subst (λ l. IsAllOf l found) told input.all in
-    let short : length text ≡ length found = ap length all in
-    ⊎_elim (λ long. absurd (omega (arith, long, short, input.short)))
-    (λ f. law found f.1 c.table f.0 c.checks (subst (λ t. IsCheckFault t f.0 f.1) all f.2)) fault

@@ -9,7 +9,7 @@ ghost use Rattle.script_lang.specs.Texts.{Spells};
 ghost use Rattle.script_run.specs.Replays.{Replays};
 ghost use Rattle.mrpc_top.specs.DecodeInput.{Holds, IsTextFault};
 ghost use Rattle.mrpc_top.specs.Decoding.{IsDecoded, IsCutAt};
-ghost use Rattle.mrpc_top.specs.Command.{command_word, IsReplay, IsDecode, IsCheck, IsCommand, Names, IsRefused, IsScript, Refuses, Runs, HasFault, Decodes, DecodesText, IsCutShort, CutsText, HasDecodeFault, Checks, ChecksText, IsUnchecked, RefusesProto, HasCheckFault, fault_line, spot_line};
+ghost use Rattle.mrpc_top.specs.Command.{command_word, Names, IsReplay, IsCommand, IsDone, IsRefused, IsScript, HasFault, IsFaulty, WorksOn, Refuses, RunsText, DecodesText, ChecksText, RefusesScript, CutsText, RefusesProto, fault_line, spot_line};
 ghost use Rattle.mrpc_top.specs.Checking.{spot_text};
 
 use crate::check::{CheckFault, Spot, checked_text, one_check};
@@ -74,54 +74,37 @@ pub fn run_command<S: Source, K: Sink, W: Sink>(
 ) -> u8
     ensures statuses { result ≤ WIRE_FAILED }
 
-    // Which words are a command. Nothing is read or written for others.
+    // Which words are a command. For others nothing is read and nothing written.
     ensures words { (result ≡ NO_COMMAND) ↔ (IsCommand words.now.items → ⊥) }
-    ensures nothing_read { result ≡ NO_COMMAND → input.new ≡ input.old }
-    ensures nothing_said { result ≡ NO_COMMAND → out.new ≡ out.old }
-    ensures nothing_sent { result ≡ NO_COMMAND → wire.new ≡ wire.old }
+    ensures untouched { result ≡ NO_COMMAND → (input.new ≡ input.old) × (out.new ≡ out.old) × (wire.new ≡ wire.old) }
 
-    // At the end of a replay: the input is a script's text; a history follows it, legal and spelled by
-    // its loads; its audit, the calls that stand and its frames were written, and nothing failed.
-    ensures done { result ≡ DONE → IsReplay words.now.items
-        → Runs (S.left input.old) (K.written out.old) (K.written out.new) (W.written wire.old) (W.written wire.new) }
-    // At the end of a decoding: the input is a table's text and whole frames; their lines were written.
-    ensures decoded { result ≡ DONE → IsDecode words.now.items
-        → Decodes (S.left input.old) (K.written out.old) (K.written out.new) }
-    // At the end of a check: the input is a proto file or a set of files; the text of its table was written.
-    ensures checked { result ≡ DONE → IsCheck words.now.items
-        → Checks (S.left input.old) (K.written out.old) (K.written out.new) }
-
+    // What a command has done at its end: its input is a text that it works on, and what follows from it was written.
+    ensures done { (command : Command) → Names words.now.items command → result ≡ DONE → IsDone command
+        (S.left input.old) (K.written out.old) (K.written out.new) (W.written wire.old) (W.written wire.new) }
     // A faulty input: its first fault was written, and nothing else but the lines of frames in front of it.
-    ensures faulty { result ≡ FAULTY_INPUT → IsReplay words.now.items
-        → IsRefused (S.left input.old) (S.left input.new) (K.written out.old) (K.written out.new) }
-    ensures cut_short { result ≡ FAULTY_INPUT → IsDecode words.now.items
-        → IsCutShort (S.left input.old) (S.left input.new) (K.written out.old) (K.written out.new) }
-    ensures unchecked { result ≡ FAULTY_INPUT → IsCheck words.now.items
-        → IsUnchecked (S.left input.old) (S.left input.new) (K.written out.old) (K.written out.new) }
-    ensures faulty_unsent { result ≡ FAULTY_INPUT → wire.new ≡ wire.old }
-
+    ensures faulty { (command : Command) → Names words.now.items command → result ≡ FAULTY_INPUT → IsRefused command
+        (S.left input.old) (S.left input.new) (K.written out.old) (K.written out.new) }
     // No work is done on an input that has a fault.
-    ensures refused { (text : List ℕ) → S.left input.old ≡ Some text → IsReplay words.now.items → HasFault text
-        → (result ≢ DONE) × (result ≢ WIRE_FAILED) }
-    ensures undecoded { (text : List ℕ) → S.left input.old ≡ Some text → IsDecode words.now.items → HasDecodeFault text
-        → result ≢ DONE }
-    ensures check_faults { (text : List ℕ) → S.left input.old ≡ Some text → IsCheck words.now.items → HasCheckFault text
-        → result ≢ DONE }
+    ensures refused { (command : Command) (text : List ℕ) → Names words.now.items command → S.left input.old ≡ Some text
+        → HasFault command text → (result ≢ DONE) × (result ≢ WIRE_FAILED) }
 
-    // A decoding sends nothing, nor does a check.
-    ensures decode_unsent { IsDecode words.now.items → wire.new ≡ wire.old }
-    ensures check_unsent { IsCheck words.now.items → wire.new ≡ wire.old }
+    // Only a replay sends frames, and none of an input that has a fault.
+    ensures unsent { (result ≡ FAULTY_INPUT) ⊎ (IsReplay words.now.items → ⊥) → wire.new ≡ wire.old }
+    ensures wire_failed { result ≡ WIRE_FAILED → IsReplay words.now.items × IsScript (S.left input.old) }
 
     // Each device is answered for by its own status, and by no other.
     ensures input_cause { HasCause (result ≡ INPUT_FAILED) (S.faults input.old) (S.faults input.new) }
     ensures out_cause { HasCause (result ≡ OUTPUT_FAILED) (K.faults out.old) (K.faults out.new) }
     ensures wire_cause { HasCause (result ≡ WIRE_FAILED) (W.faults wire.old) (W.faults wire.new) }
-    ensures unsaid { result ≡ INPUT_FAILED → out.new ≡ out.old }
-    ensures unsent { result ≡ INPUT_FAILED → wire.new ≡ wire.old }
-    ensures faultless { result ≡ WIRE_FAILED → IsReplay words.now.items × IsScript (S.left input.old) }
+    ensures unread { result ≡ INPUT_FAILED → (out.new ≡ out.old) × (wire.new ≡ wire.old) }
 {
     match command_of(words) {
-        Some(command) => run(alloc, command, input, out, wire),
+        Some(command) => match read_input(alloc, input) {
+            Input::Whole(text) => run(alloc, command, &text, out, wire),
+            Input::TooLong => refuse(alloc, INPUT_LIMIT as u64, b"Input", out),
+            Input::Failed => INPUT_FAILED,
+            Input::Memory => NO_MEMORY,
+        },
         None => NO_COMMAND,
     }
 }
@@ -160,56 +143,33 @@ enum Command {
     Check,
 }
 
-// Reads the whole input, and runs the command on it.
-fn run<S: Source, K: Sink, W: Sink>(
+// Runs the command on the text of its input.
+fn run<K: Sink, W: Sink>(
     alloc: Global,
     command: Command,
-    input: &mut S,
+    text: &[u8],
     out: &mut K,
     wire: &mut W,
 ) -> u8
+    requires short { length text.now ≤ INPUT_LIMIT }
     ensures statuses { result ≤ WIRE_FAILED }
-    ensures some { result ≢ NO_COMMAND }
-    ensures done { result ≡ DONE → command ≡ Command.Replay
-        → Runs (S.left input.old) (K.written out.old) (K.written out.new) (W.written wire.old) (W.written wire.new) }
-    ensures decoded { result ≡ DONE → command ≡ Command.Decode
-        → Decodes (S.left input.old) (K.written out.old) (K.written out.new) }
-    ensures checked { result ≡ DONE → command ≡ Command.Check
-        → Checks (S.left input.old) (K.written out.old) (K.written out.new) }
-    ensures faulty { result ≡ FAULTY_INPUT → command ≡ Command.Replay
-        → IsRefused (S.left input.old) (S.left input.new) (K.written out.old) (K.written out.new) }
-    ensures cut_short { result ≡ FAULTY_INPUT → command ≡ Command.Decode
-        → IsCutShort (S.left input.old) (S.left input.new) (K.written out.old) (K.written out.new) }
-    ensures unchecked { result ≡ FAULTY_INPUT → command ≡ Command.Check
-        → IsUnchecked (S.left input.old) (S.left input.new) (K.written out.old) (K.written out.new) }
-    ensures faulty_unsent { result ≡ FAULTY_INPUT → wire.new ≡ wire.old }
-    ensures refused { (text : List ℕ) → S.left input.old ≡ Some text → command ≡ Command.Replay → HasFault text
-        → (result ≢ DONE) × (result ≢ WIRE_FAILED) }
-    ensures undecoded { (text : List ℕ) → S.left input.old ≡ Some text → command ≡ Command.Decode → HasDecodeFault text
-        → result ≢ DONE }
-    ensures check_faults { (text : List ℕ) → S.left input.old ≡ Some text → command ≡ Command.Check → HasCheckFault text
-        → result ≢ DONE }
-    ensures decode_unsent { command ≡ Command.Decode → wire.new ≡ wire.old }
-    ensures check_unsent { command ≡ Command.Check → wire.new ≡ wire.old }
-    ensures input_cause { HasCause (result ≡ INPUT_FAILED) (S.faults input.old) (S.faults input.new) }
+    ensures some { (result ≢ NO_COMMAND) × (result ≢ INPUT_FAILED) }
+    ensures done { result ≡ DONE → WorksOn command text.now
+        (K.written out.old) (K.written out.new) (W.written wire.old) (W.written wire.new) }
+    ensures faulty { result ≡ FAULTY_INPUT → Refuses command text.now (K.written out.old) (K.written out.new) }
+    ensures refused { IsFaulty command text.now → (result ≢ DONE) × (result ≢ WIRE_FAILED) }
+    ensures unsent { (result ≡ FAULTY_INPUT) ⊎ (command ≢ Command.Replay) → wire.new ≡ wire.old }
+    ensures wire_failed { result ≡ WIRE_FAILED → (command ≡ Command.Replay) × ((s : Script) × Spells text.now s) }
     ensures out_cause { HasCause (result ≡ OUTPUT_FAILED) (K.faults out.old) (K.faults out.new) }
     ensures wire_cause { HasCause (result ≡ WIRE_FAILED) (W.faults wire.old) (W.faults wire.new) }
-    ensures unsaid { result ≡ INPUT_FAILED → out.new ≡ out.old }
-    ensures unsent { result ≡ INPUT_FAILED → wire.new ≡ wire.old }
-    ensures faultless { result ≡ WIRE_FAILED → (command ≡ Command.Replay) × IsScript (S.left input.old) }
 {
     one_answer();
     one_decoding();
     one_check();
-    match read_input(alloc, input) {
-        Input::Whole(text) => match command {
-            Command::Replay => replay_text(alloc, &text, out, wire),
-            Command::Decode => decode_text(alloc, &text, out),
-            Command::Check => check_text(alloc, &text, out),
-        },
-        Input::TooLong => refuse(alloc, INPUT_LIMIT as u64, b"Input", out),
-        Input::Failed => INPUT_FAILED,
-        Input::Memory => NO_MEMORY,
+    match command {
+        Command::Replay => replay_text(alloc, text, out, wire),
+        Command::Decode => decode_text(alloc, text, out),
+        Command::Check => check_text(alloc, text, out),
     }
 }
 
@@ -243,10 +203,9 @@ fn command_named(word: &str) -> Option<Command>
 fn replay_text<K: Sink, W: Sink>(alloc: Global, text: &[u8], out: &mut K, wire: &mut W) -> u8
     ensures statuses { result ≤ WIRE_FAILED }
     ensures some { (result ≢ NO_COMMAND) × (result ≢ INPUT_FAILED) }
-    ensures done { result ≡ DONE
-        → (s : Script) × Spells text.now s
-        × Replays s (K.written out.old) (K.written out.new) (W.written wire.old) (W.written wire.new) }
-    ensures faulty { result ≡ FAULTY_INPUT → Refuses text.now (K.written out.old) (K.written out.new) }
+    ensures done { result ≡ DONE → RunsText text.now
+        (K.written out.old) (K.written out.new) (W.written wire.old) (W.written wire.new) }
+    ensures faulty { result ≡ FAULTY_INPUT → RefusesScript text.now (K.written out.old) (K.written out.new) }
     ensures faulty_unsent { result ≡ FAULTY_INPUT → wire.new ≡ wire.old }
     ensures out_cause { HasCause (result ≡ OUTPUT_FAILED) (K.faults out.old) (K.faults out.new) }
     ensures wire_cause { HasCause (result ≡ WIRE_FAILED) (W.faults wire.old) (W.faults wire.new) }
