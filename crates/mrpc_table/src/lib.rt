@@ -34,5 +34,5 @@ pub use table::{
 pub use tree::{Entries, FieldValue, Numbered, Tree, Value, Values};
 pub use words::{
     Decimal, cut, is_full_form, is_full_name, is_name, is_name_form, is_short, is_short_full,
-    line_count, number_of,
+    is_word, line_count, number_of,
 };

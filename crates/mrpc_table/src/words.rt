@@ -3,6 +3,7 @@
 ghost use Rattle.std.specs.Prelude.{◌≡◌, ◌+◌, ◌≤◌, ◌^◌, ◌==◌, ◌∷◌, [], length, min, option_map, MatchOption, IfSome, IsTrue, ◌↔◌, true};
 ghost use Rattle.std.specs.List.{slice_split, list_all};
 ghost use Rattle.std.specs.Char.{is_ascii_digit};
+ghost use Rattle.std.specs.Str.{bytes_eq};
 ghost use Rattle.std.specs.Str.Parse.{digits_value};
 ghost use Rattle.mrpc_table.specs.Names.{is_name_start, is_name_byte, is_name_form, is_full_form, is_short, is_short_full, IsName, IsFullName};
 ghost use Rattle.mrpc_table.specs.Lines.{is_decimal, line_count, number_of, in_64_bits};
@@ -30,6 +31,13 @@ pub fn line_count(text: &[u8]) -> usize
     ensures small { result ≤ length text.now }
 {
     text.iter().filter(|byte| **byte == b'\n').count()
+}
+
+/// Whether the word is this one.
+pub fn is_word<'a>(word: &'a [u8], expected: &'a [u8]) -> bool
+    ensures { result ≡ bytes_eq word.now expected.now }
+{
+    word == expected
 }
 
 fn is_letter(byte: u8) -> bool
