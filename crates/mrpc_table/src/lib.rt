@@ -9,6 +9,7 @@
 #![tactic(auto)]
 
 mod copied;
+mod field_number;
 mod field_search;
 mod hexadecimal;
 mod limits;
@@ -19,10 +20,12 @@ mod table;
 mod tree;
 mod words;
 
+pub use field_number::is_field_number;
 pub use field_search::find_field;
 pub use limits::{
-    MAX_DEPTH, MAX_ENUMS, MAX_FIELDS, MAX_FULL_NAME, MAX_HEAP, MAX_LOADS, MAX_MESSAGES,
-    MAX_METHODS, MAX_NAME, MAX_TEXT, MAX_VALUES, MIN_HEAP,
+    FIRST_RESERVED_NUMBER, LAST_RESERVED_NUMBER, MAX_DEPTH, MAX_ENUMS, MAX_FIELD_NUMBER,
+    MAX_FIELDS, MAX_FULL_NAME, MAX_HEAP, MAX_LOADS, MAX_MESSAGES, MAX_METHODS, MAX_NAME, MAX_TEXT,
+    MAX_VALUES, MIN_HEAP,
 };
 pub use memory::Memory;
 pub use normal::fits;
