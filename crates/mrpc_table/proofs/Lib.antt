@@ -1,5 +1,5 @@
+mod CappedValues
 mod Cuts
-mod Digits
 mod FieldLemmas
 mod FitLemmas
 mod Views

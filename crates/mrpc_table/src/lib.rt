@@ -9,6 +9,7 @@
 #![tactic(auto)]
 
 mod copied;
+mod digits;
 mod field_number;
 mod field_search;
 mod hexadecimal;
@@ -20,6 +21,7 @@ mod table;
 mod tree;
 mod words;
 
+pub use digits::{capped, decimal_of, digit_value};
 pub use field_number::is_field_number;
 pub use field_search::find_field;
 pub use limits::{
@@ -36,6 +38,6 @@ pub use table::{
 };
 pub use tree::{Entries, FieldValue, Numbered, Tree, Value, Values};
 pub use words::{
-    Decimal, cut, is_full_form, is_full_name, is_name, is_name_form, is_short, is_short_full,
-    is_word, line_count, number_of,
+    Decimal, cut, is_full_form, is_full_name, is_name, is_name_byte, is_name_form, is_name_start,
+    is_short, is_short_full, is_word, line_count, number_of,
 };
