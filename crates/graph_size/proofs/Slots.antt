@@ -23,13 +23,13 @@ behind-rise : (T : Table) (oneofs : ℕ) (f : Field) (fs : List Field) → All (
 behind-rise T oneofs f [] all ascends = tt
 behind-rise T oneofs f (g ∷ gs) all ascends =
     let rest = All-tail (IsField T oneofs) f (g ∷ gs) all in
-    (ascends.0, (All-head (IsField T oneofs) g gs rest).number.small, behind-rise T oneofs g gs rest ascends.1)
+    (ascends.0, omega (arith, (All-head (IsField T oneofs) g gs rest).number.small), behind-rise T oneofs g gs rest ascends.1)
 
 all-rise : (T : Table) (oneofs : ℕ) (fs : List Field) → All (IsField T oneofs) fs → Ascends (λ f g. f.number < g.number) fs → Rise 0 fs
 all-rise T oneofs [] all ascends = tt
 all-rise T oneofs (f ∷ fs) all ascends =
     let number = (All-head (IsField T oneofs) f fs all).number in
-    (number.positive, number.small, behind-rise T oneofs f fs all ascends)
+    (number.positive, omega (arith, number.small), behind-rise T oneofs f fs all ascends)
 
 rise-at : (T : Table) (ms : List Message) (i : ℕ) → All (IsMessage T) ms → Rise 0 (unwrap_or (option_map (λ m. m.fields) (slice_get ms i)) [])
 rise-at T [] i all = tt

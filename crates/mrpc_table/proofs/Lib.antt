@@ -1,6 +1,6 @@
+mod CappedValues
 mod ContentLemmas
 mod Cuts
-mod Digits
 mod FieldLemmas
 mod FitLemmas
 mod Views

@@ -7,6 +7,7 @@ pub mod Names
 pub mod Node
 pub mod NodeCode
 pub mod Normal
+pub mod Scalars
 pub mod Text
 pub mod Valid
 pub mod View

@@ -1,5 +1,5 @@
 -- Which tables are valid: those that a canonical text within the limits can write.
-use Rattle.std.specs.Prelude.{◌≡◌, ◌⊎◌, ℕ, ℤ, pos, ◌+◌, ◌<◌, ◌≤◌, ◌^◌, List, [], ◌∷◌, ◌++◌, length, All, Contains, IsTrue, map, FitsSigned}
+use Rattle.std.specs.Prelude.{◌≡◌, ◌⊎◌, ℕ, ℤ, pos, ◌+◌, ◌<◌, ◌≤◌, ◌&&◌, ◌||◌, nat_lt, nat_le, Bool, List, [], ◌∷◌, ◌++◌, length, All, Contains, IsTrue, map, FitsSigned}
 use Rattle.std.specs.Int.{w32}
 use Rattle.std.specs.Ordering.{nat_cmp, int_cmp}
 use Rattle.std.specs.declared.cmp.Ordering.TheVariants.{Less}
@@ -7,7 +7,7 @@ use Rattle.std.specs.Cmp.Lexicographic.{slice_cmp}
 use Rattle.mrpc_table.specs.Names.{IsName, IsFullName}
 use Rattle.mrpc_table.specs.Words.{is_numeric, is_key}
 use Rattle.mrpc_table.specs.Text.{table_text}
-use Rattle.mrpc_table.specs.declared.limits.TheConstants.{MAX_MESSAGES, MAX_ENUMS, MAX_METHODS, MAX_FIELDS, MAX_VALUES, MAX_TEXT}
+use Rattle.mrpc_table.specs.declared.limits.TheConstants.{MAX_MESSAGES, MAX_ENUMS, MAX_METHODS, MAX_FIELDS, MAX_VALUES, MAX_TEXT, MAX_FIELD_NUMBER, FIRST_RESERVED_NUMBER, LAST_RESERVED_NUMBER}
 use Rattle.mrpc_table.specs.declared.table.Kind.{Kind}
 use Rattle.mrpc_table.specs.declared.table.Kind.TheVariants.{Message as OfMessage, Choice}
 use Rattle.mrpc_table.specs.declared.table.Label.{Label}
@@ -35,8 +35,13 @@ IsBelow a b = slice_cmp nat_cmp a b ≡ Less
 -- field numbers are 1 to 536870911, without 19000 to 19999 (language guide, "Assigning Field Numbers")
 pub record IsFieldNumber (n : ℕ) : Type 0 where
   pub positive : 0 < n
-  pub small : n < 2 ^ 29
-  pub unreserved : (n < 19000) ⊎ (20000 ≤ n)
+  pub small : n ≤ MAX_FIELD_NUMBER
+  pub unreserved : (n < FIRST_RESERVED_NUMBER) ⊎ (LAST_RESERVED_NUMBER < n)
+
+-- the same as a test
+abbrev pub is_field_number : ℕ → Bool
+is_field_number n =
+    (nat_lt 0 n && nat_le n MAX_FIELD_NUMBER) && (nat_lt n FIRST_RESERVED_NUMBER || nat_lt LAST_RESERVED_NUMBER n)
 
 -- the message or enum that a kind names is one of the table
 abbrev pub IsKnown : Table → Kind → Type 0

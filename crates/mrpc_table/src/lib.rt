@@ -9,6 +9,8 @@
 #![tactic(auto)]
 
 mod copied;
+mod digits;
+mod field_number;
 mod field_search;
 mod hexadecimal;
 mod limits;
@@ -19,10 +21,13 @@ mod table;
 mod tree;
 mod words;
 
+pub use digits::{capped, decimal_of, digit_value};
+pub use field_number::is_field_number;
 pub use field_search::find_field;
 pub use limits::{
-    MAX_DEPTH, MAX_ENUMS, MAX_FIELDS, MAX_FILES, MAX_FULL_NAME, MAX_HEAP, MAX_LOADS, MAX_MESSAGES,
-    MAX_METHODS, MAX_NAME, MAX_TEXT, MAX_VALUES, MIN_HEAP,
+    FIRST_RESERVED_NUMBER, LAST_RESERVED_NUMBER, MAX_DEPTH, MAX_ENUMS, MAX_FIELD_NUMBER,
+    MAX_FIELDS, MAX_FILES, MAX_FULL_NAME, MAX_HEAP, MAX_LOADS, MAX_MESSAGES, MAX_METHODS, MAX_NAME,
+    MAX_TEXT, MAX_VALUES, MIN_HEAP,
 };
 pub use memory::Memory;
 pub use normal::fits;
@@ -33,6 +38,6 @@ pub use table::{
 };
 pub use tree::{Entries, FieldValue, Numbered, Tree, Value, Values, find_content};
 pub use words::{
-    Decimal, cut, is_full_form, is_full_name, is_name, is_name_form, is_short, is_short_full,
-    line_count, number_of,
+    Decimal, cut, is_full_form, is_full_name, is_name, is_name_byte, is_name_form, is_name_start,
+    is_short, is_short_full, is_word, line_count, number_of,
 };

@@ -27,6 +27,15 @@ pub const MAX_FULL_NAME: usize = 255;
 /// How many files a set has at most.
 pub const MAX_FILES: usize = 64;
 
+/// The largest number of a field.
+pub const MAX_FIELD_NUMBER: u64 = 536_870_911;
+
+/// The first of the numbers that no field has: Protocol Buffers keeps them for itself.
+pub const FIRST_RESERVED_NUMBER: u64 = 19_000;
+
+/// The last of the numbers that no field has.
+pub const LAST_RESERVED_NUMBER: u64 = 19_999;
+
 /// How deep messages nest at most in a tree in normal form, the root counting 1.
 pub const MAX_DEPTH: u32 = 32;
 

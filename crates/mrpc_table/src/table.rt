@@ -5,6 +5,7 @@ ghost use Rattle.std.specs.Prelude.{◌≡◌, ◌<◌, ◌↔◌, length, IsTru
 ghost use Rattle.std.specs.Option.{option_copied};
 ghost use Rattle.mrpc_table.specs.Ascending.{AllAscend, FieldsAscend};
 ghost use Rattle.mrpc_table.specs.Normal.{fields_of, field_at};
+ghost use Rattle.mrpc_table.specs.Scalars.{scalar_of};
 ghost use Rattle.mrpc_table.specs.Valid.{IsValid};
 ghost use Rattle.mrpc_table.specs.Calls.{message_at};
 ghost use Rattle.mrpc_table.specs.Words.{IsWordForm, is_numeric, is_key, key_kind, message_of, rank};
@@ -12,6 +13,7 @@ ghost use Rattle.mrpc_table.specs.WireTypes.{wire_type_of};
 
 use crate::field_search::search;
 use crate::sequence::{Name, Sequence};
+use crate::words::is_word;
 
 /// The kind of a value. A `Message` or a `Choice` names a message or an enum of the table.
 #[derive(Clone, Copy, Debug, PartialEq, Eq)]
@@ -53,6 +55,45 @@ pub enum Kind {
 }
 
 impl Kind {
+    /// The scalar kind of a name of proto3.
+    pub fn of_name(name: &[u8]) -> Option<Kind>
+        ensures { result ≡ scalar_of name.now }
+    {
+        if is_word(name, b"int32") {
+            Some(Kind::Int32)
+        } else if is_word(name, b"int64") {
+            Some(Kind::Int64)
+        } else if is_word(name, b"uint32") {
+            Some(Kind::Uint32)
+        } else if is_word(name, b"uint64") {
+            Some(Kind::Uint64)
+        } else if is_word(name, b"sint32") {
+            Some(Kind::Sint32)
+        } else if is_word(name, b"sint64") {
+            Some(Kind::Sint64)
+        } else if is_word(name, b"bool") {
+            Some(Kind::Bool)
+        } else if is_word(name, b"fixed32") {
+            Some(Kind::Fixed32)
+        } else if is_word(name, b"fixed64") {
+            Some(Kind::Fixed64)
+        } else if is_word(name, b"sfixed32") {
+            Some(Kind::Sfixed32)
+        } else if is_word(name, b"sfixed64") {
+            Some(Kind::Sfixed64)
+        } else if is_word(name, b"float") {
+            Some(Kind::Float)
+        } else if is_word(name, b"double") {
+            Some(Kind::Double)
+        } else if is_word(name, b"string") {
+            Some(Kind::Text)
+        } else if is_word(name, b"bytes") {
+            Some(Kind::Octets)
+        } else {
+            None
+        }
+    }
+
     /// Whether its values are numbers: neither text, bytes nor messages.
     pub fn is_numeric(self) -> bool
         ensures { result ≡ is_numeric self }

@@ -1,12 +1,13 @@
 //! The words of lines: what stands between separators, names, and decimal numbers.
 
-ghost use Rattle.std.specs.Prelude.{◌≡◌, ◌+◌, ◌≤◌, ◌^◌, ◌==◌, ◌∷◌, [], length, min, option_map, MatchOption, IfSome, IsTrue, ◌↔◌, true};
+ghost use Rattle.std.specs.Prelude.{◌≡◌, ◌+◌, ◌≤◌, ◌==◌, ◌∷◌, [], length, option_map, MatchOption, IfSome, IsTrue, ◌↔◌};
 ghost use Rattle.std.specs.List.{slice_split, list_all};
 ghost use Rattle.std.specs.Char.{is_ascii_digit};
-ghost use Rattle.std.specs.Str.Parse.{digits_value};
+ghost use Rattle.std.specs.Str.{bytes_eq};
 ghost use Rattle.mrpc_table.specs.Names.{is_name_start, is_name_byte, is_name_form, is_full_form, is_short, is_short_full, IsName, IsFullName};
 ghost use Rattle.mrpc_table.specs.Lines.{is_decimal, line_count, number_of, in_64_bits};
 
+use crate::digits::decimal_of;
 use crate::limits::{MAX_FULL_NAME, MAX_NAME};
 
 /// What stands before the first separator, and what stands behind it; none where it doesn't stand there.
@@ -32,22 +33,31 @@ pub fn line_count(text: &[u8]) -> usize
     text.iter().filter(|byte| **byte == b'\n').count()
 }
 
-fn is_letter(byte: u8) -> bool
+/// Whether the word is this one.
+pub fn is_word<'a>(word: &'a [u8], expected: &'a [u8]) -> bool
+    ensures { result ≡ bytes_eq word.now expected.now }
+{
+    word == expected
+}
+
+/// Whether a name may begin with the byte: an ASCII letter or `_`.
+pub fn is_name_start(byte: u8) -> bool
     ensures { result ≡ is_name_start byte }
 {
     (byte >= 65 && byte <= 90) || (byte >= 97 && byte <= 122) || byte == 95
 }
 
-fn is_word_byte(byte: u8) -> bool
+/// Whether the byte may stand in a name: an ASCII letter, a digit or `_`.
+pub fn is_name_byte(byte: u8) -> bool
     ensures { result ≡ is_name_byte byte }
 {
-    is_letter(byte) || (byte >= 48 && byte <= 57)
+    is_name_start(byte) || (byte >= 48 && byte <= 57)
 }
 
-fn are_word_bytes(bytes: &[u8]) -> bool
+fn are_name_bytes(bytes: &[u8]) -> bool
     ensures { result ≡ list_all is_name_byte bytes.now }
 {
-    bytes.iter().all(|byte| is_word_byte(*byte))
+    bytes.iter().all(|byte| is_name_byte(*byte))
 }
 
 /// Whether the word is a name of any length: a letter or `_`, and then letters, digits and `_`.
@@ -56,7 +66,7 @@ pub fn is_name_form(word: &[u8]) -> bool
 {
     match word {
         [] => false,
-        [first, others @ ..] => is_letter(*first) && are_word_bytes(others),
+        [first, others @ ..] => is_name_start(*first) && are_name_bytes(others),
     }
 }
 
@@ -130,21 +140,6 @@ fn is_decimal(word: &[u8]) -> bool
     }
 }
 
-/// Larger than each number of 64 bits, and small enough that a digit can follow.
-const LARGE: u128 = 0x1_0000_0000_0000_0000;
-
-// The number, or `LARGE` where it is larger.
-fn capped(digits: &[u8]) -> u128
-    ensures { is_decimal digits.now ≡ true → result ≡ min (digits_value 10 digits.now) (2 ^ 64) }
-{
-    let mut number = 0;
-    for digit in digits {
-        let next: u128 = number * 10 + u128::from(digit.saturating_sub(48));
-        number = next.min(LARGE);
-    }
-    number
-}
-
 /// A number as a word spells it.
 #[derive(Clone, Copy, Debug, PartialEq, Eq)]
 pub enum Decimal {
@@ -162,8 +157,5 @@ pub fn number_of(word: &[u8]) -> Option<Decimal>
     if !is_decimal(word) {
         return None;
     }
-    match u64::try_from(capped(word)) {
-        Ok(number) => Some(Decimal::Small(number)),
-        Err(_) => Some(Decimal::Large),
-    }
+    Some(decimal_of(word, 10))
 }

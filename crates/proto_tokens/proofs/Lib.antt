@@ -7,6 +7,5 @@ mod NumberLemmas
 mod Runs
 mod Spelled
 mod TextLemmas
-mod Values
 mod Walks
 mod WordLemmas

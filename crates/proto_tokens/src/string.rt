@@ -7,8 +7,8 @@ ghost use Rattle.proto_tokens.specs.Strings.{few, spelled, utf8, low_six, hexade
 ghost use Rattle.proto_tokens.specs.Strings.{is_low_escape, is_pair, joined, code_point, unicode_escape, simple_value};
 ghost use Rattle.proto_tokens.specs.Strings.{escape_of, string_value};
 
-use crate::word::{capped, digits_len, is_digit};
-use mrpc_table::{Bytes, Memory};
+use crate::word::{digits_len, is_digit};
+use mrpc_table::{Bytes, Memory, capped};
 use std::alloc::Global;
 
 // How many digits stand at the front, `most` at most.

@@ -1,13 +1,11 @@
 //! What stands at the front of bytes: a token of the text that isn't its end.
 
-ghost use Rattle.std.specs.Prelude.{◌≡◌, ◌≤◌, ◌<◌, ◌==◌, ◌+◌, ◌^◌, ◌∷◌, ℕ, List, length, drop, take, min, Some, None};
+ghost use Rattle.std.specs.Prelude.{◌≡◌, ◌≤◌, ◌<◌, ◌==◌, ◌+◌, ◌^◌, ◌∷◌, ℕ, List, length, drop, take, Some, None};
 ghost use Rattle.std.specs.Prelude.{MatchOption, IfSome};
 ghost use Rattle.std.specs.List.{prefix_len};
 ghost use Rattle.proto_tokens.specs.Gaps.{begins};
-ghost use Rattle.std.specs.Char.{digit_value, is_digit};
-ghost use Rattle.std.specs.Str.Parse.{digits_value};
-ghost use Rattle.mrpc_table.specs.Names.{is_name_start, is_name_byte};
-ghost use Rattle.mrpc_table.specs.Lines.{in_64_bits};
+ghost use Rattle.std.specs.Char.{is_digit};
+ghost use Rattle.mrpc_table.specs.Names.{is_name_byte};
 ghost use Rattle.proto_tokens.specs.Literals.{is_decimal_digit, is_simple_escape, has_digits, is_wide, is_mark};
 ghost use Rattle.proto_tokens.specs.Literals.{is_glue, is_quote, goes_on};
 ghost use Rattle.proto_tokens.specs.Scanning.{is_escape, closes, hexadecimal_behind, octal_behind, fraction_len};
@@ -15,25 +13,13 @@ ghost use Rattle.proto_tokens.specs.Scanning.{exponent_len, decimal_at, is_hexad
 ghost use Rattle.proto_tokens.specs.Scanning.{begins_number, mark_at, number_at, word_at};
 
 use crate::token::Kind;
-use mrpc_table::Decimal;
+use mrpc_table::{decimal_of, digit_value, is_name_byte, is_name_start};
 
 /// A token at the front of bytes: its sort and how many bytes it has.
 #[derive(Clone, Copy, Debug)]
 pub struct Word {
     pub kind: Kind,
     pub len: usize,
-}
-
-fn is_name_start(byte: u8) -> bool
-    ensures { result ≡ is_name_start byte }
-{
-    (byte >= 65 && byte <= 90) || (byte >= 97 && byte <= 122) || byte == 95
-}
-
-fn is_name_byte(byte: u8) -> bool
-    ensures { result ≡ is_name_byte byte }
-{
-    is_name_start(byte) || (byte >= 48 && byte <= 57)
 }
 
 fn name_len(bytes: &[u8]) -> usize
@@ -45,26 +31,6 @@ fn name_len(bytes: &[u8]) -> usize
         i += 1;
     }
     i
-}
-
-fn digit_value(byte: u8) -> u8
-    ensures { result ≡ digit_value byte }
-{
-    if byte < 48 {
-        36
-    } else if byte < 58 {
-        byte - 48
-    } else if byte < 65 {
-        36
-    } else if byte < 91 {
-        byte - 55
-    } else if byte < 97 {
-        36
-    } else if byte < 123 {
-        byte - 87
-    } else {
-        36
-    }
 }
 
 /// Whether a byte is a digit of a base.
@@ -86,34 +52,6 @@ pub fn digits_len(bytes: &[u8], base: u8) -> usize
     i
 }
 
-/// Larger than each number of 64 bits, and small enough that a digit can follow.
-const LARGE: u128 = 0x1_0000_0000_0000_0000;
-
-/// The number that digits spell, or 2 to the power of 64 where it is larger.
-#[tactic(auto, using(crate::proofs::Values::capped_more))]
-pub fn capped(digits: &[u8], base: u8) -> u128
-    requires { base ≤ 16 }
-    ensures { 0 < base → result ≡ min (digits_value base digits.now) (2 ^ 64) }
-{
-    let mut number = 0;
-    for digit in digits {
-        let next: u128 = number * u128::from(base) + u128::from(digit_value(*digit));
-        number = next.min(LARGE);
-    }
-    number
-}
-
-fn value_of(digits: &[u8], base: u8) -> Decimal
-    requires small { base ≤ 16 }
-    requires positive { 0 < base }
-    ensures { result ≡ in_64_bits (digits_value base digits.now) }
-{
-    match u64::try_from(capped(digits, base)) {
-        Ok(number) => Decimal::Small(number),
-        Err(_) => Decimal::Large,
-    }
-}
-
 // The integer whose digits stand behind `0x`.
 fn hexadecimal_behind(digits: &[u8]) -> Option<Word>
     requires { length digits.now < 2 ^ 63 }
@@ -125,7 +63,7 @@ fn hexadecimal_behind(digits: &[u8]) -> Option<Word>
         return None;
     }
     Some(Word {
-        kind: Kind::Integer(value_of(&digits[..len], 16)),
+        kind: Kind::Integer(decimal_of(&digits[..len], 16)),
         len: len + 2,
     })
 }
@@ -141,7 +79,7 @@ fn octal_behind(digits: &[u8]) -> Option<Word>
         return None;
     }
     Some(Word {
-        kind: Kind::Integer(value_of(&digits[..len], 8)),
+        kind: Kind::Integer(decimal_of(&digits[..len], 8)),
         len: len + 1,
     })
 }
@@ -193,7 +131,7 @@ fn decimal_at(bytes: &[u8]) -> Word
     let power = exponent_len(&bytes[whole..][part..]);
     if part == 0 && power == 0 {
         Word {
-            kind: Kind::Integer(value_of(&bytes[..whole], 10)),
+            kind: Kind::Integer(decimal_of(&bytes[..whole], 10)),
             len: whole,
         }
     } else {

@@ -316,7 +316,7 @@ none_in x c = none-some x (at_in [] x c)
 
 valid_x : IsField table 0 field_x
 valid_x = record {
-  number = record { positive = omega arith; small = lit< tt; unreserved = inl (lit< tt) };
+  number = record { positive = omega arith; small = lit≤ tt; unreserved = inl (lit< tt) };
   name = record { form = refl; short = omega arith };
   label = tt;
   kind = omega arith;

@@ -7,7 +7,7 @@ use Rattle.std.proofs.lemmas.List.{append-nil, nil_from_length}
 use Rattle.std.proofs.lemmas.Bool.{ltb-false, eqb-true}
 use Rattle.mrpc_table.specs.Names.{is_name_form}
 use Rattle.mrpc_table.specs.Valid.{Ascends, AreDistinct, IsBelow, IsKnown, IsMessage, IsMethod}
-use Rattle.table_text.specs.Judged.{Types, Before, is_among, is_empty, falls, lacks_value, lacks_zero, is_within, is_field_number, is_index, clashes, is_unknown_kind, is_unknown_label}
+use Rattle.table_text.specs.Judged.{Types, Before, is_among, is_empty, falls, lacks_value, lacks_zero, is_within, has_field_number, is_index, clashes, is_unknown_kind, is_unknown_label}
 use Rattle.table_text.specs.Places.{place}
 use Rattle.table_text.specs.Drafts.{open_part, enum_names, message_names, method_names, before, method_of, with_message, with_value, with_field, with_part, table_of, added}
 use Rattle.mrpc_table.specs.declared.table.Kind.{Kind}
@@ -69,7 +69,7 @@ use Rattle.table_text.proofs.LineLemmas.{init_first, end_first, before_line, bef
 
 -- ---- one line
 
-some_number : (o : Option ℕ) → is_field_number o ≡ true → is_some o ≡ true
+some_number : (o : Option ℕ) → has_field_number o ≡ true → is_some o ≡ true
 some_number None e = absurd cc
 some_number (Some n) e = refl
 
@@ -81,7 +81,7 @@ pub in_range : (t : Types) (b : Before) (bytes : ℕ) (l : Line) → IsClean t b
 in_range t b bytes (Enum n) h = tt
 in_range t b bytes (Value z n) h = not_no (is_within z) h.number
 in_range t b bytes (Message n) h = tt
-in_range t b bytes (Field f) h = some_number f.number (not_no (is_field_number f.number) h.number)
+in_range t b bytes (Field f) h = some_number f.number (not_no (has_field_number f.number) h.number)
 in_range t b bytes (Method m) h = some_index m.index (length b.methods) (not_no (is_index m.index (length b.methods)) (right_no (lacks_zero b.open_part) (not (is_index m.index (length b.methods))) h.number))
 
 -- the draft with one more line, and its text

@@ -12,9 +12,10 @@ use Rattle.std.proofs.lemmas.List.Elements.{All-from_recursion, recursion_from_A
 use Rattle.std.proofs.lemmas.Bool.{ltb-true}
 use Rattle.mrpc_table.specs.Names.{is_short, is_short_full, IsName, IsFullName}
 use Rattle.mrpc_table.specs.Words.{is_numeric, is_key}
+use Rattle.mrpc_table.specs.declared.limits.TheConstants.{MAX_FIELD_NUMBER, FIRST_RESERVED_NUMBER, LAST_RESERVED_NUMBER}
 use Rattle.mrpc_table.specs.Valid.{Ascends, AreDistinct, IsBelow, IsValueBelow, IsFieldNumber, IsKnown, IsMessageKind, GoesWith, Joins, OneofsFollow, IsField, IsMessage, IsEnum, IsMethod}
 use Rattle.table_text.proofs.TableFacts.{both_left, both_right}
-use Rattle.table_text.specs.Judged.{fields, field_falls, is_field_below, repeats_number, Types, Before, is_among, is_empty, is_value_below, falls, last_of, lacks_value, lacks_zero, is_field_number, is_index, clashes, is_message_word, is_numeric_word, is_key_word, is_unknown_kind, is_unknown_label, is_map_key_label, is_short_kind, is_short_label}
+use Rattle.table_text.specs.Judged.{fields, field_falls, is_field_below, repeats_number, Types, Before, is_among, is_empty, is_value_below, falls, last_of, lacks_value, lacks_zero, has_field_number, is_index, clashes, is_message_word, is_numeric_word, is_key_word, is_unknown_kind, is_unknown_label, is_map_key_label, is_short_kind, is_short_label}
 use Rattle.table_text.specs.Places.{place}
 use Rattle.table_text.specs.Drafts.{open_part, enum_names, message_names, method_names, before, resolved, labeled, new_oneof, joined_with, field_of, method_of, with_enum, with_message, with_field, with_part, table_of, added, added_enum, added_message, added_method}
 use Rattle.mrpc_table.specs.declared.table.Kind.{Kind}
@@ -566,13 +567,13 @@ no_clash t T oneofs n (Member o) k w h = refl
 abbrev field_entry : Table → List (List ℕ) → TheField → FieldLine
 field_entry T oneofs f = record { number = Some f.number; label = label_word T oneofs f.label; kind = kind_word T f.kind; name = f.name }
 
-pub field_number_is : (n : ℕ) → IsFieldNumber n → is_field_number (Some n) ≡ true
+pub field_number_is : (n : ℕ) → IsFieldNumber n → has_field_number (Some n) ≡ true
 field_number_is n h =
     let low : nat_lt 0 n ≡ true = lt-ltb 0 n h.positive in
-    let high : nat_lt n 536870912 ≡ true = lt-ltb n 536870912 h.small in
+    let high : nat_le n MAX_FIELD_NUMBER ≡ true = le-leb n MAX_FIELD_NUMBER h.small in
     rw (low, high) (elim h.unreserved [
-      | inl below ↦ let e : nat_lt n 19000 ≡ true = lt-ltb n 19000 below in rw e refl
-      | inr above ↦ let e : nat_lt 19999 n ≡ true = lt-ltb 19999 n (omega arith) in rw e (or_true (nat_lt n 19000))
+      | inl below ↦ let e : nat_lt n FIRST_RESERVED_NUMBER ≡ true = lt-ltb n FIRST_RESERVED_NUMBER below in rw e refl
+      | inr above ↦ let e : nat_lt LAST_RESERVED_NUMBER n ≡ true = lt-ltb LAST_RESERVED_NUMBER n above in rw e (or_true (nat_lt n FIRST_RESERVED_NUMBER))
     ])
 
 last_numbered : (fs : List TheField) (n : ℕ) → ((last : TheField) → last_of fs ≡ Some last → last.number < n) → (field_falls (fields (map numbered fs)) (Some n) ≡ false) × (repeats_number (fields (map numbered fs)) (Some n) ≡ false)
@@ -633,7 +634,7 @@ fields_run t T m d b fs (g ∷ gs) met valid is ok split le follow few =
     runs_line t (with_part d (open_parts.Message M)) (with_part d (open_parts.Message m)) b text (Field entry) (map (field_text T m.oneofs) gs) reads
     (record {
       syntax = both_no (clashes entry.label entry.kind) (field_falls (fields (map numbered fs)) (Some n)) (no_clash t T m.oneofs (length m.oneofs) g.label g.kind kw field.label) order.0;
-      number = no_not (is_field_number (Some n)) (field_number_is n field.number);
+      number = no_not (has_field_number (Some n)) (field_number_is n field.number);
       duplicate = both_no (is_among g.name (map (λ (p : ℕ × List ℕ). p.1) (map numbered fs))) (repeats_number (fields (map numbered fs)) (Some n)) fresh order.1;
       unknown = both_no (is_unknown_label t entry.label) (is_unknown_kind t entry.kind) lr.known kw.known;
       map_key = lr.key;

@@ -11,7 +11,7 @@ use Rattle.mrpc_table.specs.Valid.{IsFieldNumber}
 use Rattle.mrpc_table.specs.Words.{is_numeric, is_key}
 use Rattle.table_text.specs.Faults.{Offends, is_packable, is_key_kind, order_of, no_form, enum_behind_message, enum_behind_method, message_behind_method, falling_enum, falling_message, value_outside, falling_value, field_outside, falling_field, optional_message, packed_no_number, enum_without_value, value_out_of_range, no_field_number, index_out_of_turn, enum_without_zero, type_twice, value_twice, field_twice, number_twice, method_twice, unknown_type, map_key, long_name, long_full_name, too_many_enums, too_many_messages, too_many_methods, too_many_values, too_many_fields}
 use Rattle.table_text.specs.Forms.{Form, enum, value, message, field, method, Says, is_method, goes_on, type_named, type_of_kind, types_of_label, types_used, names_of_label, names_in, full_name_of_kind, full_names_of_label, full_names_in}
-use Rattle.table_text.specs.Judged.{Types, Before, types_of, line_fault, is_syntax, is_number, is_duplicate, is_unknown, is_map_key, is_limit, is_among, is_empty, falls, lacks_value, lacks_zero, is_within, is_field_number, is_index, clashes, field_falls, is_type_before, is_field_before, repeats_number, is_unknown_kind, is_unknown_label, is_key_word, is_numeric_word, is_short_kind, is_short_label, has_short_names, is_full}
+use Rattle.table_text.specs.Judged.{Types, Before, types_of, line_fault, is_syntax, is_number, is_duplicate, is_unknown, is_map_key, is_limit, is_among, is_empty, falls, lacks_value, lacks_zero, is_within, has_field_number, is_index, clashes, field_falls, is_type_before, is_field_before, repeats_number, is_unknown_kind, is_unknown_label, is_key_word, is_numeric_word, is_short_kind, is_short_label, has_short_names, is_full}
 use Rattle.table_text.specs.Lines.{in_32_bits, behind, line_of}
 use Rattle.table_text.specs.declared.fault.TableReason.{TableReason}
 use Rattle.table_text.specs.declared.fault.TableReason.TheVariants.{Syntax, Number, Duplicate, UnknownType, MapKey, Limit}
@@ -132,13 +132,13 @@ out_of_range z wrong = go (is_within (kept_whole z)) refl
     go false e = refl
     go true e = absurd (wrong (kept_within z e).1)
 
-bad_number : (n : ℕ) → (IsFieldNumber n → ⊥) → not (is_field_number (in_32_bits n)) ≡ true
+bad_number : (n : ℕ) → (IsFieldNumber n → ⊥) → not (has_field_number (in_32_bits n)) ≡ true
 bad_number n wrong = elim (in_32 n) [
-  | inl small ↦ ap (λ (o : Option ℕ). not (is_field_number o)) small.0 ∙ go (is_field_number (Some n)) refl
-  | inr large ↦ ap (λ (o : Option ℕ). not (is_field_number o)) large.0
+  | inl small ↦ ap (λ (o : Option ℕ). not (has_field_number o)) small.0 ∙ go (has_field_number (Some n)) refl
+  | inr large ↦ ap (λ (o : Option ℕ). not (has_field_number o)) large.0
 ]
   where
-    go : (b : Bool) → is_field_number (Some n) ≡ b → not b ≡ true
+    go : (b : Bool) → has_field_number (Some n) ≡ b → not b ≡ true
     go false e = refl
     go true e = absurd (wrong (number_fits n e))
 

@@ -8,7 +8,7 @@ use Rattle.std.proofs.lemmas.List.Sums.{sum_by-append}
 use Rattle.std.proofs.lemmas.List.Elements.{All-push, All-nil, All-contains, Contains-append_right, Contains-push_cases, filter_map-append}
 use Rattle.mrpc_table.specs.Names.{is_name_form, is_full_form, is_short, is_short_full}
 use Rattle.table_text.specs.Forms.{Form, enum, value, message, field, method, goes_on, is_method}
-use Rattle.table_text.specs.Judged.{Types, Before, Open, nothing, values, fields, after, with_value, with_field, lacks_value, is_empty, falls, is_within, is_field_number, clashes}
+use Rattle.table_text.specs.Judged.{Types, Before, Open, nothing, values, fields, after, with_value, with_field, lacks_value, is_empty, falls, is_within, has_field_number, clashes}
 use Rattle.table_text.specs.Lines.{in_32_bits}
 use Rattle.table_text.specs.declared.line.KindWord.{KindWord}
 use Rattle.table_text.specs.declared.line.LabelWord.{LabelWord}
@@ -157,7 +157,7 @@ field_step t fs es ms ks (fields ns) bytes p s h =
             formed = formed_push fs (field_form p) s.formed tt;
           })
       | inr large ↦
-          let number : is_field_number None ≡ true = ap is_field_number (sym large.0) ∙ not_no (is_field_number (in_32_bits p.number)) h.number in absurd cc
+          let number : has_field_number None ≡ true = ap has_field_number (sym large.0) ∙ not_no (has_field_number (in_32_bits p.number)) h.number in absurd cc
     ]
 field_step t fs es ms ks (values vs) bytes p s h = let clash = right_no (clashes p.label p.kind) true h.syntax in absurd cc
 field_step t fs es ms ks nothing bytes p s h = let clash = right_no (clashes p.label p.kind) true h.syntax in absurd cc

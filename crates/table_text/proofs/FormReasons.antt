@@ -10,7 +10,7 @@ use Rattle.mrpc_table.specs.Text.{spaced}
 use Rattle.mrpc_table.specs.Words.{is_numeric, is_key}
 use Rattle.table_text.specs.Faults.{Offends, IsLast, IsAbove, is_packable, is_key_kind, enum_behind_message, enum_behind_method, message_behind_method, falling_enum, falling_message, value_outside, falling_value, field_outside, falling_field, optional_message, packed_no_number, enum_without_value, value_out_of_range, no_field_number, index_out_of_turn, enum_without_zero, type_twice, value_twice, field_twice, number_twice, method_twice, unknown_type, map_key, long_name, long_full_name, too_many_enums, too_many_messages, too_many_methods, too_many_values, too_many_fields}
 use Rattle.table_text.specs.Forms.{Form, enum, value, message, field, method, Says, is_enum, is_message, is_method, type_of_kind, types_of_label, names_of_label, names_in, full_name_of_kind, full_names_of_label}
-use Rattle.table_text.specs.Judged.{Before, types_of, line_fault, is_syntax, is_number, is_duplicate, is_unknown, is_map_key, is_limit, is_among, is_empty, falls, lacks_value, lacks_zero, is_within, is_field_number, is_index, clashes, field_falls, is_type_before, is_field_before, repeats_number, is_unknown_kind, is_unknown_label, is_key_word, is_numeric_word, is_short_kind, is_short_label, has_short_names, is_full}
+use Rattle.table_text.specs.Judged.{Before, types_of, line_fault, is_syntax, is_number, is_duplicate, is_unknown, is_map_key, is_limit, is_among, is_empty, falls, lacks_value, lacks_zero, is_within, has_field_number, is_index, clashes, field_falls, is_type_before, is_field_before, repeats_number, is_unknown_kind, is_unknown_label, is_key_word, is_numeric_word, is_short_kind, is_short_label, has_short_names, is_full}
 use Rattle.table_text.specs.Lines.{in_32_bits, behind}
 use Rattle.table_text.specs.declared.fault.TableReason.{TableReason}
 use Rattle.table_text.specs.declared.fault.TableReason.TheVariants.{Syntax, Number, Duplicate, UnknownType, MapKey, Limit}
@@ -176,9 +176,9 @@ number_said lines fs b line (value z n) s says e =
     let large : is_within (kept_whole z) ≡ false = is_not (is_within (kept_whole z)) e in
     value_out_of_range z n says (λ fits. let small : is_within (kept_whole z) ≡ true = ap is_within (fits_within z fits) in absurd cc) refl
 number_said lines fs b line (field n l k m) s says e =
-    let wrong : is_field_number (in_32_bits n) ≡ false = is_not (is_field_number (in_32_bits n)) e in
+    let wrong : has_field_number (in_32_bits n) ≡ false = is_not (has_field_number (in_32_bits n)) e in
     no_field_number n l k m says (λ ok. elim (in_32 n) [
-      | inl small ↦ let right : is_field_number (in_32_bits n) ≡ true = ap is_field_number small.0 ∙ field_number_is n ok in absurd cc
+      | inl small ↦ let right : has_field_number (in_32_bits n) ≡ true = ap has_field_number small.0 ∙ field_number_is n ok in absurd cc
       | inr large ↦ absurd (omega (arith, large.1, ok.small))
     ]) refl
 number_said lines fs b line (method i sv n x y) s says e = elim (either_true (lacks_zero b.open_part) (not (is_index (in_32_bits i) (length b.methods))) e) [

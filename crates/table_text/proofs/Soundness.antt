@@ -11,11 +11,12 @@ use Rattle.std.proofs.lemmas.List.Elements.{All-push, recursion_from_All, Contai
 use Rattle.std.proofs.lemmas.Bool.{leb-true, leb-false, ltb-true, ltb-false, eqb-true, eqb-false}
 use Rattle.mrpc_table.specs.Names.{is_name_form, is_full_form, is_short, is_short_full, IsName, IsFullName}
 use Rattle.mrpc_table.specs.Words.{is_numeric, is_key}
+use Rattle.mrpc_table.specs.declared.limits.TheConstants.{MAX_FIELD_NUMBER, FIRST_RESERVED_NUMBER, LAST_RESERVED_NUMBER}
 use Rattle.mrpc_table.specs.Valid.{Ascends, AreDistinct, IsBelow, IsValueBelow, IsFieldNumber, IsKnown, IsMessageKind, GoesWith, Joins, OneofsFollow, IsField, IsMessage, IsEnum, IsMethod}
 use Rattle.table_text.specs.Judged as faults
 use Rattle.table_text.proofs.TableFacts.{follow_le}
 use Rattle.table_text.proofs.TableFacts.{both_left, both_right}
-use Rattle.table_text.specs.Judged.{fields, method_key, field_falls, is_field_below, repeats_number, is_field_before, open_count, Types, Before, is_among, is_empty, is_value_below, falls, last_of, lacks_value, lacks_zero, is_within, is_field_number, is_index, clashes, is_message_word, is_numeric_word, is_key_word, is_unknown_kind, is_unknown_label, is_map_key_label, is_short_kind, is_short_label}
+use Rattle.table_text.specs.Judged.{fields, method_key, field_falls, is_field_below, repeats_number, is_field_before, open_count, Types, Before, is_among, is_empty, is_value_below, falls, last_of, lacks_value, lacks_zero, is_within, has_field_number, is_index, clashes, is_message_word, is_numeric_word, is_key_word, is_unknown_kind, is_unknown_label, is_map_key_label, is_short_kind, is_short_label}
 use Rattle.table_text.specs.Places.{place}
 use Rattle.table_text.specs.Drafts.{open_part, enum_names, message_names, method_names, before, resolved, labeled, new_oneof, joined_with, field_of, method_of, with_enum, with_message, with_field, with_part, added_enum, added_message, added_method}
 use Rattle.mrpc_table.specs.declared.table.Kind.{Kind}
@@ -375,14 +376,19 @@ pub names_numbered : (fs : List TheField) → map (λ (p : ℕ × List ℕ). p.1
 names_numbered [] = refl
 names_numbered (f ∷ fs) = ap (λ (ns : List (List ℕ)). f.name ∷ ns) (names_numbered fs)
 
-pub number_fits : (n : ℕ) → is_field_number (Some n) ≡ true → IsFieldNumber n
+pub number_fits : (n : ℕ) → has_field_number (Some n) ≡ true → IsFieldNumber n
 number_fits n e =
-    let range = both_left (nat_lt 0 n && nat_lt n 536870912) (nat_lt n 19000 || nat_lt 19999 n) e in
-    let gap = both_right (nat_lt 0 n && nat_lt n 536870912) (nat_lt n 19000 || nat_lt 19999 n) e in
+    let within = nat_lt 0 n && nat_le n MAX_FIELD_NUMBER in
+    let free = nat_lt n FIRST_RESERVED_NUMBER || nat_lt LAST_RESERVED_NUMBER n in
+    let range = both_left within free e in
+    let gap = both_right within free e in
     record {
-      positive = ltb-true 0 n (both_left (nat_lt 0 n) (nat_lt n 536870912) range);
-      small = ltb-true n 536870912 (both_right (nat_lt 0 n) (nat_lt n 536870912) range);
-      unreserved = elim (ltb_tells n 19000) [ inl lt ↦ inl lt.1 | inr ge ↦ inr (let above : nat_lt 19999 n ≡ true = subst (λ (b : Bool). (b || nat_lt 19999 n) ≡ true) ge.0 gap in let lt : 19999 < n = ltb-true 19999 n above in omega arith) ];
+      positive = ltb-true 0 n (both_left (nat_lt 0 n) (nat_le n MAX_FIELD_NUMBER) range);
+      small = leb-true n MAX_FIELD_NUMBER (both_right (nat_lt 0 n) (nat_le n MAX_FIELD_NUMBER) range);
+      unreserved = elim (ltb_tells n FIRST_RESERVED_NUMBER) [
+        | inl lt ↦ inl lt.1
+        | inr ge ↦ inr (ltb-true LAST_RESERVED_NUMBER n (subst (λ (b : Bool). (b || nat_lt LAST_RESERVED_NUMBER n) ≡ true) ge.0 gap))
+      ];
     }
 
 fields_weaker : (N : Table) (a b : ℕ) (fs : List TheField) → a ≤ b → All (IsField N a) fs → All (IsField N b) fs
@@ -407,7 +413,7 @@ message_grown t m n f lw kw bytes b part small ok number label kind form h =
     let falls : field_falls (fields here) (Some n) ≡ false = subst (λ (o : Option ℕ). field_falls (fields here) o ≡ false) number (subst (λ (p : faults.Open). field_falls p f.number ≡ false) part (right_no (clashes f.label f.kind) (field_falls b.open_part f.number) h.syntax)) in
     let repeats : repeats_number (fields here) (Some n) ≡ false = subst (λ (o : Option ℕ). repeats_number (fields here) o ≡ false) number (subst (λ (p : faults.Open). repeats_number p f.number ≡ false) part (right_no (is_field_before b.open_part f.name) (repeats_number b.open_part f.number) h.duplicate)) in
     let new : is_among f.name (map (λ f. f.name) m.fields) ≡ false = subst (λ (ns : List (List ℕ)). is_among f.name ns ≡ false) (names_numbered m.fields) (subst (λ (p : faults.Open). is_field_before p f.name ≡ false) part (left_no (is_field_before b.open_part f.name) (repeats_number b.open_part f.number) h.duplicate)) in
-    let in_range : is_field_number (Some n) ≡ true = subst (λ (o : Option ℕ). is_field_number o ≡ true) number (not_no (is_field_number f.number) h.number) in
+    let in_range : has_field_number (Some n) ≡ true = subst (λ (o : Option ℕ). has_field_number o ≡ true) number (not_no (has_field_number f.number) h.number) in
     let limits = left_no (not ((is_short_label f.label && is_short_kind f.kind) && is_short f.name) || nat_le 128 (open_count b.open_part)) (nat_lt 65536 bytes) h.limit in
     let shorts = not_no ((is_short_label f.label && is_short_kind f.kind) && is_short f.name) (left_no (not ((is_short_label f.label && is_short_kind f.kind) && is_short f.name)) (nat_le 128 (open_count b.open_part)) limits) in
     let short_label = both_left (is_short_label f.label) (is_short_kind f.kind) (both_left (is_short_label f.label && is_short_kind f.kind) (is_short f.name) shorts) in

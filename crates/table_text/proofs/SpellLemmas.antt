@@ -14,7 +14,8 @@ use Rattle.std.proofs.lemmas.List.Splits.{join_with_byte-slice_split}
 use Rattle.std.proofs.lemmas.Grind.{common_steps}
 use Rattle.mrpc_table.specs.Names.{is_name_start, is_name_byte, is_name_form, is_full_form, parts_of}
 use Rattle.mrpc_table.specs.Lines.{words_of, number_of}
-use Rattle.table_text.specs.Lines.{in_32_bits, whole_of, name_of, full_name_of, scalar_names, scalar_of, behind, kind_of, label_names, label_of, enum_of, value_of, message_of, field_of, method_of, line_of_words, line_of}
+use Rattle.mrpc_table.specs.Scalars.{no_table, scalar_names, scalar_of}
+use Rattle.table_text.specs.Lines.{in_32_bits, whole_of, name_of, full_name_of, behind, kind_of, label_names, label_of, enum_of, value_of, message_of, field_of, method_of, line_of_words, line_of}
 use Rattle.mrpc_table.specs.Text.{kind_text, spaced}
 use Rattle.table_text.specs.Judged.{is_within}
 use Rattle.mrpc_table.specs.declared.table.Kind.{Kind}
@@ -94,10 +95,7 @@ label_is w l e =
       ]
     ]
 
-no_types : Table
-no_types = record { messages = []; enums = []; methods = [] }
-
-scalar_read : (k : Kind) → IsScalar k → kind_of (kind_text no_types k) ≡ Some (kinds.Scalar k)
+scalar_read : (k : Kind) → IsScalar k → kind_of (kind_text no_table k) ≡ Some (kinds.Scalar k)
 scalar_read Int32 h = refl
 scalar_read Int64 h = refl
 scalar_read Uint32 h = refl
@@ -117,7 +115,7 @@ scalar_read (OfMessage i) h = absurd h
 scalar_read (Choice i) h = absurd h
 
 pub kind_read : (w : List ℕ) (k : KindWord) → KindIs w k → kind_of w ≡ Some k
-kind_read w (kinds.Scalar k) h = ap kind_of (h.0 no_types) ∙ scalar_read k h.1
+kind_read w (kinds.Scalar k) h = ap kind_of (h.0 no_table) ∙ scalar_read k h.1
 kind_read w (kinds.Message n) h = let form = h.1 in ap kind_of h.0 ∙ rw form refl
 kind_read w (kinds.Choice n) h = let form = h.1 in ap kind_of h.0 ∙ rw form refl
 
@@ -367,7 +365,7 @@ whole_dark w (Within z) h = ap dark h.0 ∙ signed_dark z h.1
 whole_dark w Low h = absurd h
 whole_dark w High h = absurd h
 
-scalar_dark : (k : Kind) → IsScalar k → dark (kind_text no_types k) ≡ true
+scalar_dark : (k : Kind) → IsScalar k → dark (kind_text no_table k) ≡ true
 scalar_dark Int32 h = refl
 scalar_dark Int64 h = refl
 scalar_dark Uint32 h = refl
@@ -387,7 +385,7 @@ scalar_dark (OfMessage i) h = absurd h
 scalar_dark (Choice i) h = absurd h
 
 kind_dark : (w : List ℕ) (k : KindWord) → KindIs w k → dark w ≡ true
-kind_dark w (kinds.Scalar k) h = ap dark (h.0 no_types) ∙ scalar_dark k h.1
+kind_dark w (kinds.Scalar k) h = ap dark (h.0 no_table) ∙ scalar_dark k h.1
 kind_dark w (kinds.Message n) h = ap dark h.0 ∙ all-append (λ c. nat_lt 32 c) (codes "message:") n refl (full_dark n h.1)
 kind_dark w (kinds.Choice n) h = ap dark h.0 ∙ all-append (λ c. nat_lt 32 c) (codes "enum:") n refl (full_dark n h.1)
 

@@ -8,6 +8,7 @@ use Rattle.std.specs.Int.RustNames.{int_lt}
 use Rattle.std.specs.Str.{bytes_eq}
 use Rattle.std.specs.Cmp.Lexicographic.{slice_cmp}
 use Rattle.mrpc_table.specs.Names.{is_short, is_short_full}
+use Rattle.mrpc_table.specs.Valid.{is_field_number}
 use Rattle.mrpc_table.specs.Words.{is_numeric, is_key}
 use Rattle.mrpc_table.specs.declared.limits.TheConstants.{MAX_ENUMS, MAX_MESSAGES, MAX_METHODS, MAX_FIELDS, MAX_VALUES, MAX_TEXT}
 use Rattle.mrpc_table.specs.Lines.{whole_lines, rest_of}
@@ -153,9 +154,9 @@ abbrev pub is_within : Whole → Bool
 is_within (Within z) = true
 is_within _ = false
 
-abbrev pub is_field_number : Option ℕ → Bool
-is_field_number (Some n) = (nat_lt 0 n && nat_lt n 536870912) && (nat_lt n 19000 || nat_lt 19999 n)
-is_field_number None = false
+abbrev pub has_field_number : Option ℕ → Bool
+has_field_number (Some n) = is_field_number n
+has_field_number None = false
 
 abbrev pub is_index : Option ℕ → ℕ → Bool
 is_index (Some i) n = i == n
@@ -165,7 +166,7 @@ abbrev pub is_number : Before → Line → Bool
 is_number b (Enum name) = lacks_zero b.open_part
 is_number b (Value z name) = not (is_within z)
 is_number b (Message name) = lacks_zero b.open_part
-is_number b (Field f) = not (is_field_number f.number)
+is_number b (Field f) = not (has_field_number f.number)
 is_number b (Method m) = lacks_zero b.open_part || not (is_index m.index (length b.methods))
 
 -- Duplicate: a name of a type, of a value in its enum, of a field in its message or of a method in its

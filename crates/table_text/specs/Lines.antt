@@ -5,8 +5,7 @@ use Rattle.std.specs.Option.{option_or}
 use Rattle.std.specs.Str.{bytes_eq}
 use Rattle.mrpc_table.specs.Lines.{words_of, number_of}
 use Rattle.mrpc_table.specs.Names.{is_name_form, is_full_form}
-use Rattle.mrpc_table.specs.declared.table.Kind.{Kind}
-use Rattle.mrpc_table.specs.declared.table.Kind.TheVariants.{Int32, Int64, Uint32, Uint64, Sint32, Sint64, Bool as TheBool, Fixed32, Fixed64, Sfixed32, Sfixed64, Float, Double, Text, Octets}
+use Rattle.mrpc_table.specs.Scalars.{scalar_of}
 use Rattle.table_text.specs.declared.line.KindWord.{KindWord}
 use Rattle.table_text.specs.declared.line.KindWord.TheVariants as kinds
 use Rattle.table_text.specs.declared.line.LabelWord.{LabelWord}
@@ -39,18 +38,6 @@ name_of word = if is_name_form word then Some word else None
 
 abbrev pub full_name_of : List ℕ → Option (List ℕ)
 full_name_of word = if is_full_form word then Some word else None
-
--- the scalar kinds by their names in proto3
-abbrev pub scalar_names : List (List ℕ × Kind)
-scalar_names =
-    (codes "int32", Int32) ∷ (codes "int64", Int64) ∷ (codes "uint32", Uint32) ∷ (codes "uint64", Uint64)
-    ∷ (codes "sint32", Sint32) ∷ (codes "sint64", Sint64) ∷ (codes "bool", TheBool)
-    ∷ (codes "fixed32", Fixed32) ∷ (codes "fixed64", Fixed64)
-    ∷ (codes "sfixed32", Sfixed32) ∷ (codes "sfixed64", Sfixed64)
-    ∷ (codes "float", Float) ∷ (codes "double", Double) ∷ (codes "string", Text) ∷ (codes "bytes", Octets) ∷ []
-
-abbrev pub scalar_of : List ℕ → Option Kind
-scalar_of word = option_map (λ e. e.1) (find (λ e. bytes_eq word e.0) scalar_names)
 
 -- what stands behind a prefix
 abbrev pub behind : List ℕ → List ℕ → Option (List ℕ)

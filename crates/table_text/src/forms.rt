@@ -5,8 +5,8 @@ ghost use Rattle.mrpc_table.specs.Lines.{words_of};
 ghost use Rattle.table_text.specs.Lines.{line_of_words, line_of, enum_of, value_of, message_of, field_of, method_of};
 
 use crate::line::{FieldLine, Line, MethodLine};
-use crate::words::{full_name_of, index_of, is_word, kind_of, label_of, name_of, whole_of};
-use mrpc_table::{Memory, cut};
+use crate::words::{full_name_of, index_of, kind_of, label_of, name_of, whole_of};
+use mrpc_table::{Memory, cut, is_word};
 use std::alloc::Global;
 
 // The first of at least two words, and the line of the others.

@@ -3,13 +3,15 @@
 ghost use Rattle.std.specs.Prelude.{◌≡◌, ◌<◌, ◌++◌, ◌∷◌, ℕ, [], length, not, IfOk, OnOk, Some};
 ghost use Rattle.mrpc_table.specs.Names.{is_short, is_short_full};
 ghost use Rattle.mrpc_table.specs.Words.{is_numeric, is_key};
-ghost use Rattle.table_text.specs.Judged.{Types, clashes, is_message_word, is_numeric_word, is_key_word, is_short_kind, is_short_label, is_within, is_field_number, is_index, has_short_names, is_full, is_limit, is_map_key, is_unknown_kind, is_unknown_label, is_unknown, is_syntax, is_number, is_duplicate, line_fault};
+ghost use Rattle.table_text.specs.Judged.{Types, clashes, is_message_word, is_numeric_word, is_key_word, is_short_kind, is_short_label, is_within, has_field_number, is_index, has_short_names, is_full, is_limit, is_map_key, is_unknown_kind, is_unknown_label, is_unknown, is_syntax, is_number, is_duplicate, line_fault};
 ghost use Rattle.table_text.specs.Drafts.{before, method_names, enum_names, message_names};
 ghost use Rattle.table_text.specs.Places.{Holds};
 
 use crate::draft::Draft;
 use crate::line::{KindWord, LabelWord, Line, Whole};
-use mrpc_table::{Kind, MAX_FIELDS, MAX_METHODS, MAX_TEXT, MAX_VALUES, is_short, is_short_full};
+use mrpc_table::{
+    Kind, MAX_FIELDS, MAX_METHODS, MAX_TEXT, MAX_VALUES, is_field_number, is_short, is_short_full,
+};
 
 fn clashes(label: &LabelWord, kind: &KindWord) -> bool
     ensures { result ≡ clashes label.now kind.now }
@@ -25,11 +27,11 @@ fn clashes(label: &LabelWord, kind: &KindWord) -> bool
     }
 }
 
-fn is_field_number(number: Option<u32>) -> bool
-    ensures { result ≡ is_field_number number }
+fn has_field_number(number: Option<u32>) -> bool
+    ensures { result ≡ has_field_number number }
 {
     match number {
-        Some(n) => n > 0 && n < 536_870_912 && (n < 19_000 || n > 19_999),
+        Some(n) => is_field_number(u64::from(n)),
         None => false,
     }
 }
@@ -74,7 +76,7 @@ pub fn is_number(draft: &Draft, line: &Line) -> bool
     match line {
         Line::Enum(_) | Line::Message(_) => part.lacks_zero(),
         Line::Value(number, _) => !matches!(number, Whole::Within(_)),
-        Line::Field(field) => !is_field_number(field.number),
+        Line::Field(field) => !has_field_number(field.number),
         Line::Method(method) => {
             part.lacks_zero() || !is_index(method.index, draft.methods.len())
         }

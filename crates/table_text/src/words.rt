@@ -5,12 +5,14 @@ ghost use Rattle.std.specs.Option.{option_copied};
 ghost use Rattle.std.specs.List.{find};
 ghost use Rattle.std.specs.Str.{bytes_eq};
 ghost use Rattle.mrpc_table.specs.Lines.{number_of};
-ghost use Rattle.table_text.specs.Lines.{in_32_bits, whole_of, negative, not_negative, scalar_of, behind, name_of, full_name_of, kind_of, label_names, label_of};
+ghost use Rattle.table_text.specs.Lines.{in_32_bits, whole_of, negative, not_negative, behind, name_of, full_name_of, kind_of, label_names, label_of};
 ghost use Rattle.table_text.specs.declared.line.KindWord.TheVariants as kinds;
 ghost use Rattle.table_text.specs.declared.line.LabelWord.TheVariants as labels;
 
 use crate::line::{KindWord, LabelWord, Whole};
-use mrpc_table::{Bytes, Decimal, Kind, Memory, Name, is_full_form, is_name_form, number_of};
+use mrpc_table::{
+    Bytes, Decimal, Kind, Memory, Name, is_full_form, is_name_form, is_word, number_of,
+};
 use std::alloc::Global;
 
 /// A number without sign or leading zero; behind it `None` where it has more than 32 bits.
@@ -52,52 +54,6 @@ fn not_negative(digits: &[u8]) -> Option<Whole>
     match number_of(digits)? {
         Decimal::Small(number) if number < 0x8000_0000 => Some(Whole::Within(number as i32)),
         _ => Some(Whole::High),
-    }
-}
-
-/// Whether the word is this one.
-pub fn is_word<'a>(word: &'a [u8], expected: &'a [u8]) -> bool
-    ensures { result ≡ bytes_eq word.now expected.now }
-{
-    word == expected
-}
-
-/// The scalar kind of a name of proto3.
-pub fn scalar_of(word: &[u8]) -> Option<Kind>
-    ensures { result ≡ scalar_of word.now }
-{
-    if is_word(word, b"int32") {
-        Some(Kind::Int32)
-    } else if is_word(word, b"int64") {
-        Some(Kind::Int64)
-    } else if is_word(word, b"uint32") {
-        Some(Kind::Uint32)
-    } else if is_word(word, b"uint64") {
-        Some(Kind::Uint64)
-    } else if is_word(word, b"sint32") {
-        Some(Kind::Sint32)
-    } else if is_word(word, b"sint64") {
-        Some(Kind::Sint64)
-    } else if is_word(word, b"bool") {
-        Some(Kind::Bool)
-    } else if is_word(word, b"fixed32") {
-        Some(Kind::Fixed32)
-    } else if is_word(word, b"fixed64") {
-        Some(Kind::Fixed64)
-    } else if is_word(word, b"sfixed32") {
-        Some(Kind::Sfixed32)
-    } else if is_word(word, b"sfixed64") {
-        Some(Kind::Sfixed64)
-    } else if is_word(word, b"float") {
-        Some(Kind::Float)
-    } else if is_word(word, b"double") {
-        Some(Kind::Double)
-    } else if is_word(word, b"string") {
-        Some(Kind::Text)
-    } else if is_word(word, b"bytes") {
-        Some(Kind::Octets)
-    } else {
-        None
     }
 }
 
@@ -160,7 +116,7 @@ fn enum_kind(alloc: Global, word: &[u8]) -> Result<Option<KindWord>, Memory>
 pub fn kind_of(alloc: Global, word: &[u8]) -> Result<Option<KindWord>, Memory>
     ensures { IfOk result (λ r. r ≡ kind_of word.now) }
 {
-    if let Some(kind) = scalar_of(word) {
+    if let Some(kind) = Kind::of_name(word) {
         return Ok(Some(KindWord::Scalar(kind)));
     }
     match message_kind(alloc, word)? {

@@ -45,7 +45,7 @@ label-packed oneofs label k h e =
 
 usable-field : (T : Table) (oneofs : ℕ) (f : Field) → IsField T oneofs f → IsUsable f
 usable-field T oneofs f h = record {
-  small = h.number.small;
+  small = omega (arith, h.number.small);
   key = λ key e. label-key oneofs f.label f.kind key h.label e;
   packed = λ e. label-packed oneofs f.label f.kind h.label e;
 }

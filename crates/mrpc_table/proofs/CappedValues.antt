@@ -23,9 +23,3 @@ capped_step v n d base cap positive e = elim (cases_lt v cap) [
 pub capped_more : (base : ℕ) (ds : List ℕ) (i n cap : ℕ) → i < length ds → 0 < base → n ≡ min (digits_value base (take i ds)) cap → min (n * base + digit_value (get_or ds i 0)) cap ≡ min (digits_value base (take (i + 1) ds)) cap
 capped_more base ds i n cap within positive so_far =
     rw (digits_value_more base ds i within) (capped_step (digits_value base (take i ds)) n (digit_value (get_or ds i 0)) base cap positive so_far)
-
-pub scaled_le : (n m base : ℕ) → n ≤ m → base ≤ 16 → n * base ≤ m * 16
-scaled_le n m base h small =
-    let a : n * base ≤ n * 16 = mul-le-mul_left n small in
-    let b : n * 16 ≤ m * 16 = omega arith in
-    omega arith
