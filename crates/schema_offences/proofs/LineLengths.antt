@@ -5,6 +5,7 @@ use Rattle.std.specs.Int.{w32}
 use Rattle.std.specs.List.{join_with_byte}
 use Rattle.std.specs.Fmt.{decimal}
 use Rattle.std.proofs.lemmas.Option.{same_Some, slice_get_within}
+use Rattle.mrpc_table.specs.Scalars.{no_table}
 use Rattle.mrpc_table.specs.Valid.{IsFieldNumber}
 use Rattle.mrpc_table.specs.Text.{label_text, line, value_line}
 use Rattle.mrpc_table.specs.declared.table.Label.{Label}
@@ -23,7 +24,7 @@ use Rattle.schema_names.specs.Scopes.{a_message, text_of, IsScope, Names}
 use Rattle.schema_names.specs.Numbers
 use Rattle.schema_names.specs.Numbers.{StandsAt, IsFirstAt}
 use Rattle.schema_names.specs.declared.named.Named.TheVariants.{Message, Enum}
-use Rattle.schema_offences.specs.Types.{value_of, no_table, label_in, HasForm}
+use Rattle.schema_offences.specs.Types.{value_of, label_in, HasForm}
 use Rattle.schema_offences.specs.Members.{IsNoMessage, IsFieldNumberOf}
 use Rattle.schema_offences.specs.Forms.{IsWordOf, IsForm}
 use Rattle.schema_offences.specs.Lengths

@@ -3,6 +3,7 @@ use Rattle.std.proofs.Common.{◌≡◌, ℕ, Bool, List, [], ◌∷◌, ◌++�
 use Rattle.std.specs.Prelude.{Some, pos, codes, map, slice_get}
 use Rattle.std.specs.Fmt.{decimal}
 use Rattle.std.proofs.lemmas.Option.{same_Some}
+use Rattle.mrpc_table.specs.Scalars.{no_table}
 use Rattle.mrpc_table.specs.Text.{label_text, line, value_line}
 use Rattle.mrpc_table.specs.Words.{is_numeric}
 use Rattle.mrpc_table.specs.declared.table.Label.{Label}
@@ -22,7 +23,7 @@ use Rattle.proto_file.specs.Joined.{Joined, home_of, enum_home_of, package_at}
 use Rattle.schema_names.specs.Scopes.{Sort, a_message, an_enum, IsScope, Names, text_of}
 use Rattle.schema_names.specs.Numbers.{StartApart}
 use Rattle.schema_offences.specs.Types
-use Rattle.schema_offences.specs.Types.{no_table, value_of, HasType, HasForm, label_in, single_label}
+use Rattle.schema_offences.specs.Types.{value_of, HasType, HasForm, label_in, single_label}
 use Rattle.schema_offences.specs.Lengths
 use Rattle.schema_offences.specs.Lengths.{LineAt}
 use Rattle.schema_offences.proofs.Scalars.{scalar_one}

@@ -1,5 +1,6 @@
 -- Types and forms of fields as the resolver keeps them: a named type by its place.
 use Rattle.std.specs.Prelude.{◌≡◌, ℕ, Bool, true, false, List, ◌++◌, codes}
+use Rattle.mrpc_table.specs.Scalars.{no_table}
 use Rattle.mrpc_table.specs.Words.{is_numeric, is_key}
 use Rattle.mrpc_table.specs.Text.{kind_text}
 use Rattle.proto_file.specs.declared.file.Span.{Span}
@@ -9,7 +10,7 @@ use Rattle.schema_names.specs.Scopes.{text_of, Names}
 use Rattle.schema_names.specs.Numbers.{StandsAt, sort_of, IsFirstAt}
 use Rattle.schema_names.specs.declared.named.Named.{Named}
 use Rattle.schema_names.specs.declared.named.Named.TheVariants.{Message, Enum}
-use Rattle.schema_offences.specs.Types.{no_table, IsScalar, IsNoScalar, label_in, HasForm}
+use Rattle.schema_offences.specs.Types.{IsScalar, IsNoScalar, label_in, HasForm}
 use Rattle.schema_offences.specs.declared.types.TypeOf.{TypeOf}
 use Rattle.schema_offences.specs.declared.types.TypeOf.TheVariants.{Scalar, Named as OfName}
 use Rattle.schema_offences.specs.declared.types.Form.{Form}

@@ -5,6 +5,7 @@ use Rattle.std.proofs.Common.{suc, get_or}
 use Rattle.std.specs.Int.{w32}
 use Rattle.std.specs.List.{flat_map}
 use Rattle.std.specs.Fmt.{decimal}
+use Rattle.mrpc_table.specs.Scalars.{no_table}
 use Rattle.mrpc_table.specs.Valid.{IsFieldNumber}
 use Rattle.mrpc_table.specs.Text.{kind_text, label_text, line, value_line}
 use Rattle.mrpc_table.specs.declared.limits.TheConstants.{MAX_FULL_NAME, MAX_TEXT}
@@ -25,7 +26,7 @@ use Rattle.schema_names.specs.Scopes.{a_message, text_of, IsScope, Names}
 use Rattle.schema_names.specs.Numbers.{StandsAt}
 use Rattle.schema_names.specs.declared.named.Named.TheVariants.{Message, Enum}
 use Rattle.schema_offences.specs.Methods.{service_rpcs}
-use Rattle.schema_offences.specs.Types.{value_of, no_table, HasForm}
+use Rattle.schema_offences.specs.Types.{value_of, HasForm}
 use Rattle.schema_offences.specs.Members.{Is}
 use Rattle.schema_offences.specs.declared.reason.ResolveReason.{ResolveReason}
 use Rattle.schema_offences.specs.declared.reason.ResolveReason.TheVariants.{Limit}

@@ -3,6 +3,7 @@ use Rattle.std.specs.Prelude.{◌≡◌, ℕ, pos, ◌<◌, ◌≤◌, List, [],
 use Rattle.std.specs.Int.{w32}
 use Rattle.std.specs.List.{flat_map}
 use Rattle.std.specs.Fmt.{decimal}
+use Rattle.mrpc_table.specs.Scalars.{no_table}
 use Rattle.mrpc_table.specs.Valid.{IsFieldNumber, Ascends}
 use Rattle.mrpc_table.specs.Text.{label_text, line, value_line}
 use Rattle.mrpc_table.specs.declared.limits.TheConstants.{MAX_TEXT}
@@ -18,7 +19,7 @@ use Rattle.proto_file.specs.Joined.{Joined, home_of, enum_home_of, package_at}
 use Rattle.proto_file.specs.declared.joined.Home.TheVariants as home
 use Rattle.schema_names.specs.Scopes.{a_message, text_of, IsScope, Names}
 use Rattle.schema_offences.specs.Methods.{rpcs_of}
-use Rattle.schema_offences.specs.Types.{value_of, no_table, HasForm}
+use Rattle.schema_offences.specs.Types.{value_of, HasForm}
 
 -- a field of a message, and the scope in which its types are looked for: the message itself
 pub record HasField (F : Joined) (scope : List (List ℕ)) (m : MessageDecl) (f : FieldDecl) : Type 0 where

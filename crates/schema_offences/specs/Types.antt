@@ -1,17 +1,14 @@
 -- Numbers, types and labels of fields, as a table has them (Protocol Buffers, proto3 language guide: "Scalar Value
 -- Types", "Specifying Field Labels", "Maps"; the names of labels and kinds are this project's own).
-use Rattle.std.specs.Prelude.{◌≡◌, ℕ, ℤ, pos, neg_ℤ, ◌^◌, ◌&&◌, Bool, true, false, List, [], ◌∷◌, ◌++◌, codes, Option, Some, None, option_map, IsTrue, if◌then◌else◌}
-use Rattle.std.specs.List.{find}
-use Rattle.std.specs.Str.{bytes_eq}
+use Rattle.std.specs.Prelude.{◌≡◌, ℕ, ℤ, pos, neg_ℤ, ◌^◌, ◌&&◌, Bool, true, false, List, ◌++◌, codes, Option, Some, None, IsTrue, if◌then◌else◌}
 use Rattle.mrpc_table.specs.declared.words.Decimal.{Decimal}
 use Rattle.mrpc_table.specs.declared.words.Decimal.TheVariants.{Small, Large}
 use Rattle.mrpc_table.specs.declared.table.Kind.{Kind}
 use Rattle.mrpc_table.specs.declared.table.Kind.TheVariants.{Message as OfMessage, Choice}
-use Rattle.mrpc_table.specs.declared.table.Kind.TheVariants as kinds
 use Rattle.mrpc_table.specs.declared.table.Label.{Label}
 use Rattle.mrpc_table.specs.declared.table.Label.TheVariants as labels
-use Rattle.mrpc_table.specs.declared.table.Table.{Table}
 use Rattle.mrpc_table.specs.Words.{is_numeric, is_key}
+use Rattle.mrpc_table.specs.Scalars.{no_table}
 use Rattle.mrpc_table.specs.Text.{kind_text}
 use Rattle.proto_file.specs.declared.file.Word.{Word}
 use Rattle.proto_file.specs.declared.file.Number.{Number}
@@ -39,9 +36,6 @@ is_scalar (OfMessage i) = false
 is_scalar (Choice i) = false
 is_scalar k = true
 
-abbrev pub no_table : Table
-no_table = record { messages = []; enums = []; methods = [] }
-
 -- the name of a scalar
 pub record IsScalar (name : List ℕ) (k : Kind) : Type 0 where
   pub is_one : is_scalar k ≡ true
@@ -49,18 +43,6 @@ pub record IsScalar (name : List ℕ) (k : Kind) : Type 0 where
 
 abbrev pub IsNoScalar : List ℕ → Type 0
 IsNoScalar name = (k : Kind) → IsScalar name k → ⊥
-
--- the same as a table and its look-up
-abbrev pub scalar_names : List (List ℕ × Kind)
-scalar_names =
-    (codes "int32", kinds.Int32) ∷ (codes "int64", kinds.Int64) ∷ (codes "uint32", kinds.Uint32)
-    ∷ (codes "uint64", kinds.Uint64) ∷ (codes "sint32", kinds.Sint32) ∷ (codes "sint64", kinds.Sint64)
-    ∷ (codes "bool", kinds.Bool) ∷ (codes "fixed32", kinds.Fixed32) ∷ (codes "fixed64", kinds.Fixed64)
-    ∷ (codes "sfixed32", kinds.Sfixed32) ∷ (codes "sfixed64", kinds.Sfixed64) ∷ (codes "float", kinds.Float)
-    ∷ (codes "double", kinds.Double) ∷ (codes "string", kinds.Text) ∷ (codes "bytes", kinds.Octets) ∷ []
-
-abbrev pub scalar_of : List ℕ → Option Kind
-scalar_of name = option_map (λ e. e.1) (find (λ e. bytes_eq name e.0) scalar_names)
 
 -- The word for a type in a table's text, whether it is a message, and whether many of it can stand in one record. The
 -- name of a scalar is that scalar, whatever is declared by that name.

@@ -3,13 +3,14 @@
 ghost use Rattle.std.specs.Prelude.{◌≡◌, ◌+◌, ◌*◌, ◌<◌, ◌≤◌, ◌^◌, ℕ, List, ◌++◌, length, Some, slice_get, IfOk, OnOk, MatchOption, FitsSigned, map};
 ghost use Rattle.std.specs.Int.{w32};
 ghost use Rattle.std.specs.Fmt.{decimal};
+ghost use Rattle.mrpc_table.specs.Scalars.{no_table};
 ghost use Rattle.mrpc_table.specs.declared.table.Label.TheVariants as labels;
 ghost use Rattle.mrpc_table.specs.Text.{kind_text, label_text, value_line};
 ghost use Rattle.proto_file.specs.Together.{IsFormed, IsOrdered, field_decl, rpc_decl};
 ghost use Rattle.proto_file.specs.Joined.{package_parts, home_of, enum_home_of};
 ghost use Rattle.proto_file.specs.declared.joined.Home.TheVariants as home;
 ghost use Rattle.schema_names.specs.Scopes.{IsScope};
-ghost use Rattle.schema_offences.specs.Types.{no_table, value_of, label_in};
+ghost use Rattle.schema_offences.specs.Types.{value_of, label_in};
 ghost use Rattle.schema_offences.specs.Meeting.{Meets, AtSome, OfElement, LongIn, PassesIn};
 ghost use Rattle.schema_offences.specs.Lengths.{at_most_64_bits, front_length, KeepsLengths, AreLengths, full_length, IsKept, IsKeptHome, type_length, IsLengthAt, added, rpcs_before, Covers, CoversAll, IsPast, IsLongName};
 

@@ -11,7 +11,7 @@ ghost use Rattle.schema_offences.specs.Those.{AreThose};
 ghost use Rattle.schema_offences.specs.Members.{IsFieldNumberOf, IsReserved};
 ghost use Rattle.schema_offences.specs.Ranges.{IsPlaceOf, IsEndsOf, AreSortedEnds, KeepsRanges, reach_from};
 
-use mrpc_table::{Decimal, Memory};
+use mrpc_table::{Decimal, Memory, is_field_number};
 use proto_file::{Number, Range};
 use std::alloc::Global;
 
@@ -39,12 +39,6 @@ pub fn place_of(number: &Number) -> u128
     } else {
         ZERO + size
     }
-}
-
-fn is_field_number(size: u64) -> bool
-    ensures { IsTrue result ↔ IsFieldNumber size }
-{
-    size >= 1 && size < 0x2000_0000 && (size < 19_000 || size >= 20_000)
 }
 
 /// The number of a field: 1 to 536870911, and not 19000 to 19999.

@@ -3,11 +3,10 @@
 ghost use Rattle.std.specs.Prelude.{◌≡◌, ◌<◌, ◌↔◌, ℕ, true, List, [], ◌∷◌, length, Some, MatchOption, IsTrue};
 ghost use Rattle.mrpc_table.specs.Words.{is_key};
 ghost use Rattle.mrpc_table.specs.declared.table.Kind.{Kind};
-ghost use Rattle.std.specs.Str.{bytes_eq};
 ghost use Rattle.mrpc_table.specs.declared.table.Label.{Label};
 ghost use Rattle.proto_file.specs.declared.joined.Home.TheVariants as home;
 ghost use Rattle.schema_names.specs.Scopes.{IsScope};
-ghost use Rattle.schema_offences.specs.Types.{scalar_of, single_label, IsScalar, IsNoScalar, HasForm};
+ghost use Rattle.schema_offences.specs.Types.{single_label, IsScalar, IsNoScalar, HasForm};
 ghost use Rattle.schema_offences.specs.Members.{IsUnknown, IsMisplaced};
 ghost use Rattle.schema_offences.specs.Forms.{IsType, IsForm, is_message, is_packable, may_be_key};
 
@@ -30,51 +29,6 @@ pub struct Form {
     pub type_of: TypeOf,
 }
 
-fn is_word<'a>(word: &'a [u8], expected: &'a [u8]) -> bool
-    ensures { result ≡ bytes_eq word.now expected.now }
-{
-    word == expected
-}
-
-// The scalar of a name.
-fn scalar_of(name: &[u8]) -> Option<Kind>
-    ensures { result ≡ scalar_of name.now }
-{
-    if is_word(name, b"int32") {
-        Some(Kind::Int32)
-    } else if is_word(name, b"int64") {
-        Some(Kind::Int64)
-    } else if is_word(name, b"uint32") {
-        Some(Kind::Uint32)
-    } else if is_word(name, b"uint64") {
-        Some(Kind::Uint64)
-    } else if is_word(name, b"sint32") {
-        Some(Kind::Sint32)
-    } else if is_word(name, b"sint64") {
-        Some(Kind::Sint64)
-    } else if is_word(name, b"bool") {
-        Some(Kind::Bool)
-    } else if is_word(name, b"fixed32") {
-        Some(Kind::Fixed32)
-    } else if is_word(name, b"fixed64") {
-        Some(Kind::Fixed64)
-    } else if is_word(name, b"sfixed32") {
-        Some(Kind::Sfixed32)
-    } else if is_word(name, b"sfixed64") {
-        Some(Kind::Sfixed64)
-    } else if is_word(name, b"float") {
-        Some(Kind::Float)
-    } else if is_word(name, b"double") {
-        Some(Kind::Double)
-    } else if is_word(name, b"string") {
-        Some(Kind::Text)
-    } else if is_word(name, b"bytes") {
-        Some(Kind::Octets)
-    } else {
-        None
-    }
-}
-
 /// What a type's name in a field of a message means, as a file sees it: a scalar's name is that scalar, whatever is
 /// declared.
 pub fn type_of<'a>(
@@ -90,7 +44,7 @@ pub fn type_of<'a>(
         (IsType scopes.now file scope word.now.name) }
 {
     let name = word.name.as_slice();
-    match scalar_of(name) {
+    match Kind::of_name(name) {
         Some(kind) => Some(TypeOf::Scalar(kind)),
         None => Some(TypeOf::Named(scopes.find(file, Home::Message(message), name)?)),
     }
@@ -154,7 +108,7 @@ fn key_of(word: &Word) -> Option<Kind>
     ensures { MatchOption result ((k : Kind) → IsScalar word.now.name k → is_key k ≡ true → ⊥)
         (λ k. IsScalar word.now.name k × (is_key k ≡ true)) }
 {
-    let kind = scalar_of(word.name.as_slice())?;
+    let kind = Kind::of_name(word.name.as_slice())?;
     if kind.is_key() { Some(kind) } else { None }
 }
 

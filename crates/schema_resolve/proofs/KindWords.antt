@@ -4,6 +4,7 @@ use Rattle.std.specs.Prelude.{codes, slice_get, ◌&&◌, unwrap_or}
 use Rattle.std.proofs.lemmas.Bool.{false≢true, true≢false, and_parts}
 use Rattle.std.proofs.lemmas.Option.{same_Some, none-some, slice_get_within, get_or_from_slice_get}
 use Rattle.std.proofs.lemmas.List.{append_cancel_left, length-append}
+use Rattle.mrpc_table.specs.Scalars.{no_table, scalar_of}
 use Rattle.mrpc_table.specs.Words.{is_numeric}
 use Rattle.mrpc_table.specs.Text.{kind_text, label_text, message_name, enum_name}
 use Rattle.mrpc_table.specs.Valid.{IsMessageKind, GoesWith, IsKnown}
@@ -27,7 +28,7 @@ use Rattle.schema_names.specs.Scopes.{Sort, a_message, an_enum, is_type, Declare
 use Rattle.schema_names.specs.Numbers
 use Rattle.schema_names.specs.Numbers.{StandsAt}
 use Rattle.schema_names.specs.declared.named.Named.TheVariants as named
-use Rattle.schema_offences.specs.Types.{no_table, is_scalar, IsScalar, scalar_of, isnt_false, single_label, label_in, HasType, scalar, message, enum, HasForm, single, a_map}
+use Rattle.schema_offences.specs.Types.{is_scalar, IsScalar, isnt_false, single_label, label_in, HasType, scalar, message, enum, HasForm, single, a_map}
 use Rattle.schema_offences.specs.Forms.{IsWordOf}
 use Rattle.schema_offences.specs.declared.types.TypeOf.{TypeOf}
 use Rattle.schema_offences.specs.declared.types.TypeOf.TheVariants.{Scalar, Named}

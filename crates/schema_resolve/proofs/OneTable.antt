@@ -7,6 +7,7 @@ use Rattle.std.specs.Ordering.{int_cmp}
 use Rattle.std.specs.declared.cmp.Ordering.TheVariants.{Less, Equal}
 use Rattle.std.proofs.lemmas.Cmp.{int_cmp_total, tied_itself}
 use Rattle.std.proofs.lemmas.List.Elements.{All-contains}
+use Rattle.mrpc_table.specs.Scalars.{no_table}
 use Rattle.mrpc_table.specs.Text.{line, value_line, enum_lines, field_line, message_lines, method_line, table_text, message_name, label_text, kind_text}
 use Rattle.mrpc_table.specs.Valid.{Ascends, IsBelow, IsValueBelow, IsEnum, IsMessage}
 use Rattle.mrpc_table.specs.Words.{is_numeric}
@@ -36,7 +37,7 @@ use Rattle.schema_names.specs.declared.named.Named as names
 use Rattle.schema_names.specs.declared.named.Named.TheVariants as named
 use Rattle.schema_offences.specs.Methods.{rpcs_of}
 use Rattle.schema_offences.specs.Those.{AreThoseInOrder, none, next}
-use Rattle.schema_offences.specs.Types.{no_table, single_label, label_in, HasType, scalar, message, enum, HasForm, single, a_map}
+use Rattle.schema_offences.specs.Types.{single_label, label_in, HasType, scalar, message, enum, HasForm, single, a_map}
 use Rattle.schema_resolve.specs.Tables.{IsFieldOf, IsMessageOf, IsEnumOf, IsMethodOf, IsTableOf}
 use Rattle.schema_resolve.proofs.Orders.{ascends_past, ascends_rest, below_trans, below_strict}
 use Rattle.schema_resolve.proofs.CleanFiles.{one_scope}

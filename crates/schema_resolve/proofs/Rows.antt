@@ -5,6 +5,7 @@ use Rattle.std.specs.Fmt.{digits}
 use Rattle.std.proofs.lemmas.Option.{same_Some, none-some}
 use Rattle.std.proofs.lemmas.List.Elements.{All-from_recursion}
 use Rattle.mrpc_table.specs.Names.{IsName}
+use Rattle.mrpc_table.specs.Scalars.{scalar_of}
 use Rattle.mrpc_table.specs.Text.{table_text}
 use Rattle.mrpc_table.specs.declared.limits.TheConstants.{MAX_TEXT}
 use Rattle.mrpc_table.specs.Valid.{IsValid, IsMessage, IsMethod, IsField, IsEnum}
@@ -28,7 +29,7 @@ use Rattle.proto_file.specs.declared.joined.Head.{Head}
 use Rattle.proto_file.specs.declared.joined.Home.TheVariants as home
 use Rattle.schema_names.specs.Scopes
 use Rattle.schema_names.specs.Scopes.{IsScope, of_file, of_message, Sort, a_message, is_type, Declares, IsThere, a_type, a_package, Decides, here, outward, relative, Names}
-use Rattle.schema_offences.specs.Types.{IsNoScalar, scalar_of, message, single}
+use Rattle.schema_offences.specs.Types.{IsNoScalar, message, single}
 use Rattle.schema_offences.specs.Those.{AreThose, AreThoseInOrder, none, next}
 use Rattle.schema_resolve.specs.Tables.{IsFieldOf, IsMessageOf, IsEnumOf, IsMethodOf, IsTableOf}
 use Rattle.schema_resolve.proofs.CleanFiles.{in_list, at_in, scope_of_file}

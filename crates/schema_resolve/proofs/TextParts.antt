@@ -6,6 +6,7 @@ use Rattle.std.specs.List.{flat_map, enumerate_from, AllByRecursion}
 use Rattle.std.specs.Fmt.{decimal}
 use Rattle.std.proofs.lemmas.Option.{same_Some, slice_get-get_or}
 use Rattle.std.proofs.lemmas.List.Elements.{All-contains}
+use Rattle.mrpc_table.specs.Scalars.{no_table}
 use Rattle.mrpc_table.specs.Text.{line, value_line, enum_lines, field_line, message_lines, method_line, table_text, message_name, label_text, kind_text}
 use Rattle.mrpc_table.specs.Valid.{AreDistinct, IsField, IsFieldNumber}
 use Rattle.mrpc_table.specs.declared.limits.TheConstants.{MAX_TEXT}
@@ -33,7 +34,7 @@ use Rattle.proto_file.specs.Together
 use Rattle.schema_names.specs.Scopes.{text_of, IsScope, of_message}
 use Rattle.schema_offences.specs.Methods.{rpcs_of, service_rpcs}
 use Rattle.schema_offences.specs.Those.{AreThoseInOrder, none, next}
-use Rattle.schema_offences.specs.Types.{value_of, no_table, isnt_false, single_label, label_in, HasForm, single, a_map}
+use Rattle.schema_offences.specs.Types.{value_of, isnt_false, single_label, label_in, HasForm, single, a_map}
 use Rattle.schema_offences.specs.Lines
 use Rattle.schema_offences.specs.Lines.{HasLine}
 use Rattle.schema_resolve.specs.Tables.{IsFieldOf, IsValueOf}
