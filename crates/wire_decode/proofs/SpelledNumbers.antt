@@ -52,7 +52,7 @@ zigzag-below_32 n h =
     (λ high. let a = high.0 in let b = high.1 in let e = zigzag-high n (omega (arith, a)) in omega (arith, e, a, b))
     h
 
-unzigzag-back : (n : ℕ) → n < 2 ^ 64 → unzigzag_of (zigzag_of n) ≡ n
+pub unzigzag-back : (n : ℕ) → n < 2 ^ 64 → unzigzag_of (zigzag_of n) ≡ n
 unzigzag-back n h =
     ⊎_elim
     (λ low. let e = zigzag-low n low in let back = unzigzag-even (zigzag_of n) (omega (arith, e)) in omega (arith, e, back))

@@ -6,7 +6,7 @@ ghost use Rattle.wire_decode.specs.Reads.{is_message};
 ghost use Rattle.wire_decode.specs.Words.{word_of, sign_extended, unzigzag_of, is_map, is_list, own_type, payload_type, number_in, suits, may_be_packed};
 
 use mrpc_table::{Kind, Label};
-use wire_base::Payload;
+use wire_base::{Payload, unzigzag};
 
 /// The word of a number that was read.
 pub fn word_of(kind: Kind, v: u64) -> u64
@@ -15,8 +15,8 @@ pub fn word_of(kind: Kind, v: u64) -> u64
     match kind {
         Kind::Int32 | Kind::Choice(_) | Kind::Sfixed32 => sign_extended(low(v)),
         Kind::Uint32 => u64::from(low(v)),
-        Kind::Sint32 => unzigzag(u64::from(low(v))),
-        Kind::Sint64 => unzigzag(v),
+        Kind::Sint32 => unzigzag_word(u64::from(low(v))),
+        Kind::Sint64 => unzigzag_word(v),
         Kind::Bool => u64::from(v != 0),
         _ => v,
     }
@@ -41,11 +41,10 @@ fn sign_extended(v: u32) -> u64
 }
 
 /// The word whose ZigZag number is `v`.
-fn unzigzag(v: u64) -> u64
+fn unzigzag_word(v: u64) -> u64
     ensures { result ≡ unzigzag_of v }
 {
-    let half = v / 2;
-    if v % 2 == 0 { half } else { u64::MAX - half }
+    unzigzag(v).cast_unsigned()
 }
 
 /// Whether a value of the kind is a message.
