@@ -13,6 +13,7 @@
 mod calls;
 mod descriptor;
 mod lesson;
+mod limits;
 mod line;
 mod numbers;
 mod progress;
@@ -20,6 +21,7 @@ mod ring;
 
 pub use descriptor::{Descriptor, Full, Taken};
 pub use lesson::Lesson;
+pub use limits::MAX_CAPACITY;
 pub use numbers::{
     NumberFull, NumberReceiver, NumberSender, NumberTaken, NumbersSent, open_numbers,
 };

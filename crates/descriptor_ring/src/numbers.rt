@@ -3,6 +3,7 @@ ghost use Rattle.std.specs.Prelude.{IfOk, IfErr, OnOk, IsTrue};
 ghost use Rattle.descriptor_ring.specs.NumberAnswers.{OnItem, OnEmpty, OnNone};
 ghost use Rattle.descriptor_ring.specs.Rings.{Held};
 ghost use Rattle.descriptor_ring.specs.Line.{longer, Agree};
+ghost use Rattle.descriptor_ring.specs.declared.limits.TheConstants.{MAX_CAPACITY};
 ghost use mathlib.Core.List.{IsPrefix};
 
 use crate::calls;
@@ -118,7 +119,7 @@ impl Model for NumbersSent {
 /// Opens a ring that holds up to `cap` numbers.
 pub fn open_numbers(alloc: Global, cap: u64) -> Result<(NumberSender, NumberReceiver), AllocError>
     requires at_least { 1 ≤ cap }
-    requires at_most { cap ≤ 1024 }
+    requires at_most { cap ≤ MAX_CAPACITY }
 
     ensures one_ring { IfOk result (λ ends. ends.1.ring ≡ ends.0.ring) }
     ensures capacity { IfOk result (λ ends. ends.0.capacity ≡ cap) }

@@ -2,6 +2,7 @@ ghost use Rattle.std.specs.Prelude.{◌≡◌, ◌<◌, ◌≤◌, ◌↔◌, �
 ghost use Rattle.std.specs.Prelude.{IfOk, IfErr, OnOk, IsTrue};
 ghost use Rattle.descriptor_ring.specs.Answers.{OnItem, OnEmpty, OnNone};
 ghost use Rattle.descriptor_ring.specs.Rings.{IsOf, Held};
+ghost use Rattle.descriptor_ring.specs.declared.limits.TheConstants.{MAX_CAPACITY};
 ghost use mathlib.Core.List.{IsPrefix};
 ghost use Rattle.crossbeam_queue.specs.Passes.{view as known, IsPassOf};
 ghost use Rattle.descriptor_ring.specs.Line.{first as no_view, sender, receiver, longer, Agree};
@@ -95,7 +96,7 @@ impl Model for Sent {
 /// Opens a ring that holds up to `cap` descriptors, for notes of the reader's heap.
 pub fn open(alloc: Global, cap: u64, reader: &Reader) -> Result<(Sender, Receiver), AllocError>
     requires at_least { 1 ≤ cap }
-    requires at_most { cap ≤ 1024 }
+    requires at_most { cap ≤ MAX_CAPACITY }
 
     ensures one_ring { IfOk result (λ ends. ends.1.ring ≡ ends.0.ring) }
     ensures heap { IfOk result (λ ends. (ends.0.heap ≡ reader.now.heap) × (ends.1.heap ≡ reader.now.heap)) }

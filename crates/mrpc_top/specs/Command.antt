@@ -13,6 +13,7 @@ use Rattle.mrpc_top.specs.declared.check.Spot.{Spot}
 use Rattle.mrpc_top.specs.Reading.{IsAllOf, ReadsPast}
 use Rattle.mrpc_top.specs.DecodeInput.{Holds, IsTextFault}
 use Rattle.mrpc_top.specs.Decoding.{IsDecoded, IsCutAt}
+use Rattle.mrpc_top.specs.declared.reading.TheConstants.{INPUT_LIMIT}
 use Rattle.mrpc_top.specs.declared.command.Command.{Command}
 use Rattle.mrpc_top.specs.declared.command.Command.TheVariants.{Replay, Decode, Check}
 use Rattle.mrpc_table.specs.declared.table.Table.{Table}
@@ -122,14 +123,10 @@ IsFaulty Check text = (spot : Spot) × (word : List ℕ) × IsCheckFault text sp
 
 -- ---- the whole input
 
--- the most bytes that an input may have
-abbrev pub input_limit : ℕ
-input_limit = 16777216
-
 -- the text is all that the input had left, and no longer than an input may be
 pub record IsInput (left : Option (List ℕ)) (text : List ℕ) : Type 0 where
   pub all : IsAllOf left text
-  pub short : length text ≤ input_limit
+  pub short : length text ≤ INPUT_LIMIT
 
 -- an input is the text of a script
 pub record IsScript (left : Option (List ℕ)) : Type 0 where
@@ -146,9 +143,9 @@ IsDone command left out out' wire wire' = (text : List ℕ) × IsInput left text
 -- an input has a fault for the command: it is too long, or its text has a first fault; the fault's line was written
 abbrev pub IsRefused : Command → Option (List ℕ) → Option (List ℕ) → Option (List ℕ) → Option (List ℕ) → Type 0
 IsRefused command left left' out out' =
-    (ReadsPast input_limit left left' × Appends out out' (fault_line input_limit (codes "Input")))
+    (ReadsPast INPUT_LIMIT left left' × Appends out out' (fault_line INPUT_LIMIT (codes "Input")))
     ⊎ ((text : List ℕ) × IsInput left text × Refuses command text out out')
 
 -- a text has a fault as the input of the command: it is too long, or has a first fault
 abbrev pub HasFault : Command → List ℕ → Type 0
-HasFault command text = (input_limit < length text) ⊎ IsFaulty command text
+HasFault command text = (INPUT_LIMIT < length text) ⊎ IsFaulty command text

@@ -8,6 +8,7 @@ use Rattle.wire_decode.specs.Faults.{IsFirstFault}
 use Rattle.wire_decode.specs.declared.fault.DecodeReason.{DecodeReason}
 use Rattle.graph_place.specs.Size.{tree_words, capped}
 use Rattle.frame_transport.specs.declared.format.Frame.{Frame}
+use Rattle.frame_transport.specs.declared.format.TheConstants.{HELLO}
 use Rattle.policy_access.specs.Verdict.{AccessPolicy, verdict}
 use Rattle.policy_access.specs.declared.call.Call.{Call}
 use Rattle.receive_core.specs.declared.arrival.DropCause.{DropCause}
@@ -32,7 +33,7 @@ block_words T msg t = max 1 (tree_words T msg t)
 
 -- a request or a reply of one of the table's methods
 pub record IsCall (T : Table) (f : Frame) : Type 0 where
-  pub kind : f.kind ≢ 3
+  pub kind : f.kind ≢ HELLO
   pub method : f.method < length T.methods
 
 -- the policy allows the call, or there is none
@@ -48,8 +49,9 @@ pub data Fate : Type 0 where
 -- What becomes of a frame on a connection, under a table, a policy, and a heap of so many words, whose place 0 holds
 -- nothing. The causes are judged in this order, and the policy before the size.
 pub data IsFate (T : Table) (policy : Option AccessPolicy) (conn words : ℕ) (f : Frame) (fate : Fate) : Type 0 where
-  is_hello : f.kind ≡ 3 → fate ≡ drops Hello → IsFate T policy conn words f fate
-  has_no_method : f.kind ≢ 3 → length T.methods ≤ f.method → fate ≡ drops NoMethod → IsFate T policy conn words f fate
+  is_hello : f.kind ≡ HELLO → fate ≡ drops Hello → IsFate T policy conn words f fate
+  has_no_method : f.kind ≢ HELLO → length T.methods ≤ f.method → fate ≡ drops NoMethod
+      → IsFate T policy conn words f fate
   is_faulty : IsCall T f → (reason : DecodeReason) (place : ℕ)
       → IsFirstFault T (message_of T f) f.payload reason place
       → fate ≡ drops (Decode reason place) → IsFate T policy conn words f fate

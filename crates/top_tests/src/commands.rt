@@ -12,6 +12,10 @@ const ONE_CALL: &[u8] =
     b"mrpc-replay 1\ntable\nmessage M\nfield 1 plain uint64 a\nmethod 0 S Get M M\nend\n\
       conn 1 16\nstore 1 2 150\nsubmit 1 0 2\ndrain 1\nclose\n";
 
+const TWO_CALLS: &[u8] =
+    b"mrpc-replay 1\ntable\nmessage M\nfield 1 plain uint64 a\nmethod 0 S Get M M\nend\n\
+      conn 1 16\nstore 1 2 150\nsubmit 1 0 2\ndrain 1\nsubmit 1 0 2\ndrain 1\nclose\n";
+
 fn words_of(alloc: Global, command: &str) -> Result<Vec<String>, AllocError> {
     let mut words = Vec::new(alloc);
     words.push(String::from_str(alloc, command)?)?;
@@ -75,9 +79,21 @@ fn a_failed_line_ends_the_command(rt: HostRuntime) -> Result<(), Fail> {
 }
 
 #[test]
-fn a_failed_frame_ends_the_command(rt: HostRuntime) -> Result<(), Fail> {
-    let left = run(rt.alloc(), "replay", ONE_CALL, &[], &[], &[1])?;
+fn nothing_is_written_behind_a_failed_line(rt: HostRuntime) -> Result<(), Fail> {
+    let left = run(rt.alloc(), "replay", TWO_CALLS, &[], &[1], &[])?;
+    assert!(rt; left.status == OUTPUT_FAILED);
+    assert!(rt; left.out.calls() == 1);
+    assert!(rt; left.out.written().is_empty());
+    assert!(rt; left.wire.calls() == 0);
+    Ok(())
+}
+
+#[test]
+fn nothing_is_written_behind_a_failed_frame(rt: HostRuntime) -> Result<(), Fail> {
+    let left = run(rt.alloc(), "replay", TWO_CALLS, &[], &[], &[1])?;
     assert!(rt; left.status == WIRE_FAILED);
+    assert!(rt; left.out.calls() == 1);
+    assert!(rt; left.wire.calls() == 1);
     assert!(rt; left.wire.written().is_empty());
     Ok(())
 }
