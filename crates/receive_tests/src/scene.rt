@@ -68,16 +68,16 @@ impl Model for Scene {
 
 impl Scene {
     /// The receiver of connection 1 with so many words.
-    pub fn open(alloc: Global, table: &[u8], words: u64) -> Result<Scene, Fail>
+    pub fn open(rt: &impl Abort, alloc: Global, table: &[u8], words: u64) -> Scene
         requires least { 4 ≤ words }
         requires most { words ≤ 65536 }
     {
-        Ok(Scene {
-            table: read_table(alloc, table)?,
-            heap: PlainWords::open(alloc, words)?,
-            inbound: Inbound::open(alloc, 1, words)?,
+        Scene {
+            table: read_table(alloc, table).expect(rt, "a table"),
+            heap: PlainWords::open(alloc, words).expect(rt, "a heap"),
+            inbound: Inbound::open(alloc, 1, words).expect(rt, "a receiver"),
             calls: 0,
-        })
+        }
     }
 
     /// Feeds a piece of a stream, of 1000 bytes at most; whether there is no fault so far.

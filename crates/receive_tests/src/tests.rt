@@ -50,8 +50,8 @@ fn feed_bytes(scene: &mut Scene) -> bool {
 }
 
 #[test]
-fn a_frame_waits_for_a_hole(rt: HostRuntime) -> Result<(), Fail> {
-    let mut scene = Scene::open(rt.alloc(), SMALL, 4)?;
+fn a_frame_waits_for_a_hole(rt: HostRuntime) {
+    let mut scene = Scene::open(&rt, rt.alloc(), SMALL, 4);
     assert!(rt; feed_bytes(&mut scene));
     assert!(rt; feed_bytes(&mut scene));
     scene.tells(&rt, Told::Arrived(1, first_block(1, 2)));
@@ -65,24 +65,22 @@ fn a_frame_waits_for_a_hole(rt: HostRuntime) -> Result<(), Fail> {
     scene.tells(&rt, Told::Arrived(1, first_block(2, 2)));
     assert!(rt; matches!(scene.reclaim(1), Err(NotHeld { number: 1 })));
     scene.tells(&rt, Told::Nothing);
-    Ok(())
 }
 
 #[test]
-fn a_message_is_too_large_by_a_word(rt: HostRuntime) -> Result<(), Fail> {
-    let mut scene = Scene::open(rt.alloc(), NUMBERS, 5)?;
+fn a_message_is_too_large_by_a_word(rt: HostRuntime) {
+    let mut scene = Scene::open(&rt, rt.alloc(), NUMBERS, 5);
     assert!(rt; scene.feed(LONG_REQUEST));
     let why = DropCause::Oversize { need: 5, words: 5 };
     scene.tells(&rt, Told::Dropped(1, why));
-    let mut scene = Scene::open(rt.alloc(), NUMBERS, 6)?;
+    let mut scene = Scene::open(&rt, rt.alloc(), NUMBERS, 6);
     assert!(rt; scene.feed(LONG_REQUEST));
     scene.tells(&rt, Told::Arrived(1, first_block(1, 5)));
-    Ok(())
 }
 
 #[test]
-fn frames_are_dropped_by_their_first_cause(rt: HostRuntime) -> Result<(), Fail> {
-    let mut scene = Scene::open(rt.alloc(), SMALL, 16)?;
+fn frames_are_dropped_by_their_first_cause(rt: HostRuntime) {
+    let mut scene = Scene::open(&rt, rt.alloc(), SMALL, 16);
     assert!(rt; scene.feed(DROPPED));
     scene.tells(&rt, Told::Dropped(0, DropCause::Hello));
     scene.tells(&rt, Told::Dropped(2, DropCause::NoMethod));
@@ -92,12 +90,11 @@ fn frames_are_dropped_by_their_first_cause(rt: HostRuntime) -> Result<(), Fail> 
     };
     scene.tells(&rt, Told::Dropped(3, why));
     scene.tells(&rt, Told::Arrived(2, first_block(1, 2)));
-    Ok(())
 }
 
 #[test]
 fn the_policy_of_the_turn_counts(rt: HostRuntime) -> Result<(), Fail> {
-    let mut scene = Scene::open(rt.alloc(), SMALL, 4)?;
+    let mut scene = Scene::open(&rt, rt.alloc(), SMALL, 4);
     assert!(rt; scene.feed(REQUEST));
     assert!(rt; scene.feed(REQUEST));
     scene.tells(&rt, Told::Arrived(1, first_block(1, 2)));
@@ -113,47 +110,43 @@ fn the_policy_of_the_turn_counts(rt: HostRuntime) -> Result<(), Fail> {
 }
 
 // Two frames whose bytes come in two pieces, cut at a place, arrive, and nothing behind them.
-fn check_cut(rt: &impl Abort, alloc: Global, at: usize) -> Result<(), Fail> {
+fn check_cut(rt: &impl Abort, alloc: Global, at: usize) {
     let second = Block {
         number: 2,
         at: 3,
         words: 2,
     };
-    let mut scene = Scene::open(alloc, SMALL, 16)?;
+    let mut scene = Scene::open(rt, alloc, SMALL, 16);
     let (front, back) = TWO_REQUESTS.split_at(at.min(TWO_REQUESTS.len()));
     assert!(rt; scene.feed(front));
     assert!(rt; scene.feed(back));
     scene.tells(rt, Told::Arrived(1, first_block(1, 2)));
     scene.tells(rt, Told::Arrived(1, second));
     scene.tells(rt, Told::Nothing);
-    Ok(())
 }
 
 #[test]
-fn a_stream_may_be_cut_anywhere(rt: HostRuntime) -> Result<(), Fail> {
+fn a_stream_may_be_cut_anywhere(rt: HostRuntime) {
     for at in 0..TWO_REQUESTS.len() + 1 {
-        check_cut(&rt, rt.alloc(), at)?;
+        check_cut(&rt, rt.alloc(), at);
     }
-    Ok(())
 }
 
 #[test]
-fn frames_wait_and_bytes_are_left_over(rt: HostRuntime) -> Result<(), Fail> {
-    let mut scene = Scene::open(rt.alloc(), SMALL, 16)?;
+fn frames_wait_and_bytes_are_left_over(rt: HostRuntime) {
+    let mut scene = Scene::open(&rt, rt.alloc(), SMALL, 16);
     assert!(rt; scene.feed(TWO_REQUESTS));
     assert!(rt; scene.feed(b"\0\0\x01"));
     assert!(rt; matches!(scene.waiting(1), Some((1, 0, 2))));
     assert!(rt; scene.waiting(2).is_none());
     assert!(rt; scene.rest() == 3);
-    Ok(())
 }
 
 #[test]
-fn a_fault_comes_behind_the_frames_before_it(rt: HostRuntime) -> Result<(), Fail> {
-    let mut scene = Scene::open(rt.alloc(), SMALL, 16)?;
+fn a_fault_comes_behind_the_frames_before_it(rt: HostRuntime) {
+    let mut scene = Scene::open(&rt, rt.alloc(), SMALL, 16);
     assert!(rt; scene.feed(REQUEST));
     assert!(rt; !scene.feed(b"\0\x04\0\x01\x01"));
     scene.tells(&rt, Told::Arrived(1, first_block(1, 2)));
     scene.tells(&rt, Told::Nothing);
-    Ok(())
 }
