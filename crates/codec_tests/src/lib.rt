@@ -7,4 +7,6 @@ mod graphs;
 #[cfg(test)]
 mod places;
 #[cfg(test)]
+mod scene;
+#[cfg(test)]
 mod tests;

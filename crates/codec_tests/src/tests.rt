@@ -1,10 +1,10 @@
-use call_ledger::{Happening, audit_line, put_hex, stands_line};
-use graph_form::size_words;
+//! The codec, the sizes of messages and the lines of the audit.
+
+use crate::scene::Scene;
+use call_ledger::{put_hex, stands_line};
 use mrpc_table::Bytes;
 use std::test::Fail;
-use table_text::read_table;
-use wire_decode::{decode, meaning_is_normal, meaning_of_encoding};
-use wire_encode::{encode, encoded_len};
+use wire_decode::{meaning_is_normal, meaning_of_encoding};
 
 const NUMBERS: &[u8] = b"message M\nfield 6 packed uint64 n\nmethod 0 S Get M M\n";
 
@@ -20,37 +20,39 @@ method 0 S Get C C
 #[test]
 fn packed_numbers_are_decoded_and_encoded(rt: HostRuntime) -> Result<(), Fail> {
     let alloc = rt.alloc();
-    let table = read_table(alloc, NUMBERS)?;
-    assert!(rt; !table.messages.is_empty());
+    let scene = Scene::open(alloc, NUMBERS)?;
     let bytes = b"\x32\x06\x03\x8e\x02\x9e\xa7\x05";
-    let tree = decode(alloc, bytes, &table, 0)?;
+    let tree = scene.decode(alloc, bytes)?;
+    assert!(rt; scene.encoded_len(&tree)? == 8);
+    assert!(rt; scene.encode(alloc, &tree)?.as_slice() == bytes.as_slice());
+    call_laws();
+    Ok(())
+}
+
+// Laws do nothing.
+fn call_laws() {
     meaning_is_normal();
     meaning_of_encoding();
-    assert!(rt; encoded_len(&tree, &table, 0) == 8);
-    assert!(rt; encode(alloc, &tree, &table, 0)?.as_slice() == bytes.as_slice());
-    Ok(())
 }
 
 #[test]
 fn a_field_takes_two_words_and_a_oneof_three(rt: HostRuntime) -> Result<(), Fail> {
-    let table = read_table(rt.alloc(), SLOTS)?;
-    assert!(rt; !table.messages.is_empty());
-    assert!(rt; size_words(&table, 0) == 10);
+    let scene = Scene::open(rt.alloc(), SLOTS)?;
+    assert!(rt; scene.size_words() == 10);
     Ok(())
 }
 
 #[test]
-fn lines_are_written(rt: HostRuntime) -> Result<(), Fail> {
-    let alloc = rt.alloc();
-    let table = read_table(alloc, NUMBERS)?;
-    let sent = Happening::Sent {
-        conn: 16,
-        seq: 4294967295,
-        bytes: 262160,
-    };
-    let line = audit_line(alloc, &sent, &table)?;
+fn a_sent_call_has_its_line(rt: HostRuntime) -> Result<(), Fail> {
+    let scene = Scene::open(rt.alloc(), NUMBERS)?;
+    let line = scene.sent_line(rt.alloc(), 16, 4294967295, 262160)?;
     assert!(rt; line.as_slice() == b"sent 16 4294967295 262160\n".as_slice());
-    let line = stands_line(alloc, 3, 7, 0, b"-")?;
+    Ok(())
+}
+
+#[test]
+fn a_standing_call_has_its_line(rt: HostRuntime) -> Result<(), Fail> {
+    let line = stands_line(rt.alloc(), 3, 7, 0, b"-")?;
     assert!(rt; line.as_slice() == b"stands 3 7 0 -\n".as_slice());
     Ok(())
 }

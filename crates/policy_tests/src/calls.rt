@@ -1,11 +1,10 @@
 //! Calls of tables that were read, and the lines of policies.
 
-ghost use Rattle.std.specs.Prelude.{◌≤◌, length};
 ghost use Rattle.mrpc_table.specs.Valid.{IsValid};
 ghost use Rattle.policy_access.specs.Call.{IsCallOf};
 
 use mrpc_table::{Bytes, FieldValue, Memory, Table, Tree, Value, cut, fits};
-use policy_access::{Access, Call, Lines, Verdict};
+use policy_access::{Call, Lines};
 use std::alloc::Global;
 use std::process::Abort;
 
@@ -49,13 +48,4 @@ pub fn assert_is_of(rt: &impl Abort, call: &Call, table: &Table)
     assert!(rt; (call.method as usize) < table.methods.len());
     let message = table.message_of(call.method, call.number);
     assert!(rt; fits(&call.tree, table, message));
-}
-
-/// What a policy says of a call, which is one of the table.
-pub fn judged(rt: &impl Abort, policy: &Access, table: &Table, call: &Call) -> Verdict
-    requires { IsValid table.now }
-    ensures { result.rule ≤ length policy.now.rules }
-{
-    assert_is_of(rt, call, table);
-    policy.judge(call, table)
 }

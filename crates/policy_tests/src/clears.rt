@@ -1,11 +1,11 @@
 //! What redacting policies clear from calls, and lines that are none.
 
-ghost use Rattle.mrpc_table.specs.Valid.{IsValid};
-
-use crate::calls::{SMALL, assert_is_of, call_of, lines_of, with_number};
-use mrpc_table::{FieldValue, Memory, Table, Tree, Value};
-use policy_access::{Call, RuleFault, RuleReason};
-use policy_redact::{Redact, read_redact};
+use crate::calls::{SMALL, call_of, lines_of, with_number};
+use crate::faults::fault_in;
+use crate::redacting::Redacting;
+use mrpc_table::{FieldValue, Memory, Tree, Value};
+use policy_access::{Call, RuleReason};
+use policy_redact::read_redact;
 use std::alloc::Global;
 use std::process::Abort;
 use std::test::Fail;
@@ -24,14 +24,6 @@ field 3 oneof:o message:M n
 method 0 S Get M M
 ";
 
-// Whether a policy changes the call, which is one of the table.
-fn changes(rt: &impl Abort, policy: &Redact, table: &Table, call: &mut Call) -> bool
-    requires { IsValid table.now }
-{
-    assert_is_of(rt, call, table);
-    policy.clear(call)
-}
-
 // A message whose field of a number is this one.
 fn around(alloc: Global, number: u32, inner: Tree) -> Result<Tree, Memory> {
     let mut fields = Vec::new(alloc);
@@ -39,54 +31,68 @@ fn around(alloc: Global, number: u32, inner: Tree) -> Result<Tree, Memory> {
     Ok(Tree { fields })
 }
 
-#[test]
-fn a_listed_field_is_cleared_once(rt: HostRuntime) -> Result<(), Fail> {
-    let alloc = rt.alloc();
-    let table = read_table(alloc, PAIR)?;
-    let lines = lines_of(alloc, b"clear method 0 2\n")?;
-    let policy = read_redact(alloc, &lines, &table)?.copied(alloc)?;
+// A message with 7 in its field 1 and 9 in its field 2.
+fn pair(alloc: Global) -> Result<Tree, Memory> {
     let mut tree = with_number(alloc, 7)?;
     tree.fields.push((2, FieldValue::One(Value::Number(9))))?;
-    let mut request = call_of(0, tree);
-    assert!(rt; changes(&rt, &policy, &table, &mut request));
-    assert!(rt; request.tree.fields.len() == 1);
-    assert!(rt; !changes(&rt, &policy, &table, &mut request));
+    Ok(tree)
+}
+
+// A message with one in its field 3 that has one with 5 in its field 2.
+fn nested(alloc: Global) -> Result<Tree, Memory> {
+    let inner = around(alloc, 2, with_number(alloc, 5)?)?;
+    around(alloc, 3, inner)
+}
+
+// The policy changes the call once, and leaves one field.
+fn check_clearing(rt: &impl Abort, redacting: &Redacting, call: Call) {
+    let mut call = call;
+    assert!(rt; redacting.changes(rt, &mut call));
+    assert!(rt; call.tree.fields.len() == 1);
+    assert!(rt; !redacting.changes(rt, &mut call));
+}
+
+#[test]
+fn a_listed_field_is_cleared_once(rt: HostRuntime) -> Result<(), Fail> {
+    let redacting = Redacting::open(rt.alloc(), PAIR, b"clear method 0 2\n")?;
+    check_clearing(&rt, &redacting, call_of(0, pair(rt.alloc())?));
     Ok(())
 }
 
 #[test]
 fn a_path_goes_through_a_member_and_a_message(rt: HostRuntime) -> Result<(), Fail> {
-    let alloc = rt.alloc();
-    let table = read_table(alloc, NESTED)?;
-    let lines = lines_of(alloc, b"clear method 0 reply 3.2.1\n")?;
-    let policy = read_redact(alloc, &lines, &table)?;
-    let inner = around(alloc, 2, with_number(alloc, 5)?)?;
-    let mut reply = call_of(1, around(alloc, 3, inner)?);
-    assert!(rt; changes(&rt, &policy, &table, &mut reply));
-    assert!(rt; reply.tree.fields.len() == 1);
-    assert!(rt; !changes(&rt, &policy, &table, &mut reply));
+    let redacting = Redacting::open(rt.alloc(), NESTED, b"clear method 0 reply 3.2.1\n")?;
+    check_clearing(&rt, &redacting, call_of(1, nested(rt.alloc())?));
     Ok(())
 }
 
 // The first fault of a redacting policy.
 fn redact_fault(alloc: Global, text: &[u8]) -> Result<(u64, RuleReason), Fail> {
+    let lines = lines_of(alloc, text)?;
     let table = read_table(alloc, SMALL)?;
-    match read_redact(alloc, &lines_of(alloc, text)?, &table) {
-        Err(RuleFault::At { line, reason }) => Ok((line, reason)),
-        _ => Err(Fail::from("no line is at fault")),
-    }
+    let read = read_redact(alloc, &lines, &table);
+    fault_in(read)
+}
+
+// The first fault of a redacting policy is this one.
+fn check_fault(
+    rt: &impl Abort,
+    alloc: Global,
+    text: &[u8],
+    line: u64,
+    reason: RuleReason,
+) -> Result<(), Fail> {
+    let fault = redact_fault(alloc, text)?;
+    assert!(rt; fault.0 == line);
+    assert!(rt; fault.1 == reason);
+    Ok(())
 }
 
 #[test]
 fn a_line_is_at_fault_for_its_form_its_index_or_its_path(rt: HostRuntime) -> Result<(), Fail> {
     let alloc = rt.alloc();
-    let fault = redact_fault(alloc, b"")?;
-    assert!(rt; fault.0 == 1);
-    assert!(rt; fault.1 == RuleReason::Word);
-    let fault = redact_fault(alloc, b"clear method 0 1\nclear method 65536 1\n")?;
-    assert!(rt; fault.0 == 2);
-    assert!(rt; fault.1 == RuleReason::Number);
-    let fault = redact_fault(alloc, b"clear method 0 1.1\n")?;
-    assert!(rt; fault.1 == RuleReason::Path);
-    Ok(())
+    check_fault(&rt, alloc, b"", 1, RuleReason::Word)?;
+    let text = b"clear method 0 1\nclear method 65536 1\n";
+    check_fault(&rt, alloc, text, 2, RuleReason::Number)?;
+    check_fault(&rt, alloc, b"clear method 0 1.1\n", 1, RuleReason::Path)
 }

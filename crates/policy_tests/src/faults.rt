@@ -1,10 +1,8 @@
 //! Lines that are no access policy, and the reason of each.
 
-ghost use Rattle.mrpc_table.specs.Valid.{IsValid};
-
 use crate::calls::{SMALL, lines_of};
 use crate::rules::WIDE;
-use mrpc_table::{Bytes, Memory, Table};
+use mrpc_table::{Bytes, Memory};
 use policy_access::{Lines, RuleFault, RuleReason, read_access};
 use std::alloc::Global;
 use std::process::Abort;
@@ -61,24 +59,33 @@ rule a deny method 0 where 25 eq 1
 rule a deny method 0 reply where 3 eq 1
 ";
 
-// The first fault of the lines of an access policy is this one.
+/// The first fault of lines that were read.
+pub fn fault_in<P: Drop>(read: Result<P, RuleFault>) -> Result<(u64, RuleReason), Fail> {
+    match read {
+        Err(RuleFault::At { line, reason }) => Ok((line, reason)),
+        _ => Err(Fail::from("no line is at fault")),
+    }
+}
+
+// The first fault of the lines of an access policy on the table of a text.
+fn access_fault(alloc: Global, table: &[u8], lines: &Lines) -> Result<(u64, RuleReason), Fail> {
+    let table = read_table(alloc, table)?;
+    let read = read_access(alloc, lines, &table);
+    fault_in(read)
+}
+
+// It is this one.
 fn check_fault(
     rt: &impl Abort,
     alloc: Global,
-    table: &Table,
+    table: &[u8],
     lines: &Lines,
     wanted: (u64, RuleReason),
-) -> Result<(), Fail>
-    requires { IsValid table.now }
-{
-    match read_access(alloc, lines, table) {
-        Err(RuleFault::At { line, reason }) => {
-            assert!(rt; line == wanted.0);
-            assert!(rt; reason == wanted.1);
-            Ok(())
-        }
-        _ => Err(Fail::from("no line is at fault")),
-    }
+) -> Result<(), Fail> {
+    let fault = access_fault(alloc, table, lines)?;
+    assert!(rt; fault.0 == wanted.0);
+    assert!(rt; fault.1 == wanted.1);
+    Ok(())
 }
 
 // A policy of one line.
@@ -95,9 +102,8 @@ fn check_lines(
     text: &[u8],
     wanted: RuleReason,
 ) -> Result<(), Fail> {
-    let table = read_table(alloc, WIDE)?;
     for line in lines_of(alloc, text)?.as_slice() {
-        check_fault(rt, alloc, &table, &lone(alloc, line)?, (1, wanted))?;
+        check_fault(rt, alloc, WIDE, &lone(alloc, line)?, (1, wanted))?;
     }
     Ok(())
 }
@@ -130,8 +136,7 @@ fn check_text(
     at: u64,
     wanted: RuleReason,
 ) -> Result<(), Fail> {
-    let table = read_table(alloc, SMALL)?;
-    check_fault(rt, alloc, &table, &lines_of(alloc, text)?, (at, wanted))
+    check_fault(rt, alloc, SMALL, &lines_of(alloc, text)?, (at, wanted))
 }
 
 #[test]

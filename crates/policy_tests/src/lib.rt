@@ -8,6 +8,10 @@ mod clears;
 #[cfg(test)]
 mod faults;
 #[cfg(test)]
+mod judge;
+#[cfg(test)]
+mod redacting;
+#[cfg(test)]
 mod rules;
 #[cfg(test)]
 mod verdicts;

@@ -1,14 +1,11 @@
 //! A table of rules on one message, with every way to compare and a field of each kind.
 
-ghost use Rattle.mrpc_table.specs.Valid.{IsValid};
-
-use crate::calls::{call_of, judged, lines_of, with_number};
-use mrpc_table::{Bytes, FieldValue, Memory, Table, Tree, Value};
-use policy_access::{Lines, read_access};
+use crate::calls::{call_of, lines_of, with_number};
+use crate::judge::Judge;
+use mrpc_table::{Bytes, FieldValue, Memory, Tree, Value};
 use std::alloc::Global;
 use std::process::Abort;
 use std::test::Fail;
-use table_text::read_table;
 
 /// A field of each kind, and of each label.
 pub const WIDE: &[u8] = b"enum E
@@ -106,15 +103,24 @@ fn only(alloc: Global, value: Value) -> Result<FieldValue, Memory> {
     Ok(FieldValue::Many(elements))
 }
 
-// A message M.
-fn wide(alloc: Global) -> Result<Tree, Memory> {
-    let mut fields = Vec::new(alloc);
-    push_numbers(&mut fields, &NUMBERS)?;
-    push_runs(alloc, &mut fields, &RUNS)?;
+fn push_others(alloc: Global, fields: &mut Vec<(u32, FieldValue)>) -> Result<(), Memory> {
     let text = Value::Run(Bytes::from_slice(alloc, b"z")?);
     fields.push((23, only(alloc, text)?))?;
     fields.push((25, FieldValue::One(Value::Node(nested(alloc)?))))?;
     fields.push((28, only(alloc, Value::Number(0))?))?;
+    Ok(())
+}
+
+fn push_all(alloc: Global, fields: &mut Vec<(u32, FieldValue)>) -> Result<(), Memory> {
+    push_numbers(fields, &NUMBERS)?;
+    push_runs(alloc, fields, &RUNS)?;
+    push_others(alloc, fields)
+}
+
+// A message M.
+fn wide(alloc: Global) -> Result<Tree, Memory> {
+    let mut fields = Vec::new(alloc);
+    push_all(alloc, &mut fields)?;
     Ok(Tree { fields })
 }
 
@@ -232,26 +238,32 @@ const NOT_PICKING: &[u8] = b"1 eq 5
 29 present
 ";
 
-// Whether a test picks a request with the message M.
-fn picks(rt: &impl Abort, alloc: Global, table: &Table, test: &[u8]) -> Result<bool, Fail>
-    requires { IsValid table.now }
-{
-    let mut line = Bytes::from_slice(alloc, b"rule r deny method 0 where ")?;
-    line.append(test)?;
-    let mut lines = Lines::new(alloc);
-    lines.push(line)?;
-    lines.push(Bytes::from_slice(alloc, b"default allow")?)?;
-    let policy = read_access(alloc, &lines, table)?;
+// A policy with one rule, which denies what a test picks.
+fn one_rule(alloc: Global, test: &[u8]) -> Result<Bytes, Memory> {
+    let mut text = Bytes::from_slice(alloc, b"rule r deny method 0 where ")?;
+    text.append(test)?;
+    text.append(b"\ndefault allow\n")?;
+    Ok(text)
+}
+
+// Whether a policy denies a request with the message M.
+fn denies(rt: &impl Abort, alloc: Global, judge: &Judge) -> Result<bool, Memory> {
     let request = call_of(0, wide(alloc)?);
-    Ok(!judged(rt, &policy, table, &request).allow)
+    Ok(!judge.verdict(rt, &request).allow)
+}
+
+// Whether a test picks a request with the message M.
+fn picks(rt: &impl Abort, alloc: Global, test: &[u8]) -> Result<bool, Fail> {
+    let text = one_rule(alloc, test)?;
+    let judge = Judge::open(alloc, WIDE, text.as_slice())?;
+    Ok(denies(rt, alloc, &judge)?)
 }
 
 // Each line is a test that picks the message, or each is one that doesn't.
 fn check_tests(rt: &impl Abort, alloc: Global, tests: &[u8], picked: bool) -> Result<(), Fail> {
-    let table = read_table(alloc, WIDE)?;
     let lines = lines_of(alloc, tests)?;
     for (place, test) in lines.as_slice().iter().enumerate() {
-        let answer = picks(rt, alloc, &table, test.as_slice())?;
+        let answer = picks(rt, alloc, test.as_slice())?;
         assert!(rt; answer == picked, "at {place}");
     }
     Ok(())

@@ -1,22 +1,37 @@
 //! Which rule decides of a call, and what it is named.
 
-use crate::calls::{SMALL, call_of, judged, lines_of, with_number};
-use policy_access::read_access;
+ghost use Rattle.std.specs.Prelude.{◌≤◌, IfOk};
+
+use crate::calls::{SMALL, call_of, with_number};
+use crate::judge::Judge;
+use mrpc_table::Memory;
+use policy_access::Verdict;
+use std::alloc::Global;
+use std::process::Abort;
 use std::test::Fail;
-use table_text::read_table;
+
+// What is decided of a call of this number whose field 1 is this value.
+fn verdict(
+    rt: &impl Abort,
+    alloc: Global,
+    judge: &Judge,
+    number: u32,
+    value: u64,
+) -> Result<Verdict, Memory>
+    ensures { IfOk result (λ verdict. verdict.rule ≤ judge.now) }
+{
+    let call = call_of(number, with_number(alloc, value)?);
+    Ok(judge.verdict(rt, &call))
+}
 
 #[test]
 fn the_first_rule_that_matches_decides(rt: HostRuntime) -> Result<(), Fail> {
-    let alloc = rt.alloc();
-    let table = read_table(alloc, SMALL)?;
     let text = b"rule no150 deny method 0 where 1 eq 150\nrule all deny\ndefault allow\n";
-    let policy = read_access(alloc, &lines_of(alloc, text)?, &table)?.copied(alloc)?;
-    let request = call_of(0, with_number(alloc, 150)?);
-    let denied = judged(&rt, &policy, &table, &request);
+    let judge = Judge::open(rt.alloc(), SMALL, text)?;
+    let denied = verdict(&rt, rt.alloc(), &judge, 0, 150)?;
     assert!(rt; !denied.allow);
     assert!(rt; denied.rule == 0);
-    let reply = call_of(3, with_number(alloc, 150)?);
-    let denied = judged(&rt, &policy, &table, &reply);
+    let denied = verdict(&rt, rt.alloc(), &judge, 3, 150)?;
     assert!(rt; !denied.allow);
     assert!(rt; denied.rule == 1);
     Ok(())
@@ -24,21 +39,15 @@ fn the_first_rule_that_matches_decides(rt: HostRuntime) -> Result<(), Fail> {
 
 #[test]
 fn rules_and_the_default_have_names(rt: HostRuntime) -> Result<(), Fail> {
-    let alloc = rt.alloc();
-    let table = read_table(alloc, SMALL)?;
     let text = b"rule no150 deny method 0 where 1 eq 150\ndefault allow\n";
-    let policy = read_access(alloc, &lines_of(alloc, text)?, &table)?;
-    let request = call_of(0, with_number(alloc, 150)?);
-    let denied = judged(&rt, &policy, &table, &request);
+    let judge = Judge::open(rt.alloc(), SMALL, text)?;
+    let denied = verdict(&rt, rt.alloc(), &judge, 0, 150)?;
     assert!(rt; !denied.allow);
     assert!(rt; denied.rule == 0);
-    let name = policy.rule_name(denied.rule);
-    assert!(rt; name.as_slice() == b"no150".as_slice());
-    let request = call_of(0, with_number(alloc, 7)?);
-    let allowed = judged(&rt, &policy, &table, &request);
+    assert!(rt; judge.rule_name(denied.rule).as_slice() == b"no150".as_slice());
+    let allowed = verdict(&rt, rt.alloc(), &judge, 0, 7)?;
     assert!(rt; allowed.allow);
     assert!(rt; allowed.rule == 1);
-    let name = policy.rule_name(allowed.rule);
-    assert!(rt; name.as_slice() == b"default".as_slice());
+    assert!(rt; judge.rule_name(allowed.rule).as_slice() == b"default".as_slice());
     Ok(())
 }

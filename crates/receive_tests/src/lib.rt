@@ -5,4 +5,6 @@
 #[cfg(test)]
 mod blocks;
 #[cfg(test)]
+mod scene;
+#[cfg(test)]
 mod tests;

@@ -1,0 +1,238 @@
+//! A table with a heap, and messages of its first type.
+
+ghost use Rattle.std.specs.Prelude.{◌≡◌, ◌≤◌, ℕ, IfOk, OnOk};
+ghost use Rattle.mrpc_table.specs.Normal.{IsNormal};
+ghost use Rattle.graph_form.specs.Placed.{Placed as PlacedTree};
+ghost use Rattle.graph_form.specs.Stored.{AreWordsOf};
+
+use call_ledger::{Happening, audit_line};
+use graph_copy::{CopyResult, copy, forget};
+use graph_form::{Placed, Reason, size_words};
+use graph_place::{place, place_words};
+use mrpc_base::{PlainWords, Room, Stores};
+use mrpc_table::{Bytes, MAX_LOADS, Memory, Table, Tree, fits};
+use std::alloc::Global;
+use std::marker::Model;
+use std::test::Fail;
+use table_text::read_table;
+use wire_decode::{DecodeFault, decode};
+use wire_encode::{encode, encoded_len};
+
+/// A table with a heap. What the functions on both require is its invariant, or is tried at each call, so that no test
+/// has to know it. Contracts see the table.
+pub struct Scene {
+    table: Table,
+    heap: PlainWords,
+}
+
+// By hand, so that a drop is one call where it is needed, and not a drop of each part.
+impl Drop for Scene {
+    fn drop(self) {
+        let Scene {
+            table: _table,
+            heap: _heap,
+        } = self;
+    }
+}
+
+impl Model for Scene {
+    ghost use Rattle.mrpc_table.specs.declared.table.Table.{Table as TheTable};
+    ghost use Rattle.codec_tests.specs.Scene.{IsScene};
+
+    ghost Value = { TheTable };
+
+    ghost view = { λ s. s.table };
+
+    ghost invariant = { λ s. IsScene s.table s.heap.size };
+}
+
+/// A message that was copied, and how many loads that took.
+#[derive(Drop)]
+pub struct Copied {
+    pub encoding: Bytes,
+    pub loads: u64,
+}
+
+/// A message that was placed: its encoding by what stands there, its words with their places, and how many it takes.
+#[derive(Drop)]
+pub struct Placement {
+    pub encoding: Bytes,
+    pub placed: Placed,
+    pub words: u64,
+}
+
+/// Why a graph is malformed, and the last of so many loads.
+#[derive(Clone, Copy)]
+pub struct Offence {
+    pub reason: Reason,
+    pub place: u64,
+    pub value: u64,
+    pub loads: u64,
+}
+
+impl Scene {
+    /// The table of a text, which has a message, and 256 words.
+    pub fn open(alloc: Global, text: &[u8]) -> Result<Scene, Fail> {
+        let table = read_table(alloc, text)?;
+        if table.messages.is_empty() {
+            return Err(Fail::from("no message"));
+        }
+        let heap = PlainWords::open(alloc, 256)?;
+        Ok(Scene { table, heap })
+    }
+
+    /// How many words a message takes without its content.
+    pub fn size_words(&self) -> u64 {
+        size_words(&self.table, 0)
+    }
+
+    /// The message that the bytes mean.
+    pub fn decode(&self, alloc: Global, bytes: &[u8]) -> Result<Tree, DecodeFault> {
+        decode(alloc, bytes, &self.table, 0)
+    }
+
+    // The tree is a message.
+    fn check(&self, tree: &Tree) -> Result<(), Fail>
+        ensures { OnOk result (IsNormal self.now 0 tree.now) }
+    {
+        if fits(tree, &self.table, 0) {
+            Ok(())
+        } else {
+            Err(Fail::from("no message of the table"))
+        }
+    }
+
+    /// The length of the encoding of a message.
+    pub fn encoded_len(&self, tree: &Tree) -> Result<u64, Fail> {
+        self.check(tree)?;
+        Ok(encoded_len(tree, &self.table, 0))
+    }
+
+    /// The encoding of a message.
+    pub fn encode(&self, alloc: Global, tree: &Tree) -> Result<Bytes, Fail> {
+        self.check(tree)?;
+        Ok(encode(alloc, tree, &self.table, 0)?)
+    }
+
+    // How many words a message takes.
+    fn place_words(&self, tree: &Tree) -> Result<u64, Fail> {
+        self.check(tree)?;
+        Ok(place_words(tree, &self.table, 0))
+    }
+
+    /// The line of a frame of so many bytes that was sent for a call.
+    pub fn sent_line(
+        &self,
+        alloc: Global,
+        conn: u32,
+        seq: u32,
+        bytes: u64,
+    ) -> Result<Bytes, Memory> {
+        audit_line(alloc, &Happening::Sent { conn, seq, bytes }, &self.table)
+    }
+
+    /// Stores a word; whether there are such a place, and memory.
+    pub fn store(&mut self, place: u64, value: u64) -> bool {
+        let bears = 1 <= place && place < self.heap.size() && self.heap.made() < 1000;
+        if !bears || self.heap.room_stores(1) == Room::Memory {
+            return false;
+        }
+        self.heap.store(place, value);
+        true
+    }
+
+    /// Lists a store before a load; whether there are such a place, and memory.
+    pub fn race(&mut self, load: u64, place: u64, value: u64) -> bool {
+        let bears = 1 <= load && 1 <= place && place < self.heap.size();
+        bears && self.heap.race(load, place, value) == Room::Made
+    }
+
+    // What the copy of a message at a place comes to.
+    fn copy(&mut self, alloc: Global, at: u64) -> Result<CopyResult, Memory> {
+        copy(alloc, &mut self.heap, &self.table, 0, at, MAX_LOADS)
+    }
+
+    /// The copy of the message at a place.
+    pub fn copied(&mut self, alloc: Global, at: u64) -> Result<Copied, Fail> {
+        match self.copy(alloc, at)? {
+            CopyResult::Copied { tree, loads } => Ok(Copied {
+                encoding: self.encode(alloc, &tree)?,
+                loads,
+            }),
+            CopyResult::Malformed { .. } => Err(Fail::from("malformed")),
+        }
+    }
+
+    /// Why no message stands at a place.
+    pub fn offence(&mut self, alloc: Global, at: u64) -> Result<Offence, Fail> {
+        match self.copy(alloc, at)? {
+            CopyResult::Copied { .. } => Err(Fail::from("a message")),
+            CopyResult::Malformed {
+                reason,
+                place,
+                value,
+                loads,
+            } => Ok(Offence {
+                reason,
+                place,
+                value,
+                loads,
+            }),
+        }
+    }
+
+    // Places a message at one of the first places, where there is room for it.
+    fn placed(&mut self, alloc: Global, tree: &Tree, at: u64) -> Result<Placed, Fail>
+        requires from_one { 1 ≤ at }
+        requires in_front { at ≤ 6 }
+        ensures table { self.new ≡ self.old }
+        ensures sound { IfOk result (λ placed. (H : ℕ) × (P : PlacedTree) × AreWordsOf self.new H 0 P placed) }
+    {
+        self.check(tree)?;
+        if place_words(tree, &self.table, 0) > 250 || self.heap.made() > 1000 {
+            return Err(Fail::from("too many words"));
+        }
+        Ok(place(alloc, tree, &self.table, 0, at, &mut self.heap)?)
+    }
+
+    // The encoding of what a placed message is without its places.
+    fn forgotten(&self, alloc: Global, placed: &Placed) -> Result<Bytes, Fail>
+        requires { (H : ℕ) × (P : PlacedTree) × AreWordsOf self.now H 0 P placed.now }
+    {
+        let tree = forget(alloc, placed, &self.table, 0)?;
+        self.encode(alloc, &tree)
+    }
+
+    /// Places a message at one of the first places.
+    pub fn place(&mut self, alloc: Global, tree: &Tree, at: u64) -> Result<Placement, Fail>
+        requires from_one { 1 ≤ at }
+        requires in_front { at ≤ 6 }
+    {
+        let words = self.place_words(tree)?;
+        let placed = self.placed(alloc, tree, at)?;
+        Ok(Placement {
+            encoding: self.forgotten(alloc, &placed)?,
+            placed,
+            words,
+        })
+    }
+
+    /// Places the message that the bytes mean at one of the first places.
+    pub fn place_decoded(&mut self, alloc: Global, bytes: &[u8], at: u64) -> Result<Placement, Fail>
+        requires from_one { 1 ≤ at }
+        requires in_front { at ≤ 6 }
+    {
+        let tree = self.decode(alloc, bytes)?;
+        self.place(alloc, &tree, at)
+    }
+
+    /// The words that were stored, each with its place.
+    pub fn stores(&self) -> &[(u64, u64)] {
+        self.heap.stores()
+    }
+
+    /// The words that were loaded, each with its place.
+    pub fn loads(&self) -> &[(u64, u64)] {
+        self.heap.loads()
+    }
+}

@@ -1,0 +1,68 @@
+//! A redacting policy with the table that it was read for.
+
+ghost use Rattle.mrpc_table.specs.Valid.{IsValid};
+
+use crate::calls::{assert_is_of, lines_of};
+use mrpc_table::{Memory, Table};
+use policy_access::Call;
+use policy_redact::{Redact, read_redact};
+use std::alloc::Global;
+use std::marker::Model;
+use std::process::Abort;
+use std::test::Fail;
+use table_text::read_table;
+
+/// A redacting policy with its table, which is valid: that is its invariant, so that no test has to know it.
+pub struct Redacting {
+    table: Table,
+    policy: Redact,
+}
+
+// By hand, so that a drop is one call where it is needed, and not a drop of each part.
+impl Drop for Redacting {
+    fn drop(self) {
+        let Redacting {
+            table: _table,
+            policy: _policy,
+        } = self;
+    }
+}
+
+impl Model for Redacting {
+    ghost use Rattle.std.specs.Prelude.{ℕ, length};
+    ghost use Rattle.mrpc_table.specs.Valid.{IsValid};
+
+    ghost Value = { ℕ };
+
+    ghost view = { λ r. length r.policy };
+
+    ghost invariant = { λ r. IsValid r.table };
+}
+
+// The policy of the lines of a text.
+fn policy_of(alloc: Global, table: &Table, lines: &[u8]) -> Result<Redact, Fail>
+    requires { IsValid table.now }
+{
+    let lines = lines_of(alloc, lines)?;
+    Ok(read_redact(alloc, &lines, table)?)
+}
+
+// An equal policy in place of one.
+fn copied(alloc: Global, policy: Redact) -> Result<Redact, Memory> {
+    policy.copied(alloc)
+}
+
+impl Redacting {
+    /// The policy of the lines of a text, on the table of another.
+    pub fn open(alloc: Global, table: &[u8], lines: &[u8]) -> Result<Redacting, Fail> {
+        let table = read_table(alloc, table)?;
+        let policy = copied(alloc, policy_of(alloc, &table, lines)?)?;
+        Ok(Redacting { table, policy })
+    }
+
+    /// Whether the policy changes a call, which is one of the table.
+    pub fn changes(&self, rt: &impl Abort, call: &mut Call) -> bool {
+        assert_is_of(rt, call, &self.table);
+        self.policy.clear(call)
+    }
+}

@@ -1,0 +1,15 @@
+-- What holds of a receiver with its heap, whatever it was asked.
+use Rattle.std.specs.Prelude.{◌≡◌, ℕ, ◌+◌, ◌*◌, ◌≤◌}
+use Rattle.mrpc_base.specs.Heap.{Heap}
+use Rattle.mrpc_table.specs.Valid.{IsValid}
+use Rattle.mrpc_table.specs.declared.table.Table.{Table}
+use Rattle.frame_transport.specs.Feed.{total}
+use Rattle.receive_core.specs.Turns.{Receiving, IsReady}
+
+-- the heap is the receiver's, which read under this table, and each call gave a block at most and 1000 bytes at most
+pub record Receives (T : Table) (heap : Heap) (inbound : Receiving) (calls : ℕ) : Type 0 where
+  pub valid : IsValid T
+  pub ready : IsReady T inbound
+  pub size : heap.size ≡ inbound.heap.words
+  pub blocks : inbound.heap.next ≤ calls + 1
+  pub bytes : total inbound.fed ≤ 1000 * calls
