@@ -1,20 +1,19 @@
 //! Engines, at calls of a table that was read.
 
-ghost use Rattle.std.specs.Prelude.{◌≡◌, ◌<◌, ℕ, IfOk};
+ghost use Rattle.std.specs.Prelude.{◌≡◌, ◌<◌, ℕ};
 ghost use Rattle.mrpc_table.specs.Valid.{IsValid};
 ghost use Rattle.policy_access.specs.Call.{IsCallOf};
 ghost use Rattle.engine_core.specs.Policies.{IsPolicy, KnowsTenantOf};
 
 use engine_core::{Engine, Noted, Outcome, Policy, Standing, Why};
 use mrpc_base::PlainTickets;
-use mrpc_table::{Bytes, FieldValue, Memory, Table, Tree, Value, fits};
-use policy_access::{Access, Call, Lines, RuleFault, read_access};
+use mrpc_table::{Bytes, FieldValue, Table, Tree, Value, fits};
+use policy_access::{Call, Lines, read_access};
 use policy_rate::Rate;
-use policy_redact::{Redact, read_redact};
+use policy_redact::read_redact;
 use std::alloc::Global;
 use std::process::Abort;
 use std::slice;
-use std::test::Fail;
 use table_text::read_table;
 
 const SMALL: &[u8] = b"message M\nfield 1 plain uint64 a\nmethod 0 S Get M M\n";
@@ -22,16 +21,24 @@ const SMALL: &[u8] = b"message M\nfield 1 plain uint64 a\nmethod 0 S Get M M\n";
 // ---- calls, engines and turns
 
 // A request of the first method with 150 in its field.
-fn request(alloc: Global, seq: u32) -> Result<Standing, Memory> {
+fn request(rt: &impl Abort, alloc: Global, seq: u32) -> Standing {
     let mut fields = Vec::new(alloc);
-    fields.push((1, FieldValue::One(Value::Number(150))))?;
-    Ok(Standing::new(Call {
+    fields
+        .push((1, FieldValue::One(Value::Number(150))))
+        .expect(rt, "memory");
+    Standing::new(Call {
         conn: 1,
         seq,
         method: 0,
         number: 0,
         tree: Tree { fields },
-    }))
+    })
+}
+
+fn small_table(rt: &impl Abort, alloc: Global) -> Table
+    ensures { IsValid result }
+{
+    read_table(alloc, SMALL).expect(rt, "a table")
 }
 
 // The engine of a first attachment, with the table of its calls and its tickets.
@@ -43,33 +50,21 @@ struct Scene {
 }
 
 // An engine on a table, with one tenant.
-fn on_table(alloc: Global, table: Table, name: &[u8], policy: Policy) -> Result<Scene, Memory>
+fn on_table(rt: &impl Abort, alloc: Global, table: Table, name: &[u8], policy: Policy) -> Scene
     requires valid { IsValid table }
     requires ranges { IsPolicy policy }
     requires known { KnowsTenantOf (λ t. t < 1) policy }
-    ensures valid { IfOk result (λ scene. IsValid scene.table) }
-    ensures known { IfOk result (λ scene. KnowsTenantOf (λ t. t < scene.tickets.tenants) scene.engine.entry.policy) }
-    ensures tenants { IfOk result (λ scene. scene.tickets.tenants ≡ 1) }
+    ensures valid { IsValid result.table }
+    ensures known { KnowsTenantOf (λ t. t < result.tickets.tenants) result.engine.entry.policy }
+    ensures tenants { result.tickets.tenants ≡ 1 }
 {
-    let tickets = PlainTickets::new(alloc, 1)?;
-    let name = Bytes::from_slice(alloc, name)?;
-    Ok(Scene {
+    let tickets = PlainTickets::new(alloc, 1).expect(rt, "memory");
+    let name = Bytes::from_slice(alloc, name).expect(rt, "memory");
+    Scene {
         table,
         tickets,
         engine: Engine::new(name, 1, policy, 0),
-    })
-}
-
-// The same on the small table.
-fn on_small_table(alloc: Global, name: &[u8], policy: Policy) -> Result<Scene, Fail>
-    requires ranges { IsPolicy policy }
-    requires known { KnowsTenantOf (λ t. t < 1) policy }
-    ensures valid { IfOk result (λ scene. IsValid scene.table) }
-    ensures known { IfOk result (λ scene. KnowsTenantOf (λ t. t < scene.tickets.tenants) scene.engine.entry.policy) }
-    ensures tenants { IfOk result (λ scene. scene.tickets.tenants ≡ 1) }
-{
-    let table = read_table(alloc, SMALL)?;
-    Ok(on_table(alloc, table, name, policy)?)
+    }
 }
 
 // The call is one of the table.
@@ -97,6 +92,17 @@ impl Scene {
         self.engine.work(call, &self.table, 0, &mut self.tickets)
     }
 
+    // One turn, which comes to this.
+    fn assert_turn(&mut self, rt: &impl Abort, call: &mut Standing, outcome: Outcome)
+        requires valid { IsValid self.old.table }
+        requires known { KnowsTenantOf (λ t. t < self.old.tickets.tenants) self.old.engine.entry.policy }
+        ensures valid { IsValid self.new.table }
+        ensures known { KnowsTenantOf (λ t. t < self.new.tickets.tenants) self.new.engine.entry.policy }
+        ensures tenants { (t : ℕ) → t < self.old.tickets.tenants → t < self.new.tickets.tenants }
+    {
+        assert!(rt; self.work(rt, call) == outcome);
+    }
+
     // The engine with another policy of its kind.
     fn restore(self, rt: &impl Abort, policy: Policy) -> Scene
         requires ranges { IsPolicy policy }
@@ -114,6 +120,11 @@ impl Scene {
     }
 }
 
+// Each test hands its values over to be dropped here: what a drop comes to is proved in each function that has one.
+fn discard(_scene: Scene) {}
+
+fn discard_call(_call: Standing) {}
+
 const NOTHING: Outcome = Outcome::Passed(Noted::Nothing);
 
 // ---- rates
@@ -130,39 +141,60 @@ fn charged(level: u64) -> Outcome {
     Outcome::Passed(Noted::Charged { level })
 }
 
+// An engine of that rate.
+fn a_rate_engine(rt: &impl Abort, alloc: Global) -> Scene
+    ensures valid { IsValid result.table }
+    ensures known { KnowsTenantOf (λ t. t < result.tickets.tenants) result.engine.entry.policy }
+{
+    let table = small_table(rt, alloc);
+    on_table(rt, alloc, table, b"rl", Policy::Rate(HOLDING))
+}
+
 #[test]
-fn a_rate_engine_charges_each_call_once(rt: HostRuntime) -> Result<(), Fail> {
-    let alloc = rt.alloc();
-    let mut first = request(alloc, 1)?;
-    let mut second = request(alloc, 2)?;
-    let mut third = request(alloc, 3)?;
-    let mut scene = on_small_table(alloc, b"rl", Policy::Rate(HOLDING))?;
-    assert!(rt; scene.work(&rt, &mut first) == charged(1000));
-    assert!(rt; scene.work(&rt, &mut second) == charged(0));
+fn a_rate_engine_charges_each_call_once(rt: HostRuntime) {
+    let mut first = request(&rt, rt.alloc(), 1);
+    let mut second = request(&rt, rt.alloc(), 2);
+    let mut third = request(&rt, rt.alloc(), 3);
+    let mut scene = a_rate_engine(&rt, rt.alloc());
+    scene.assert_turn(&rt, &mut first, charged(1000));
+    scene.assert_turn(&rt, &mut second, charged(0));
     let held = Outcome::Held {
         level: 0,
         cost: 1000,
     };
-    assert!(rt; scene.work(&rt, &mut third) == held);
-    assert!(rt; scene.work(&rt, &mut first) == NOTHING);
-    Ok(())
+    scene.assert_turn(&rt, &mut third, held);
+    scene.assert_turn(&rt, &mut first, NOTHING);
+    discard(scene);
+    discard_call(first);
+    discard_call(second);
+    discard_call(third);
+}
+
+fn assert_holds(rt: &impl Abort, engine: &Engine, call: &Standing) {
+    assert!(rt; matches!(engine.held(call), Some((0, 1000))));
+}
+
+fn assert_lets_pass(rt: &impl Abort, engine: &Engine, call: &Standing) {
+    assert!(rt; engine.held(call).is_none());
 }
 
 #[test]
-fn time_lets_a_held_call_pass(rt: HostRuntime) -> Result<(), Fail> {
-    let alloc = rt.alloc();
-    let mut first = request(alloc, 1)?;
-    let mut second = request(alloc, 2)?;
-    let mut third = request(alloc, 3)?;
-    let mut scene = on_small_table(alloc, b"rl", Policy::Rate(HOLDING))?;
+fn time_lets_a_held_call_pass(rt: HostRuntime) {
+    let mut first = request(&rt, rt.alloc(), 1);
+    let mut second = request(&rt, rt.alloc(), 2);
+    let mut third = request(&rt, rt.alloc(), 3);
+    let mut scene = a_rate_engine(&rt, rt.alloc());
     scene.work(&rt, &mut first);
-    assert!(rt; scene.engine.held(&second).is_none());
+    assert_lets_pass(&rt, &scene.engine, &second);
     scene.work(&rt, &mut second);
-    assert!(rt; scene.engine.held(&third) == Some((0, 1000)));
+    assert_holds(&rt, &scene.engine, &third);
     scene.engine.clock(1000);
-    assert!(rt; scene.engine.held(&third).is_none());
-    assert!(rt; scene.work(&rt, &mut third) == charged(0));
-    Ok(())
+    assert_lets_pass(&rt, &scene.engine, &third);
+    scene.assert_turn(&rt, &mut third, charged(0));
+    discard(scene);
+    discard_call(first);
+    discard_call(second);
+    discard_call(third);
 }
 
 // ---- quotas
@@ -181,88 +213,114 @@ const ONE: Policy = Policy::Quota {
 };
 
 #[test]
-fn a_quota_of_cap_0_draws_and_refuses(rt: HostRuntime) -> Result<(), Fail> {
-    let alloc = rt.alloc();
-    let mut call = request(alloc, 1)?;
-    let mut scene = on_small_table(alloc, b"q", NONE)?;
+fn a_quota_of_cap_0_draws_and_refuses(rt: HostRuntime) {
+    let mut call = request(&rt, rt.alloc(), 1);
+    let table = small_table(&rt, rt.alloc());
+    let mut scene = on_table(&rt, rt.alloc(), table, b"q", NONE);
     let drawn = Noted::Drawn {
         window: 0,
         ticket: 0,
     };
     let over = Why::Over { ticket: 0, cap: 0 };
-    assert!(rt; scene.work(&rt, &mut call) == Outcome::Refused(drawn, over));
-    Ok(())
+    scene.assert_turn(&rt, &mut call, Outcome::Refused(drawn, over));
+    discard(scene);
+    discard_call(call);
+}
+
+fn assert_over(rt: &impl Abort, outcome: Outcome) {
+    assert!(rt; matches!(outcome, Outcome::Refused(_, Why::Over { .. })));
 }
 
 #[test]
-fn a_ticket_is_compared_with_the_present_cap(rt: HostRuntime) -> Result<(), Fail> {
-    let alloc = rt.alloc();
-    let mut call = request(alloc, 1)?;
-    let mut scene = on_small_table(alloc, b"q", NONE)?;
-    let over = scene.work(&rt, &mut call);
-    assert!(rt; matches!(over, Outcome::Refused(_, Why::Over { .. })));
+fn a_ticket_is_compared_with_the_present_cap(rt: HostRuntime) {
+    let mut call = request(&rt, rt.alloc(), 1);
+    let table = small_table(&rt, rt.alloc());
+    let mut scene = on_table(&rt, rt.alloc(), table, b"q", NONE);
+    assert_over(&rt, scene.work(&rt, &mut call));
     let mut scene = scene.restore(&rt, ONE);
-    assert!(rt; scene.work(&rt, &mut call) == NOTHING);
-    Ok(())
+    scene.assert_turn(&rt, &mut call, NOTHING);
+    discard(scene);
+    discard_call(call);
 }
 
 // ---- counts, redactions and rules
 
 #[test]
-fn a_count_counts_each_call_once(rt: HostRuntime) -> Result<(), Fail> {
-    let alloc = rt.alloc();
-    let mut call = request(alloc, 1)?;
-    let mut scene = on_small_table(alloc, b"c", Policy::Count)?;
-    assert!(rt; scene.work(&rt, &mut call) == Outcome::Passed(Noted::Counted));
-    assert!(rt; scene.work(&rt, &mut call) == NOTHING);
-    Ok(())
+fn a_count_counts_each_call_once(rt: HostRuntime) {
+    let mut call = request(&rt, rt.alloc(), 1);
+    let table = small_table(&rt, rt.alloc());
+    let mut scene = on_table(&rt, rt.alloc(), table, b"c", Policy::Count);
+    scene.assert_turn(&rt, &mut call, Outcome::Passed(Noted::Counted));
+    scene.assert_turn(&rt, &mut call, NOTHING);
+    discard(scene);
+    discard_call(call);
+}
+
+fn put_line(rt: &impl Abort, alloc: Global, lines: &mut Lines, line: &[u8]) {
+    let line = Bytes::from_slice(alloc, line).expect(rt, "memory");
+    lines.push(line).expect(rt, "memory");
 }
 
 // A policy that clears field 1 of requests.
-fn cut(alloc: Global, table: &Table) -> Result<Redact, RuleFault>
+fn cut(rt: &impl Abort, alloc: Global, table: &Table) -> Policy
     requires { IsValid table.now }
+    ensures ranges { IsPolicy result }
+    ensures known { KnowsTenantOf (λ t. t < 1) result }
 {
     let mut lines = Lines::new(alloc);
-    lines.push(Bytes::from_slice(alloc, b"clear method 0 1")?)?;
-    read_redact(alloc, &lines, table)
+    put_line(rt, alloc, &mut lines, b"clear method 0 1");
+    Policy::Redact(read_redact(alloc, &lines, table).expect(rt, "a policy"))
+}
+
+fn assert_cleared(rt: &impl Abort, call: &Standing) {
+    assert!(rt; call.call().tree.fields.is_empty());
 }
 
 #[test]
-fn a_redacting_engine_clears_a_call_once(rt: HostRuntime) -> Result<(), Fail> {
-    let alloc = rt.alloc();
-    let mut call = request(alloc, 1)?;
-    let table = read_table(alloc, SMALL)?;
-    let policy = Policy::Redact(cut(alloc, &table)?);
-    let mut scene = on_table(alloc, table, b"cut", policy)?;
-    assert!(rt; scene.work(&rt, &mut call) == Outcome::Redacted);
-    assert!(rt; call.call().tree.fields.is_empty());
-    assert!(rt; scene.work(&rt, &mut call) == NOTHING);
-    Ok(())
+fn a_redacting_engine_clears_a_call_once(rt: HostRuntime) {
+    let mut call = request(&rt, rt.alloc(), 1);
+    let table = small_table(&rt, rt.alloc());
+    let policy = cut(&rt, rt.alloc(), &table);
+    let mut scene = on_table(&rt, rt.alloc(), table, b"cut", policy);
+    scene.assert_turn(&rt, &mut call, Outcome::Redacted);
+    assert_cleared(&rt, &call);
+    scene.assert_turn(&rt, &mut call, NOTHING);
+    discard(scene);
+    discard_call(call);
 }
 
 // A policy that denies requests with 150.
-fn no150(alloc: Global, table: &Table) -> Result<Access, RuleFault>
+fn no150(rt: &impl Abort, alloc: Global, table: &Table) -> Policy
     requires { IsValid table.now }
+    ensures ranges { IsPolicy result }
+    ensures known { KnowsTenantOf (λ t. t < 1) result }
 {
     let mut lines = Lines::new(alloc);
-    let rule = b"rule no150 deny method 0 where 1 eq 150";
-    lines.push(Bytes::from_slice(alloc, rule)?)?;
-    lines.push(Bytes::from_slice(alloc, b"default allow")?)?;
-    read_access(alloc, &lines, table)
+    put_line(
+        rt,
+        alloc,
+        &mut lines,
+        b"rule no150 deny method 0 where 1 eq 150",
+    );
+    put_line(rt, alloc, &mut lines, b"default allow");
+    Policy::Access(read_access(alloc, &lines, table).expect(rt, "a policy"))
+}
+
+fn assert_upgraded(rt: &impl Abort, engine: &Engine) {
+    assert!(rt; engine.version() == 2);
+    assert!(rt; engine.name().as_slice() == b"acl".as_slice());
 }
 
 #[test]
-fn an_access_engine_is_restored(rt: HostRuntime) -> Result<(), Fail> {
-    let alloc = rt.alloc();
-    let mut call = request(alloc, 1)?;
-    let table = read_table(alloc, SMALL)?;
-    let policy = Policy::Access(no150(alloc, &table)?);
-    let again = policy.copied(alloc)?;
-    let scene = on_table(alloc, table, b"acl", policy)?;
-    let mut scene = scene.restore(&rt, again);
-    assert!(rt; scene.engine.version() == 2);
-    assert!(rt; scene.engine.name().as_slice() == b"acl".as_slice());
+fn an_access_engine_is_restored(rt: HostRuntime) {
+    let mut call = request(&rt, rt.alloc(), 1);
+    let table = small_table(&rt, rt.alloc());
+    let policy = no150(&rt, rt.alloc(), &table);
+    let again = policy.copied(rt.alloc()).expect(&rt, "memory");
+    let mut scene = on_table(&rt, rt.alloc(), table, b"acl", policy).restore(&rt, again);
+    assert_upgraded(&rt, &scene.engine);
     let denied = Why::Denied { rule: 0 };
-    assert!(rt; scene.work(&rt, &mut call) == Outcome::Refused(Noted::Nothing, denied));
-    Ok(())
+    scene.assert_turn(&rt, &mut call, Outcome::Refused(Noted::Nothing, denied));
+    discard(scene);
+    discard_call(call);
 }
