@@ -3,7 +3,7 @@
 ghost use Rattle.mrpc_table.specs.Valid.{IsValid};
 ghost use Rattle.policy_access.specs.Call.{IsCallOf};
 
-use mrpc_table::{Bytes, FieldValue, Memory, Table, Tree, Value, cut, fits};
+use mrpc_table::{Bytes, FieldValue, Table, Tree, Value, cut, fits};
 use policy_access::{Call, Lines};
 use std::alloc::Global;
 use std::process::Abort;
@@ -12,14 +12,15 @@ use std::process::Abort;
 pub const SMALL: &[u8] = b"message M\nfield 1 plain uint64 a\nmethod 0 S Get M M\n";
 
 /// The lines of a text, each with its line feed.
-pub fn lines_of(alloc: Global, text: &[u8]) -> Result<Lines, Memory> {
+pub fn lines_of(rt: &impl Abort, alloc: Global, text: &[u8]) -> Lines {
     let mut lines = Lines::new(alloc);
     let mut rest = text;
     while let Some((line, others)) = cut(rest, b'\n') {
-        lines.push(Bytes::from_slice(alloc, line)?)?;
+        let line = Bytes::from_slice(alloc, line).expect(rt, "a line");
+        lines.push(line).expect(rt, "room for a line");
         rest = others;
     }
-    Ok(lines)
+    lines
 }
 
 /// A call of the first method.
@@ -34,10 +35,11 @@ pub fn call_of(number: u32, tree: Tree) -> Call {
 }
 
 /// A message whose field 1 is this number.
-pub fn with_number(alloc: Global, number: u64) -> Result<Tree, Memory> {
+pub fn with_number(rt: &impl Abort, alloc: Global, number: u64) -> Tree {
     let mut fields = Vec::new(alloc);
-    fields.push((1, FieldValue::One(Value::Number(number))))?;
-    Ok(Tree { fields })
+    let field = (1, FieldValue::One(Value::Number(number)));
+    fields.push(field).expect(rt, "a field");
+    Tree { fields }
 }
 
 /// The call is one of the table.

@@ -3,12 +3,11 @@
 use crate::calls::{SMALL, call_of, lines_of, with_number};
 use crate::faults::fault_in;
 use crate::redacting::Redacting;
-use mrpc_table::{FieldValue, Memory, Tree, Value};
+use mrpc_table::{FieldValue, Tree, Value};
 use policy_access::{Call, RuleReason};
 use policy_redact::read_redact;
 use std::alloc::Global;
 use std::process::Abort;
-use std::test::Fail;
 use table_text::read_table;
 
 const PAIR: &[u8] = b"message A
@@ -25,23 +24,25 @@ method 0 S Get M M
 ";
 
 // A message whose field of a number is this one.
-fn around(alloc: Global, number: u32, inner: Tree) -> Result<Tree, Memory> {
+fn around(rt: &impl Abort, alloc: Global, number: u32, inner: Tree) -> Tree {
     let mut fields = Vec::new(alloc);
-    fields.push((number, FieldValue::One(Value::Node(inner))))?;
-    Ok(Tree { fields })
+    let field = (number, FieldValue::One(Value::Node(inner)));
+    fields.push(field).expect(rt, "a field");
+    Tree { fields }
 }
 
 // A message with 7 in its field 1 and 9 in its field 2.
-fn pair(alloc: Global) -> Result<Tree, Memory> {
-    let mut tree = with_number(alloc, 7)?;
-    tree.fields.push((2, FieldValue::One(Value::Number(9))))?;
-    Ok(tree)
+fn pair(rt: &impl Abort, alloc: Global) -> Tree {
+    let mut tree = with_number(rt, alloc, 7);
+    let field = (2, FieldValue::One(Value::Number(9)));
+    tree.fields.push(field).expect(rt, "a field");
+    tree
 }
 
 // A message with one in its field 3 that has one with 5 in its field 2.
-fn nested(alloc: Global) -> Result<Tree, Memory> {
-    let inner = around(alloc, 2, with_number(alloc, 5)?)?;
-    around(alloc, 3, inner)
+fn nested(rt: &impl Abort, alloc: Global) -> Tree {
+    let inner = around(rt, alloc, 2, with_number(rt, alloc, 5));
+    around(rt, alloc, 3, inner)
 }
 
 // The policy changes the call once, and leaves one field.
@@ -53,46 +54,37 @@ fn check_clearing(rt: &impl Abort, redacting: &Redacting, call: Call) {
 }
 
 #[test]
-fn a_listed_field_is_cleared_once(rt: HostRuntime) -> Result<(), Fail> {
-    let redacting = Redacting::open(rt.alloc(), PAIR, b"clear method 0 2\n")?;
-    check_clearing(&rt, &redacting, call_of(0, pair(rt.alloc())?));
-    Ok(())
+fn a_listed_field_is_cleared_once(rt: HostRuntime) {
+    let redacting = Redacting::open(&rt, rt.alloc(), PAIR, b"clear method 0 2\n");
+    check_clearing(&rt, &redacting, call_of(0, pair(&rt, rt.alloc())));
 }
 
 #[test]
-fn a_path_goes_through_a_member_and_a_message(rt: HostRuntime) -> Result<(), Fail> {
-    let redacting = Redacting::open(rt.alloc(), NESTED, b"clear method 0 reply 3.2.1\n")?;
-    check_clearing(&rt, &redacting, call_of(1, nested(rt.alloc())?));
-    Ok(())
+fn a_path_goes_through_a_member_and_a_message(rt: HostRuntime) {
+    let redacting = Redacting::open(&rt, rt.alloc(), NESTED, b"clear method 0 reply 3.2.1\n");
+    check_clearing(&rt, &redacting, call_of(1, nested(&rt, rt.alloc())));
 }
 
 // The first fault of a redacting policy.
-fn redact_fault(alloc: Global, text: &[u8]) -> Result<(u64, RuleReason), Fail> {
-    let lines = lines_of(alloc, text)?;
-    let table = read_table(alloc, SMALL)?;
+fn redact_fault(rt: &impl Abort, alloc: Global, text: &[u8]) -> (u64, RuleReason) {
+    let lines = lines_of(rt, alloc, text);
+    let table = read_table(alloc, SMALL).expect(rt, "a table");
     let read = read_redact(alloc, &lines, &table);
-    fault_in(read)
+    fault_in(rt, read)
 }
 
 // The first fault of a redacting policy is this one.
-fn check_fault(
-    rt: &impl Abort,
-    alloc: Global,
-    text: &[u8],
-    line: u64,
-    reason: RuleReason,
-) -> Result<(), Fail> {
-    let fault = redact_fault(alloc, text)?;
+fn check_fault(rt: &impl Abort, alloc: Global, text: &[u8], line: u64, reason: RuleReason) {
+    let fault = redact_fault(rt, alloc, text);
     assert!(rt; fault.0 == line);
     assert!(rt; fault.1 == reason);
-    Ok(())
 }
 
 #[test]
-fn a_line_is_at_fault_for_its_form_its_index_or_its_path(rt: HostRuntime) -> Result<(), Fail> {
+fn a_line_is_at_fault_for_its_form_its_index_or_its_path(rt: HostRuntime) {
     let alloc = rt.alloc();
-    check_fault(&rt, alloc, b"", 1, RuleReason::Word)?;
+    check_fault(&rt, alloc, b"", 1, RuleReason::Word);
     let text = b"clear method 0 1\nclear method 65536 1\n";
-    check_fault(&rt, alloc, text, 2, RuleReason::Number)?;
-    check_fault(&rt, alloc, b"clear method 0 1.1\n", 1, RuleReason::Path)
+    check_fault(&rt, alloc, text, 2, RuleReason::Number);
+    check_fault(&rt, alloc, b"clear method 0 1.1\n", 1, RuleReason::Path);
 }

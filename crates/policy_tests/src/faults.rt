@@ -2,11 +2,10 @@
 
 use crate::calls::{SMALL, lines_of};
 use crate::rules::WIDE;
-use mrpc_table::{Bytes, Memory};
+use mrpc_table::Bytes;
 use policy_access::{Lines, RuleFault, RuleReason, read_access};
 use std::alloc::Global;
 use std::process::Abort;
-use std::test::Fail;
 use table_text::read_table;
 
 const OUT_OF_FORM: &[u8] = b"
@@ -60,18 +59,18 @@ rule a deny method 0 reply where 3 eq 1
 ";
 
 /// The first fault of lines that were read.
-pub fn fault_in<P: Drop>(read: Result<P, RuleFault>) -> Result<(u64, RuleReason), Fail> {
+pub fn fault_in<P: Drop>(rt: &impl Abort, read: Result<P, RuleFault>) -> (u64, RuleReason) {
     match read {
-        Err(RuleFault::At { line, reason }) => Ok((line, reason)),
-        _ => Err(Fail::from("no line is at fault")),
+        Err(RuleFault::At { line, reason }) => (line, reason),
+        _ => panic!(rt; "no line is at fault"),
     }
 }
 
 // The first fault of the lines of an access policy on the table of a text.
-fn access_fault(alloc: Global, table: &[u8], lines: &Lines) -> Result<(u64, RuleReason), Fail> {
-    let table = read_table(alloc, table)?;
+fn access_fault(rt: &impl Abort, alloc: Global, table: &[u8], lines: &Lines) -> (u64, RuleReason) {
+    let table = read_table(alloc, table).expect(rt, "a table");
     let read = read_access(alloc, lines, &table);
-    fault_in(read)
+    fault_in(rt, read)
 }
 
 // It is this one.
@@ -81,105 +80,94 @@ fn check_fault(
     table: &[u8],
     lines: &Lines,
     wanted: (u64, RuleReason),
-) -> Result<(), Fail> {
-    let fault = access_fault(alloc, table, lines)?;
+) {
+    let fault = access_fault(rt, alloc, table, lines);
     assert!(rt; fault.0 == wanted.0);
     assert!(rt; fault.1 == wanted.1);
-    Ok(())
 }
 
 // A policy of one line.
-fn lone(alloc: Global, line: &Bytes) -> Result<Lines, Memory> {
+fn lone(rt: &impl Abort, alloc: Global, line: &Bytes) -> Lines {
     let mut lines = Lines::new(alloc);
-    lines.push(line.copied(alloc)?)?;
-    Ok(lines)
+    let line = line.copied(alloc).expect(rt, "a line");
+    lines.push(line).expect(rt, "room for a line");
+    lines
 }
 
 // Each line alone is at fault for this reason.
-fn check_lines(
-    rt: &impl Abort,
-    alloc: Global,
-    text: &[u8],
-    wanted: RuleReason,
-) -> Result<(), Fail> {
-    for line in lines_of(alloc, text)?.as_slice() {
-        check_fault(rt, alloc, WIDE, &lone(alloc, line)?, (1, wanted))?;
+fn check_lines(rt: &impl Abort, alloc: Global, text: &[u8], wanted: RuleReason) {
+    let lines = lines_of(rt, alloc, text);
+    for line in lines.as_slice() {
+        check_fault(rt, alloc, WIDE, &lone(rt, alloc, line), (1, wanted));
     }
-    Ok(())
 }
 
 #[test]
-fn these_lines_are_out_of_form(rt: HostRuntime) -> Result<(), Fail> {
-    check_lines(&rt, rt.alloc(), OUT_OF_FORM, RuleReason::Word)
+fn these_lines_are_out_of_form(rt: HostRuntime) {
+    check_lines(&rt, rt.alloc(), OUT_OF_FORM, RuleReason::Word);
 }
 
 #[test]
-fn these_lines_have_a_number_out_of_range(rt: HostRuntime) -> Result<(), Fail> {
-    check_lines(&rt, rt.alloc(), OUT_OF_RANGE, RuleReason::Number)
+fn these_lines_have_a_number_out_of_range(rt: HostRuntime) {
+    check_lines(&rt, rt.alloc(), OUT_OF_RANGE, RuleReason::Number);
 }
 
 #[test]
-fn these_lines_have_no_name(rt: HostRuntime) -> Result<(), Fail> {
-    check_lines(&rt, rt.alloc(), NAMELESS, RuleReason::Name)
+fn these_lines_have_no_name(rt: HostRuntime) {
+    check_lines(&rt, rt.alloc(), NAMELESS, RuleReason::Name);
 }
 
 #[test]
-fn these_lines_lead_nowhere(rt: HostRuntime) -> Result<(), Fail> {
-    check_lines(&rt, rt.alloc(), LEADING_NOWHERE, RuleReason::Path)
+fn these_lines_lead_nowhere(rt: HostRuntime) {
+    check_lines(&rt, rt.alloc(), LEADING_NOWHERE, RuleReason::Path);
 }
 
 // The lines of a text are at fault at this line for this reason.
-fn check_text(
-    rt: &impl Abort,
-    alloc: Global,
-    text: &[u8],
-    at: u64,
-    wanted: RuleReason,
-) -> Result<(), Fail> {
-    check_fault(rt, alloc, SMALL, &lines_of(alloc, text)?, (at, wanted))
+fn check_text(rt: &impl Abort, alloc: Global, text: &[u8], at: u64, wanted: RuleReason) {
+    check_fault(rt, alloc, SMALL, &lines_of(rt, alloc, text), (at, wanted));
 }
 
 #[test]
-fn a_name_stands_once(rt: HostRuntime) -> Result<(), Fail> {
+fn a_name_stands_once(rt: HostRuntime) {
     let alloc = rt.alloc();
     let text = b"rule a deny\nrule a allow\ndefault allow\n";
-    check_text(&rt, alloc, text, 2, RuleReason::Known)?;
+    check_text(&rt, alloc, text, 2, RuleReason::Known);
     let text = b"rule a deny\nrule b deny\nrule a allow method 9\n";
-    check_text(&rt, alloc, text, 3, RuleReason::Known)
+    check_text(&rt, alloc, text, 3, RuleReason::Known);
 }
 
 #[test]
-fn a_default_stands_last(rt: HostRuntime) -> Result<(), Fail> {
+fn a_default_stands_last(rt: HostRuntime) {
     let alloc = rt.alloc();
-    check_text(&rt, alloc, b"", 1, RuleReason::Default)?;
-    check_text(&rt, alloc, b"rule a deny\n", 2, RuleReason::Default)
+    check_text(&rt, alloc, b"", 1, RuleReason::Default);
+    check_text(&rt, alloc, b"rule a deny\n", 2, RuleReason::Default);
 }
 
 #[test]
-fn nothing_stands_behind_the_default(rt: HostRuntime) -> Result<(), Fail> {
+fn nothing_stands_behind_the_default(rt: HostRuntime) {
     let alloc = rt.alloc();
     let text = b"default allow\ndefault deny\n";
-    check_text(&rt, alloc, text, 2, RuleReason::Default)?;
+    check_text(&rt, alloc, text, 2, RuleReason::Default);
     let text = b"default allow\nrule a b\n";
-    check_text(&rt, alloc, text, 2, RuleReason::Word)
+    check_text(&rt, alloc, text, 2, RuleReason::Word);
 }
 
 // The lines of rules that are named by their places.
-fn numbered_rules(alloc: Global, count: u64) -> Result<Bytes, Memory> {
+fn numbered_rules(rt: &impl Abort, alloc: Global, count: u64) -> Bytes {
     let mut text = Bytes::new(alloc);
     for i in 0u64..count {
-        text.append(b"rule r")?;
-        text.append_decimal(i)?;
-        text.append(b" deny\n")?;
+        text.append(b"rule r").expect(rt, "room");
+        text.append_decimal(i).expect(rt, "room");
+        text.append(b" deny\n").expect(rt, "room");
     }
-    Ok(text)
+    text
 }
 
 #[test]
-fn a_65th_rule_is_refused(rt: HostRuntime) -> Result<(), Fail> {
+fn a_65th_rule_is_refused(rt: HostRuntime) {
     let alloc = rt.alloc();
-    let text = numbered_rules(alloc, 64)?;
-    check_text(&rt, alloc, text.as_slice(), 65, RuleReason::Default)?;
-    let text = numbered_rules(alloc, 65)?;
-    check_text(&rt, alloc, text.as_slice(), 65, RuleReason::Word)
+    let text = numbered_rules(&rt, alloc, 64);
+    check_text(&rt, alloc, text.as_slice(), 65, RuleReason::Default);
+    let text = numbered_rules(&rt, alloc, 65);
+    check_text(&rt, alloc, text.as_slice(), 65, RuleReason::Word);
 }

@@ -4,12 +4,11 @@ ghost use Rattle.std.specs.Prelude.{◌≤◌};
 ghost use Rattle.mrpc_table.specs.Valid.{IsValid};
 
 use crate::calls::{assert_is_of, lines_of};
-use mrpc_table::{Memory, Name, Table};
+use mrpc_table::{Name, Table};
 use policy_access::{Access, Call, Verdict, read_access};
 use std::alloc::Global;
 use std::marker::Model;
 use std::process::Abort;
-use std::test::Fail;
 use table_text::read_table;
 
 /// An access policy with its table, which is valid: that is its invariant, so that no test has to know it. Contracts
@@ -41,24 +40,24 @@ impl Model for Judge {
 }
 
 // The policy of the lines of a text.
-fn policy_of(alloc: Global, table: &Table, lines: &[u8]) -> Result<Access, Fail>
+fn policy_of(rt: &impl Abort, alloc: Global, table: &Table, lines: &[u8]) -> Access
     requires { IsValid table.now }
 {
-    let lines = lines_of(alloc, lines)?;
-    Ok(read_access(alloc, &lines, table)?)
+    let lines = lines_of(rt, alloc, lines);
+    read_access(alloc, &lines, table).expect(rt, "a policy")
 }
 
 // An equal policy in place of one.
-fn copied(alloc: Global, policy: Access) -> Result<Access, Memory> {
-    policy.copied(alloc)
+fn copied(rt: &impl Abort, alloc: Global, policy: Access) -> Access {
+    policy.copied(alloc).expect(rt, "a copy")
 }
 
 impl Judge {
     /// The policy of the lines of a text, on the table of another.
-    pub fn open(alloc: Global, table: &[u8], lines: &[u8]) -> Result<Judge, Fail> {
-        let table = read_table(alloc, table)?;
-        let policy = copied(alloc, policy_of(alloc, &table, lines)?)?;
-        Ok(Judge { table, policy })
+    pub fn open(rt: &impl Abort, alloc: Global, table: &[u8], lines: &[u8]) -> Judge {
+        let table = read_table(alloc, table).expect(rt, "a table");
+        let policy = copied(rt, alloc, policy_of(rt, alloc, &table, lines));
+        Judge { table, policy }
     }
 
     /// What the policy says of a call, which is one of the table.

@@ -3,13 +3,12 @@
 ghost use Rattle.mrpc_table.specs.Valid.{IsValid};
 
 use crate::calls::{assert_is_of, lines_of};
-use mrpc_table::{Memory, Table};
+use mrpc_table::Table;
 use policy_access::Call;
 use policy_redact::{Redact, read_redact};
 use std::alloc::Global;
 use std::marker::Model;
 use std::process::Abort;
-use std::test::Fail;
 use table_text::read_table;
 
 /// A redacting policy with its table, which is valid: that is its invariant, so that no test has to know it.
@@ -40,24 +39,24 @@ impl Model for Redacting {
 }
 
 // The policy of the lines of a text.
-fn policy_of(alloc: Global, table: &Table, lines: &[u8]) -> Result<Redact, Fail>
+fn policy_of(rt: &impl Abort, alloc: Global, table: &Table, lines: &[u8]) -> Redact
     requires { IsValid table.now }
 {
-    let lines = lines_of(alloc, lines)?;
-    Ok(read_redact(alloc, &lines, table)?)
+    let lines = lines_of(rt, alloc, lines);
+    read_redact(alloc, &lines, table).expect(rt, "a policy")
 }
 
 // An equal policy in place of one.
-fn copied(alloc: Global, policy: Redact) -> Result<Redact, Memory> {
-    policy.copied(alloc)
+fn copied(rt: &impl Abort, alloc: Global, policy: Redact) -> Redact {
+    policy.copied(alloc).expect(rt, "a copy")
 }
 
 impl Redacting {
     /// The policy of the lines of a text, on the table of another.
-    pub fn open(alloc: Global, table: &[u8], lines: &[u8]) -> Result<Redacting, Fail> {
-        let table = read_table(alloc, table)?;
-        let policy = copied(alloc, policy_of(alloc, &table, lines)?)?;
-        Ok(Redacting { table, policy })
+    pub fn open(rt: &impl Abort, alloc: Global, table: &[u8], lines: &[u8]) -> Redacting {
+        let table = read_table(alloc, table).expect(rt, "a table");
+        let policy = copied(rt, alloc, policy_of(rt, alloc, &table, lines));
+        Redacting { table, policy }
     }
 
     /// Whether the policy changes a call, which is one of the table.

@@ -2,10 +2,9 @@
 
 use crate::calls::{call_of, lines_of, with_number};
 use crate::judge::Judge;
-use mrpc_table::{Bytes, FieldValue, Memory, Tree, Value};
+use mrpc_table::{Bytes, FieldValue, Tree, Value};
 use std::alloc::Global;
 use std::process::Abort;
-use std::test::Fail;
 
 /// A field of each kind, and of each label.
 pub const WIDE: &[u8] = b"enum E
@@ -66,62 +65,59 @@ const NUMBERS: [(u32, i64); 12] = [
 
 const RUNS: [(u32, &[u8]); 3] = [(17, b"abc"), (19, b""), (20, b"\x00\xff")];
 
-fn push_numbers(fields: &mut Vec<(u32, FieldValue)>, numbers: &[(u32, i64)]) -> Result<(), Memory> {
+fn push(rt: &impl Abort, fields: &mut Vec<(u32, FieldValue)>, number: u32, value: FieldValue) {
+    fields.push((number, value)).expect(rt, "a field");
+}
+
+fn push_numbers(rt: &impl Abort, fields: &mut Vec<(u32, FieldValue)>, numbers: &[(u32, i64)]) {
     for (field, number) in numbers {
-        fields.push((
-            *field,
-            FieldValue::One(Value::Number(number.cast_unsigned())),
-        ))?;
+        let value = Value::Number(number.cast_unsigned());
+        push(rt, fields, *field, FieldValue::One(value));
     }
-    Ok(())
 }
 
 fn push_runs(
+    rt: &impl Abort,
     alloc: Global,
     fields: &mut Vec<(u32, FieldValue)>,
     runs: &[(u32, &[u8])],
-) -> Result<(), Memory> {
+) {
     for (field, bytes) in runs {
-        let run = Value::Run(Bytes::from_slice(alloc, bytes)?);
-        fields.push((*field, FieldValue::One(run)))?;
+        let run = Bytes::from_slice(alloc, bytes).expect(rt, "a run");
+        push(rt, fields, *field, FieldValue::One(Value::Run(run)));
     }
-    Ok(())
 }
 
 // A message N whose field 1 is 3, with another, whose field 1 is 8.
-fn nested(alloc: Global) -> Result<Tree, Memory> {
-    let mut tree = with_number(alloc, 3)?;
-    let inner = with_number(alloc, 8)?;
-    tree.fields.push((2, FieldValue::One(Value::Node(inner))))?;
-    Ok(tree)
+fn nested(rt: &impl Abort, alloc: Global) -> Tree {
+    let mut tree = with_number(rt, alloc, 3);
+    let inner = with_number(rt, alloc, 8);
+    push(rt, &mut tree.fields, 2, FieldValue::One(Value::Node(inner)));
+    tree
 }
 
 // A list of one value.
-fn only(alloc: Global, value: Value) -> Result<FieldValue, Memory> {
+fn only(rt: &impl Abort, alloc: Global, value: Value) -> FieldValue {
     let mut elements = Vec::new(alloc);
-    elements.push(value)?;
-    Ok(FieldValue::Many(elements))
+    elements.push(value).expect(rt, "an element");
+    FieldValue::Many(elements)
 }
 
-fn push_others(alloc: Global, fields: &mut Vec<(u32, FieldValue)>) -> Result<(), Memory> {
-    let text = Value::Run(Bytes::from_slice(alloc, b"z")?);
-    fields.push((23, only(alloc, text)?))?;
-    fields.push((25, FieldValue::One(Value::Node(nested(alloc)?))))?;
-    fields.push((28, only(alloc, Value::Number(0))?))?;
-    Ok(())
-}
-
-fn push_all(alloc: Global, fields: &mut Vec<(u32, FieldValue)>) -> Result<(), Memory> {
-    push_numbers(fields, &NUMBERS)?;
-    push_runs(alloc, fields, &RUNS)?;
-    push_others(alloc, fields)
+fn push_others(rt: &impl Abort, alloc: Global, fields: &mut Vec<(u32, FieldValue)>) {
+    let text = Bytes::from_slice(alloc, b"z").expect(rt, "a text");
+    let inner = nested(rt, alloc);
+    push(rt, fields, 23, only(rt, alloc, Value::Run(text)));
+    push(rt, fields, 25, FieldValue::One(Value::Node(inner)));
+    push(rt, fields, 28, only(rt, alloc, Value::Number(0)));
 }
 
 // A message M.
-fn wide(alloc: Global) -> Result<Tree, Memory> {
+fn wide(rt: &impl Abort, alloc: Global) -> Tree {
     let mut fields = Vec::new(alloc);
-    push_all(alloc, &mut fields)?;
-    Ok(Tree { fields })
+    push_numbers(rt, &mut fields, &NUMBERS);
+    push_runs(rt, alloc, &mut fields, &RUNS);
+    push_others(rt, alloc, &mut fields);
+    Tree { fields }
 }
 
 // Tests that pick the message.
@@ -239,42 +235,37 @@ const NOT_PICKING: &[u8] = b"1 eq 5
 ";
 
 // A policy with one rule, which denies what a test picks.
-fn one_rule(alloc: Global, test: &[u8]) -> Result<Bytes, Memory> {
-    let mut text = Bytes::from_slice(alloc, b"rule r deny method 0 where ")?;
-    text.append(test)?;
-    text.append(b"\ndefault allow\n")?;
-    Ok(text)
-}
-
-// Whether a policy denies a request with the message M.
-fn denies(rt: &impl Abort, alloc: Global, judge: &Judge) -> Result<bool, Memory> {
-    let request = call_of(0, wide(alloc)?);
-    Ok(!judge.verdict(rt, &request).allow)
+fn one_rule(rt: &impl Abort, alloc: Global, test: &[u8]) -> Bytes {
+    let start = b"rule r deny method 0 where ";
+    let mut text = Bytes::from_slice(alloc, start).expect(rt, "a text");
+    text.append(test).expect(rt, "room");
+    text.append(b"\ndefault allow\n").expect(rt, "room");
+    text
 }
 
 // Whether a test picks a request with the message M.
-fn picks(rt: &impl Abort, alloc: Global, test: &[u8]) -> Result<bool, Fail> {
-    let text = one_rule(alloc, test)?;
-    let judge = Judge::open(alloc, WIDE, text.as_slice())?;
-    Ok(denies(rt, alloc, &judge)?)
+fn picks(rt: &impl Abort, alloc: Global, test: &[u8]) -> bool {
+    let text = one_rule(rt, alloc, test);
+    let judge = Judge::open(rt, alloc, WIDE, text.as_slice());
+    let request = call_of(0, wide(rt, alloc));
+    !judge.verdict(rt, &request).allow
 }
 
 // Each line is a test that picks the message, or each is one that doesn't.
-fn check_tests(rt: &impl Abort, alloc: Global, tests: &[u8], picked: bool) -> Result<(), Fail> {
-    let lines = lines_of(alloc, tests)?;
+fn check_tests(rt: &impl Abort, alloc: Global, tests: &[u8], picked: bool) {
+    let lines = lines_of(rt, alloc, tests);
     for (place, test) in lines.as_slice().iter().enumerate() {
-        let answer = picks(rt, alloc, test.as_slice())?;
+        let answer = picks(rt, alloc, test.as_slice());
         assert!(rt; answer == picked, "at {place}");
     }
-    Ok(())
 }
 
 #[test]
-fn these_tests_pick_the_message(rt: HostRuntime) -> Result<(), Fail> {
-    check_tests(&rt, rt.alloc(), PICKING, true)
+fn these_tests_pick_the_message(rt: HostRuntime) {
+    check_tests(&rt, rt.alloc(), PICKING, true);
 }
 
 #[test]
-fn these_tests_do_not(rt: HostRuntime) -> Result<(), Fail> {
-    check_tests(&rt, rt.alloc(), NOT_PICKING, false)
+fn these_tests_do_not(rt: HostRuntime) {
+    check_tests(&rt, rt.alloc(), NOT_PICKING, false);
 }
