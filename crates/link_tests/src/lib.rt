@@ -6,6 +6,8 @@ mod pairs;
 #[cfg(test)]
 mod queues;
 #[cfg(test)]
+mod talks;
+#[cfg(test)]
 mod through;
 #[cfg(test)]
 mod writers;

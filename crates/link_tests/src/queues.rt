@@ -1,11 +1,11 @@
 ghost use Rattle.std.specs.Prelude.{◌≡◌};
-ghost use Rattle.one_way_queue.specs.Ends.{producer_queue, consumer_queue};
+ghost use Rattle.one_way_queue.specs.Ends.{producer_queue, consumer_queue, AreEnds};
 
-use mrpc_table::{Bytes, Memory};
+use mrpc_table::Bytes;
 use one_way_queue::{Consumer, Found, Piece, PieceReader, Producer, meet, open};
 use std::alloc::Global;
+use std::process::Abort;
 use std::sync::Wait;
-use std::test::Fail;
 use std::thread;
 
 // Puts an item, and answers the item where it was refused, or else 0.
@@ -29,43 +29,65 @@ fn next<R: Wait>(rt: &R, consumer: &mut Consumer<u32>) -> u32
 }
 
 #[test]
-fn comes_out_in_order(rt: HostRuntime) -> Result<(), Fail> {
-    let (mut producer, mut consumer) = open::<u32>(rt.alloc(), 2)?;
-    assert!(rt; refused(&rt, &mut producer, 7) == 0);
-    producer.put_waiting(&rt, 8);
-    assert!(rt; refused(&rt, &mut producer, 9) == 9);
-    assert!(rt; producer.len(&rt) == 2);
-    meet(&mut producer, &mut consumer);
-    assert!(rt; next(&rt, &mut consumer) == 7);
-    assert!(rt; next(&rt, &mut consumer) == 8);
-    assert!(rt; next(&rt, &mut consumer) == 0);
-    Ok(())
+fn comes_out_in_order(rt: HostRuntime) {
+    let (mut producer, mut consumer) = open::<u32>(rt.alloc(), 2).expect(&rt, "memory");
+    assert_comes_out(&rt, &mut producer, &mut consumer);
+    discard(producer, consumer);
+}
+
+// Both tests hand the ends over to be dropped here: what a drop comes to is proved in each function that has one.
+fn discard(_producer: Producer<u32>, _consumer: Consumer<u32>) {}
+
+fn assert_comes_out<R: Abort + Wait>(
+    rt: &R,
+    producer: &mut Producer<u32>,
+    consumer: &mut Consumer<u32>,
+)
+    requires { AreEnds producer.old consumer.old }
+{
+    assert!(rt; refused(rt, producer, 7) == 0);
+    producer.put_waiting(rt, 8);
+    assert!(rt; refused(rt, producer, 9) == 9);
+    assert!(rt; producer.len(rt) == 2);
+    meet(producer, consumer);
+    assert!(rt; next(rt, consumer) == 7);
+    assert!(rt; next(rt, consumer) == 8);
+    assert!(rt; next(rt, consumer) == 0);
 }
 
 #[test]
-fn reserved_places_stay_free(rt: HostRuntime) -> Result<(), Fail> {
-    let (mut producer, mut consumer) = open::<u32>(rt.alloc(), 2)?;
-    producer.put_leaving(&rt, 1, 7);
-    producer.put_reserved(&rt, 8);
-    assert!(rt; refused(&rt, &mut producer, 9) == 9);
-    assert!(rt; next(&rt, &mut consumer) == 7);
-    producer.put_leaving(&rt, 0, 9);
-    meet(&mut producer, &mut consumer);
-    assert!(rt; next(&rt, &mut consumer) == 8);
-    assert!(rt; next(&rt, &mut consumer) == 9);
-    Ok(())
+fn reserved_places_stay_free(rt: HostRuntime) {
+    let (mut producer, mut consumer) = open::<u32>(rt.alloc(), 2).expect(&rt, "memory");
+    assert_places_stay(&rt, &mut producer, &mut consumer);
+    discard(producer, consumer);
+}
+
+fn assert_places_stay<R: Abort + Wait>(
+    rt: &R,
+    producer: &mut Producer<u32>,
+    consumer: &mut Consumer<u32>,
+)
+    requires { AreEnds producer.old consumer.old }
+{
+    producer.put_leaving(rt, 1, 7);
+    producer.put_reserved(rt, 8);
+    assert!(rt; refused(rt, producer, 9) == 9);
+    assert!(rt; next(rt, consumer) == 7);
+    producer.put_leaving(rt, 0, 9);
+    meet(producer, consumer);
+    assert!(rt; next(rt, consumer) == 8);
+    assert!(rt; next(rt, consumer) == 9);
 }
 
 #[test]
-fn goes_to_another_thread(rt: HostRuntime) -> Result<(), Fail> {
-    let (producer, consumer) = open::<u32>(rt.alloc(), 1)?;
+fn goes_to_another_thread(rt: HostRuntime) {
+    let (producer, consumer) = open::<u32>(rt.alloc(), 1).expect(&rt, "memory");
     let (_, sum) = thread::join(
         &rt,
         move || put_all(&rt, producer),
         move || sum_of(&rt, consumer),
     );
     assert!(rt; sum == 21);
-    Ok(())
 }
 
 fn put_all<R: Wait>(rt: &R, mut producer: Producer<u32>) {
@@ -74,33 +96,40 @@ fn put_all<R: Wait>(rt: &R, mut producer: Producer<u32>) {
     }
 }
 
+// The sum of the items up to 6.
 fn sum_of<R: Wait>(rt: &R, mut consumer: Consumer<u32>) -> u32 {
     let mut sum = 0u32;
-    let mut count = 0u8;
     for _ in rt.forever() {
-        if count >= 7 {
-            break;
-        }
         match consumer.take(rt) {
             Some(item) => {
                 sum = sum.wrapping_add(item);
-                count += 1;
+                if item == 6 {
+                    return sum;
+                }
             }
             None => thread::yield_now(),
         }
     }
-    sum
+    unreachable!()
 }
 
-fn put_bytes<R: Wait>(
+fn put_bytes<R: Abort + Wait>(
     rt: &R,
     alloc: Global,
     producer: &mut Producer<Piece<u8>>,
     bytes: &[u8],
-) -> Result<(), Memory> {
-    let copy = Bytes::from_slice(alloc, bytes)?;
+) {
+    let copy = Bytes::from_slice(alloc, bytes).expect(rt, "memory");
     producer.put_waiting(rt, Piece::Bytes(copy));
-    Ok(())
+}
+
+// A reader of the bytes 7, 8 and 9, of a piece of no bytes and of the mark 5.
+fn a_reader<R: Abort + Wait>(rt: &R, alloc: Global) -> PieceReader<u8> {
+    let (mut producer, consumer) = open::<Piece<u8>>(alloc, 4).expect(rt, "memory");
+    put_bytes(rt, alloc, &mut producer, &[7, 8, 9]);
+    put_bytes(rt, alloc, &mut producer, &[]);
+    producer.put_waiting(rt, Piece::Mark(5));
+    PieceReader::new(alloc, consumer)
 }
 
 // What a read into two bytes finds: bytes as decimal digits, a mark as 100 and its number, and nothing as 0.
@@ -117,15 +146,13 @@ fn found<R: Wait>(rt: &R, reader: &mut PieceReader<u8>) -> u32 {
 }
 
 #[test]
-fn pieces_are_read_as_bytes(rt: HostRuntime) -> Result<(), Fail> {
-    let (mut producer, consumer) = open::<Piece<u8>>(rt.alloc(), 4)?;
-    let mut reader = PieceReader::new(rt.alloc(), consumer);
-    put_bytes(&rt, rt.alloc(), &mut producer, &[7, 8, 9])?;
-    put_bytes(&rt, rt.alloc(), &mut producer, &[])?;
-    producer.put_waiting(&rt, Piece::Mark(5));
-    assert!(rt; found(&rt, &mut reader) == 78);
-    assert!(rt; found(&rt, &mut reader) == 9);
-    assert!(rt; found(&rt, &mut reader) == 105);
-    assert!(rt; found(&rt, &mut reader) == 0);
-    Ok(())
+fn pieces_are_read_as_bytes(rt: HostRuntime) {
+    assert_reads(&rt, &mut a_reader(&rt, rt.alloc()));
+}
+
+fn assert_reads<R: Abort + Wait>(rt: &R, reader: &mut PieceReader<u8>) {
+    assert!(rt; found(rt, reader) == 78);
+    assert!(rt; found(rt, reader) == 9);
+    assert!(rt; found(rt, reader) == 105);
+    assert!(rt; found(rt, reader) == 0);
 }

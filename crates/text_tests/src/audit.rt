@@ -1,16 +1,23 @@
+ghost use Rattle.mrpc_table.specs.Valid.{IsValid};
+
+use crate::tables::{assert_is, discard};
 use call_ledger::{Cause, Happening, TookCopy, audit_line, copy_bytes, stands_line};
 use graph_form::Reason;
 use mrpc_table::{Enums, Messages, Methods, Table};
-use std::test::Fail;
+use std::alloc::Global;
 
-#[test]
-fn lines_are_written(rt: HostRuntime) -> Result<(), Fail> {
-    let alloc = rt.alloc();
-    let table = Table {
+fn empty_table(alloc: Global) -> Table
+    ensures { IsValid result }
+{
+    Table {
         messages: Messages::new(alloc),
         enums: Enums::new(alloc),
         methods: Methods::new(alloc),
-    };
+    }
+}
+
+#[test]
+fn a_malformed_call_is_told(rt: HostRuntime) {
     let took = Happening::Took {
         conn: 1,
         seq: 2,
@@ -25,22 +32,40 @@ fn lines_are_written(rt: HostRuntime) -> Result<(), Fail> {
             value: 15,
         },
     };
-    let line = audit_line(alloc, &took, &table)?;
-    assert!(rt; line.as_slice() == b"took 1 2 0 0 15 1 0 malformed Address 0 15\n".as_slice());
+    let table = empty_table(rt.alloc());
+    let line = audit_line(rt.alloc(), &took, &table).expect(&rt, "memory");
+    assert_is(&rt, &line, b"took 1 2 0 0 15 1 0 malformed Address 0 15\n");
+    discard(table);
+}
+
+#[test]
+fn a_malformed_call_has_no_bytes(rt: HostRuntime) {
     let lost = TookCopy::Malformed {
         reason: Reason::NoMethod,
         place: 0,
         value: 9,
     };
-    assert!(rt; copy_bytes(alloc, &lost, &table, 0)?.is_empty());
+    let table = empty_table(rt.alloc());
+    let bytes = copy_bytes(rt.alloc(), &lost, &table, 0).expect(&rt, "memory");
+    assert_is(&rt, &bytes, b"");
+    discard(table);
+}
+
+#[test]
+fn a_refused_call_is_told(rt: HostRuntime) {
     let refused = Happening::Refused {
         conn: 1,
         seq: 2,
         cause: Cause::Malformed,
     };
-    let line = audit_line(alloc, &refused, &table)?;
-    assert!(rt; line.as_slice() == b"refused 1 2 malformed\n".as_slice());
-    let line = stands_line(alloc, 16, 4294967295, 0, b"-")?;
-    assert!(rt; line.as_slice() == b"stands 16 4294967295 0 -\n".as_slice());
-    Ok(())
+    let table = empty_table(rt.alloc());
+    let line = audit_line(rt.alloc(), &refused, &table).expect(&rt, "memory");
+    assert_is(&rt, &line, b"refused 1 2 malformed\n");
+    discard(table);
+}
+
+#[test]
+fn a_standing_call_is_told(rt: HostRuntime) {
+    let line = stands_line(rt.alloc(), 16, 4294967295, 0, b"-").expect(&rt, "memory");
+    assert_is(&rt, &line, b"stands 16 4294967295 0 -\n");
 }

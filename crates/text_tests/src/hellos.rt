@@ -1,12 +1,13 @@
 ghost use Rattle.std.specs.Prelude.{◌≡◌, ◌⊎◌};
+ghost use Rattle.mrpc_table.specs.Valid.{IsValid};
 
-use frame_transport::Feed;
-use mrpc_table::Name;
-use schema_binding::{AgreeFault, Agreed, agree, hello, on_hello};
+use crate::frames::first_frame;
+use crate::tables::{assert_is, discard, table};
+use mrpc_table::{Bytes, Name, Table, is_full_name};
+use schema_binding::{AgreeFault, Agreed, HelloFault, agree, hello, on_hello};
 use std::alloc::Global;
 use std::process::Abort;
-use std::test::Fail;
-use table_text::{read_table, table_text};
+use table_text::table_text;
 
 const TEXT: &[u8] = b"message M\nfield 1 plain uint64 a\nmethod 0 S Get M M\n";
 
@@ -59,128 +60,142 @@ field 1 plain bool a
 method 0 S Get M M
 ";
 
+// The frame of a hello of connection 7.
+fn hello_on(rt: &impl Abort, alloc: Global, service: &[u8], text: &[u8]) -> Bytes {
+    let table = table(rt, alloc, text);
+    let service = Name::from_slice(alloc, service).expect(rt, "memory");
+    let bytes = hello_of(rt, alloc, &table, &service);
+    discard(table);
+    bytes
+}
+
+fn hello_of(rt: &impl Abort, alloc: Global, table: &Table, service: &Name) -> Bytes
+    requires { IsValid table.now }
+{
+    assert!(rt; is_full_name(service.as_slice()));
+    hello(alloc, 7, table, service).expect(rt, "memory")
+}
+
+// The service and the text of the table that a payload says.
+fn said(rt: &impl Abort, alloc: Global, payload: &[u8]) -> (Name, Bytes) {
+    let (service, table) = on_hello(alloc, payload).expect(rt, "a hello");
+    let text = table_text(alloc, &table).expect(rt, "memory");
+    discard(table);
+    (service, text)
+}
+
 #[test]
-fn a_hello_says_its_service_and_its_table(rt: HostRuntime) -> Result<(), Fail> {
-    let alloc = rt.alloc();
-    let table = read_table(alloc, TEXT)?;
-    let service = Name::from_slice(alloc, b"S")?;
-    assert!(rt; mrpc_table::is_full_name(service.as_slice()));
-    let bytes = hello(alloc, 7, &table, &service)?;
-    assert!(rt; bytes.len() < 100);
-    let mut feed = Feed::new(alloc);
-    assert!(rt; feed.feed(bytes.as_slice()).is_ok());
-    let frame = feed.next().expect(&rt, "a hello");
-    let (said, read) = on_hello(alloc, frame.payload.as_slice())?;
-    assert!(rt; said.as_slice() == b"S".as_slice());
-    let text = table_text(alloc, &read)?;
-    assert!(rt; text.as_slice() == TEXT);
-    Ok(())
+fn a_hello_says_its_service_and_its_table(rt: HostRuntime) {
+    let bytes = hello_on(&rt, rt.alloc(), b"S", TEXT);
+    let frame = first_frame(&rt, rt.alloc(), bytes.as_slice());
+    let (service, text) = said(&rt, rt.alloc(), frame.payload.as_slice());
+    assert_is(&rt, &service, b"S");
+    assert_is(&rt, &text, TEXT);
+}
+
+// The line at fault of a payload, or 0 where there is none.
+fn faulty_line(alloc: Global, payload: &[u8]) -> u64 {
+    match on_hello(alloc, payload) {
+        Err(HelloFault::Bad { line }) => line,
+        Err(HelloFault::Memory) => 0,
+        Ok((_, table)) => {
+            discard(table);
+            0
+        }
+    }
 }
 
 #[test]
 fn a_payload_at_fault_is_refused_with_its_line(rt: HostRuntime) {
-    let alloc = rt.alloc();
-    assert!(rt; on_hello(alloc, b"S").is_err());
-    assert!(rt; on_hello(alloc, b"9\n").is_err());
-    assert!(rt; on_hello(alloc, b"S\nmessage M\nfield 0 plain uint64 a\n").is_err());
+    assert!(rt; faulty_line(rt.alloc(), b"S") == 1);
+    assert!(rt; faulty_line(rt.alloc(), b"9\n") == 1);
+    assert!(rt; faulty_line(rt.alloc(), b"S\nmessage M\nfield 0 plain uint64 a\n") == 3);
 }
 
-// What two tables answer on the service S.
-fn answer(
+// What two tables answer on a service.
+#[derive(Clone, Copy)]
+enum Answer {
+    // They agree on so many methods.
+    Agreed(u32),
+    // Whether each has a method of the service.
+    NoService(bool, bool),
+    // The byte where the texts differ, and what stands there in each, 0 behind its end.
+    Mismatch(u64, u8, u8),
+    // The place where the methods differ.
+    Methods(u32),
+    // The number of the field that differs.
+    Field(u32),
+    Memory,
+}
+
+fn agreement(
+    rt: &impl Abort,
     alloc: Global,
     ours: &[u8],
     theirs: &[u8],
+    service: &[u8],
     version: u8,
-) -> Result<Result<Agreed, AgreeFault>, Fail>
+) -> Answer
     requires { (version ≡ 1) ⊎ (version ≡ 2) }
 {
-    let ours = read_table(alloc, ours)?;
-    let theirs = read_table(alloc, theirs)?;
-    let service = Name::from_slice(alloc, b"S")?;
-    Ok(agree(alloc, &ours, &theirs, &service, version))
+    let ours = table(rt, alloc, ours);
+    let theirs = table(rt, alloc, theirs);
+    let service = Name::from_slice(alloc, service).expect(rt, "memory");
+    let found = agree(alloc, &ours, &theirs, &service, version);
+    discard(ours);
+    discard(theirs);
+    plain(found)
+}
+
+fn plain(found: Result<Agreed, AgreeFault>) -> Answer {
+    match found {
+        Ok(agreed) => Answer::Agreed(agreed.methods),
+        Err(AgreeFault::NoService { ours, theirs }) => Answer::NoService(ours, theirs),
+        Err(AgreeFault::Mismatch { byte, ours, theirs }) => {
+            Answer::Mismatch(byte, ours.unwrap_or(0), theirs.unwrap_or(0))
+        }
+        Err(AgreeFault::Methods { at }) => Answer::Methods(at),
+        Err(AgreeFault::Field { number, .. }) => Answer::Field(number),
+        Err(AgreeFault::Memory) => Answer::Memory,
+    }
 }
 
 #[test]
-fn under_version_1_the_texts_are_compared(rt: HostRuntime) -> Result<(), Fail> {
-    let alloc = rt.alloc();
-    let same = answer(alloc, TEXT, TEXT, 1)?;
-    assert!(rt; matches!(&same, Ok(Agreed { methods: 1 })));
-    let name = answer(alloc, TEXT, OTHER_NAME, 1)?;
-    assert!(rt;
-        matches!(
-            &name,
-            Err(AgreeFault::Mismatch {
-                byte: 31,
-                ours: Some(97),
-                theirs: Some(98)
-            })
-        )
-    );
-    let field = answer(alloc, TEXT, MORE_FIELDS, 1)?;
-    assert!(rt;
-        matches!(
-            &field,
-            Err(AgreeFault::Mismatch {
-                byte: 33,
-                ours: Some(109),
-                theirs: Some(102)
-            })
-        )
-    );
-    let ended = answer(alloc, TEXT, MORE_METHODS, 1)?;
-    assert!(rt;
-        matches!(
-            &ended,
-            Err(AgreeFault::Mismatch {
-                byte: 52,
-                ours: None,
-                theirs: Some(109)
-            })
-        )
-    );
-    Ok(())
+fn under_version_1_the_texts_are_compared(rt: HostRuntime) {
+    let same = agreement(&rt, rt.alloc(), TEXT, TEXT, b"S", 1);
+    assert!(rt; matches!(same, Answer::Agreed(1)));
+    let name = agreement(&rt, rt.alloc(), TEXT, OTHER_NAME, b"S", 1);
+    assert!(rt; matches!(name, Answer::Mismatch(31, 97, 98)));
+    let field = agreement(&rt, rt.alloc(), TEXT, MORE_FIELDS, b"S", 1);
+    assert!(rt; matches!(field, Answer::Mismatch(33, 109, 102)));
+    let ended = agreement(&rt, rt.alloc(), TEXT, MORE_METHODS, b"S", 1);
+    assert!(rt; matches!(ended, Answer::Mismatch(52, 0, 109)));
 }
 
 #[test]
-fn under_version_2_one_side_may_know_more(rt: HostRuntime) -> Result<(), Fail> {
-    let alloc = rt.alloc();
-    let field = answer(alloc, TEXT, MORE_FIELDS, 2)?;
-    assert!(rt; matches!(&field, Ok(Agreed { methods: 1 })));
-    let member = answer(alloc, MORE_MEMBERS, MORE_FIELDS, 2)?;
-    assert!(rt; matches!(&member, Ok(Agreed { methods: 1 })));
-    let inner = answer(alloc, INNER, OTHER_INNER_AT_3, 2)?;
-    assert!(rt; matches!(&inner, Ok(Agreed { methods: 1 })));
-    Ok(())
+fn under_version_2_one_side_may_know_more(rt: HostRuntime) {
+    let field = agreement(&rt, rt.alloc(), TEXT, MORE_FIELDS, b"S", 2);
+    assert!(rt; matches!(field, Answer::Agreed(1)));
+    let member = agreement(&rt, rt.alloc(), MORE_MEMBERS, MORE_FIELDS, b"S", 2);
+    assert!(rt; matches!(member, Answer::Agreed(1)));
+    let inner = agreement(&rt, rt.alloc(), INNER, OTHER_INNER_AT_3, b"S", 2);
+    assert!(rt; matches!(inner, Answer::Agreed(1)));
 }
 
 #[test]
-fn under_version_2_the_first_difference_is_named(rt: HostRuntime) -> Result<(), Fail> {
-    let alloc = rt.alloc();
-    let name = answer(alloc, TEXT, OTHER_NAME, 2)?;
-    assert!(rt; matches!(&name, Err(AgreeFault::Field { number: 1, .. })));
-    let method = answer(alloc, TEXT, MORE_METHODS, 2)?;
-    assert!(rt; matches!(&method, Err(AgreeFault::Methods { at: 1 })));
-    let oneof = answer(alloc, MORE_FIELDS, OTHER_ONEOF, 2)?;
-    assert!(rt; matches!(&oneof, Err(AgreeFault::Field { number: 2, .. })));
-    let inner = answer(alloc, INNER_AT_3, OTHER_INNER_AT_3, 2)?;
-    assert!(rt; matches!(&inner, Err(AgreeFault::Field { number: 1, .. })));
-    Ok(())
+fn under_version_2_the_first_difference_is_named(rt: HostRuntime) {
+    let name = agreement(&rt, rt.alloc(), TEXT, OTHER_NAME, b"S", 2);
+    assert!(rt; matches!(name, Answer::Field(1)));
+    let method = agreement(&rt, rt.alloc(), TEXT, MORE_METHODS, b"S", 2);
+    assert!(rt; matches!(method, Answer::Methods(1)));
+    let oneof = agreement(&rt, rt.alloc(), MORE_FIELDS, OTHER_ONEOF, b"S", 2);
+    assert!(rt; matches!(oneof, Answer::Field(2)));
+    let inner = agreement(&rt, rt.alloc(), INNER_AT_3, OTHER_INNER_AT_3, b"S", 2);
+    assert!(rt; matches!(inner, Answer::Field(1)));
 }
 
 #[test]
-fn a_service_that_neither_has_is_refused(rt: HostRuntime) -> Result<(), Fail> {
-    let alloc = rt.alloc();
-    let table = read_table(alloc, TEXT)?;
-    let service = Name::from_slice(alloc, b"T")?;
-    let neither = agree(alloc, &table, &table, &service, 2);
-    assert!(rt;
-        matches!(
-            &neither,
-            Err(AgreeFault::NoService {
-                ours: false,
-                theirs: false
-            })
-        )
-    );
-    Ok(())
+fn a_service_that_neither_has_is_refused(rt: HostRuntime) {
+    let neither = agreement(&rt, rt.alloc(), TEXT, TEXT, b"T", 2);
+    assert!(rt; matches!(neither, Answer::NoService(false, false)));
 }

@@ -1,19 +1,24 @@
 //! Vectors of the encoding guide.
 
-use mrpc_table::{Bytes, Memory};
+use mrpc_table::Bytes;
+use std::process::Abort;
 use wire_base::{
-    Payload, Record, WireFault, WireReason, put_varint, read_record, read_varint, unzigzag,
-    varint_len, zigzag,
+    Payload, WireReason, put_varint, read_record, read_varint, unzigzag, varint_len, zigzag,
 };
 
 #[test]
-fn varints_are_written_and_read(rt: HostRuntime) -> Result<(), Memory> {
+fn varints_are_written_and_read(rt: HostRuntime) {
     let mut out = Bytes::new(rt.alloc());
-    put_varint(&mut out, 150)?;
-    assert!(rt; out.as_slice() == b"\x96\x01".as_slice());
+    put_varint(&mut out, 150).expect(&rt, "memory");
+    assert_is_150(&rt, out.as_slice());
+}
+
+fn assert_is_150(rt: &impl Abort, bytes: &[u8]) {
+    assert!(rt; bytes == b"\x96\x01".as_slice());
     assert!(rt; varint_len(150) == 2);
-    assert!(rt; matches!(read_varint(out.as_slice(), 0), Ok((150, 2))));
-    Ok(())
+    let (value, next) = read_varint(bytes, 0).expect(rt, "a varint");
+    assert!(rt; value == 150);
+    assert!(rt; next == 2);
 }
 
 #[test]
@@ -25,15 +30,15 @@ fn signed_numbers_go_by_turns(rt: HostRuntime) {
 
 #[test]
 fn a_record_is_read_whole(rt: HostRuntime) {
-    let record = Record {
-        number: 2,
-        payload: Payload::Len { start: 2, end: 9 },
-        next: 9,
-    };
-    assert!(rt; read_record(b"\x12\x07testing", 0) == Ok(record));
-    let fault = WireFault {
-        reason: WireReason::Short,
-        place: 1,
-    };
-    assert!(rt; read_record(b"\x0a\x02A", 0) == Err(fault));
+    let record = read_record(b"\x12\x07testing", 0).expect(&rt, "a record");
+    assert!(rt; record.number == 2);
+    assert!(rt; matches!(record.payload, Payload::Len { start: 2, end: 9 }));
+    assert!(rt; record.next == 9);
+}
+
+#[test]
+fn a_short_record_is_refused(rt: HostRuntime) {
+    let fault = read_record(b"\x0a\x02A", 0).expect_err(&rt, "a fault");
+    assert!(rt; fault.reason == WireReason::Short);
+    assert!(rt; fault.place == 1);
 }

@@ -1,5 +1,6 @@
-use script_lang::{Line, ScriptFault, one_answer, read_script};
-use std::test::Fail;
+use script_lang::{Line, Script, ScriptFault, ScriptReason, one_answer, read_script};
+use std::alloc::Global;
+use std::process::Abort;
 
 const SCRIPT: &[u8] = b"mrpc-replay 1
 table
@@ -15,32 +16,40 @@ close
 #
 ";
 
+fn script(rt: &impl Abort, alloc: Global, text: &[u8]) -> Script {
+    read_script(alloc, text).expect(rt, "a script")
+}
+
+fn is_store(line: &Line, of: u32, at: u32, number: u64) -> bool {
+    match line {
+        Line::Store { conn, place, value } => *conn == of && *place == at && *value == number,
+        _ => false,
+    }
+}
+
 #[test]
-fn a_script_is_read(rt: HostRuntime) -> Result<(), Fail> {
-    let script = read_script(rt.alloc(), SCRIPT)?;
+fn a_script_is_read(rt: HostRuntime) {
     one_answer();
+    assert_script(&rt, &script(&rt, rt.alloc(), SCRIPT));
+}
+
+fn assert_script(rt: &impl Abort, script: &Script) {
     assert!(rt; script.lines.len() == 3);
     assert!(rt; script.loads == 1024);
-    assert!(rt;
-        matches!(
-            &script.lines.as_slice()[1],
-            Line::Store {
-                conn: 1,
-                place: 2,
-                value: u64::MAX
-            }
-        )
-    );
-    Ok(())
+    assert!(rt; is_store(&script.lines.as_slice()[1], 1, 2, u64::MAX));
+}
+
+// The line at fault and its reason.
+fn fault(rt: &impl Abort, alloc: Global, text: &[u8]) -> (u64, ScriptReason) {
+    match read_script(alloc, text) {
+        Err(ScriptFault::At { line, reason }) => (line, reason),
+        _ => panic!(rt; "no fault"),
+    }
 }
 
 #[test]
 fn a_fault_has_its_line_and_its_word(rt: HostRuntime) {
-    match read_script(rt.alloc(), b"mrpc-replay 1\nloads 4\ntable\nx\nend\n") {
-        Err(ScriptFault::At { line, reason }) => {
-            assert!(rt; line == 4);
-            assert!(rt; reason.word() == "Syntax");
-        }
-        _ => assert!(rt; false),
-    }
+    let (line, reason) = fault(&rt, rt.alloc(), b"mrpc-replay 1\nloads 4\ntable\nx\nend\n");
+    assert!(rt; line == 4);
+    assert!(rt; reason.word() == "Syntax");
 }
