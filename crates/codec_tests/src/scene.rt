@@ -1,6 +1,6 @@
 //! A table with a heap, and messages of its first type.
 
-ghost use Rattle.std.specs.Prelude.{◌≡◌, ◌≤◌, ℕ, IfOk, OnOk};
+ghost use Rattle.std.specs.Prelude.{◌≡◌, ◌≤◌, ℕ};
 ghost use Rattle.mrpc_table.specs.Normal.{IsNormal};
 ghost use Rattle.graph_form.specs.Placed.{Placed as PlacedTree};
 ghost use Rattle.graph_form.specs.Stored.{AreWordsOf};
@@ -13,9 +13,9 @@ use mrpc_base::{PlainWords, Room, Stores};
 use mrpc_table::{Bytes, MAX_LOADS, Memory, Table, Tree, fits};
 use std::alloc::Global;
 use std::marker::Model;
-use std::test::Fail;
+use std::process::Abort;
 use table_text::read_table;
-use wire_decode::{DecodeFault, decode};
+use wire_decode::decode;
 use wire_encode::{encode, encoded_len};
 
 /// A table with a heap. What the functions on both require is its invariant, or is tried at each call, so that no test
@@ -72,13 +72,11 @@ pub struct Offence {
 
 impl Scene {
     /// The table of a text, which has a message, and 256 words.
-    pub fn open(alloc: Global, text: &[u8]) -> Result<Scene, Fail> {
-        let table = read_table(alloc, text)?;
-        if table.messages.is_empty() {
-            return Err(Fail::from("no message"));
-        }
-        let heap = PlainWords::open(alloc, 256)?;
-        Ok(Scene { table, heap })
+    pub fn open(rt: &impl Abort, alloc: Global, text: &[u8]) -> Scene {
+        let table = read_table(alloc, text).expect(rt, "a table");
+        assert!(rt; !table.messages.is_empty());
+        let heap = PlainWords::open(alloc, 256).expect(rt, "a heap");
+        Scene { table, heap }
     }
 
     /// How many words a message takes without its content.
@@ -87,37 +85,27 @@ impl Scene {
     }
 
     /// The message that the bytes mean.
-    pub fn decode(&self, alloc: Global, bytes: &[u8]) -> Result<Tree, DecodeFault> {
-        decode(alloc, bytes, &self.table, 0)
+    pub fn decode(&self, rt: &impl Abort, alloc: Global, bytes: &[u8]) -> Tree {
+        decode(alloc, bytes, &self.table, 0).expect(rt, "a message")
     }
 
     // The tree is a message.
-    fn check(&self, tree: &Tree) -> Result<(), Fail>
-        ensures { OnOk result (IsNormal self.now 0 tree.now) }
+    fn check(&self, rt: &impl Abort, tree: &Tree)
+        ensures { IsNormal self.now 0 tree.now }
     {
-        if fits(tree, &self.table, 0) {
-            Ok(())
-        } else {
-            Err(Fail::from("no message of the table"))
-        }
+        assert!(rt; fits(tree, &self.table, 0));
     }
 
     /// The length of the encoding of a message.
-    pub fn encoded_len(&self, tree: &Tree) -> Result<u64, Fail> {
-        self.check(tree)?;
-        Ok(encoded_len(tree, &self.table, 0))
+    pub fn encoded_len(&self, rt: &impl Abort, tree: &Tree) -> u64 {
+        self.check(rt, tree);
+        encoded_len(tree, &self.table, 0)
     }
 
     /// The encoding of a message.
-    pub fn encode(&self, alloc: Global, tree: &Tree) -> Result<Bytes, Fail> {
-        self.check(tree)?;
-        Ok(encode(alloc, tree, &self.table, 0)?)
-    }
-
-    // How many words a message takes.
-    fn place_words(&self, tree: &Tree) -> Result<u64, Fail> {
-        self.check(tree)?;
-        Ok(place_words(tree, &self.table, 0))
+    pub fn encode(&self, rt: &impl Abort, alloc: Global, tree: &Tree) -> Bytes {
+        self.check(rt, tree);
+        encode(alloc, tree, &self.table, 0).expect(rt, "an encoding")
     }
 
     /// The line of a frame of so many bytes that was sent for a call.
@@ -148,82 +136,89 @@ impl Scene {
     }
 
     // What the copy of a message at a place comes to.
-    fn copy(&mut self, alloc: Global, at: u64) -> Result<CopyResult, Memory> {
-        copy(alloc, &mut self.heap, &self.table, 0, at, MAX_LOADS)
+    fn copy(&mut self, rt: &impl Abort, alloc: Global, at: u64) -> CopyResult {
+        let read = copy(alloc, &mut self.heap, &self.table, 0, at, MAX_LOADS);
+        read.expect(rt, "a copy")
     }
 
     /// The copy of the message at a place.
-    pub fn copied(&mut self, alloc: Global, at: u64) -> Result<Copied, Fail> {
-        match self.copy(alloc, at)? {
-            CopyResult::Copied { tree, loads } => Ok(Copied {
-                encoding: self.encode(alloc, &tree)?,
+    pub fn copied(&mut self, rt: &impl Abort, alloc: Global, at: u64) -> Copied {
+        match self.copy(rt, alloc, at) {
+            CopyResult::Copied { tree, loads } => Copied {
+                encoding: self.encode(rt, alloc, &tree),
                 loads,
-            }),
-            CopyResult::Malformed { .. } => Err(Fail::from("malformed")),
+            },
+            CopyResult::Malformed { .. } => panic!(rt; "no message"),
         }
     }
 
     /// Why no message stands at a place.
-    pub fn offence(&mut self, alloc: Global, at: u64) -> Result<Offence, Fail> {
-        match self.copy(alloc, at)? {
-            CopyResult::Copied { .. } => Err(Fail::from("a message")),
+    pub fn offence(&mut self, rt: &impl Abort, alloc: Global, at: u64) -> Offence {
+        match self.copy(rt, alloc, at) {
+            CopyResult::Copied { .. } => panic!(rt; "a message"),
             CopyResult::Malformed {
                 reason,
                 place,
                 value,
                 loads,
-            } => Ok(Offence {
+            } => Offence {
                 reason,
                 place,
                 value,
                 loads,
-            }),
+            },
         }
     }
 
     // Places a message at one of the first places, where there is room for it.
-    fn placed(&mut self, alloc: Global, tree: &Tree, at: u64) -> Result<Placed, Fail>
+    fn placed(&mut self, rt: &impl Abort, alloc: Global, tree: &Tree, at: u64) -> Placed
         requires from_one { 1 ≤ at }
         requires in_front { at ≤ 6 }
+        requires normal { IsNormal self.old 0 tree.now }
         ensures table { self.new ≡ self.old }
-        ensures sound { IfOk result (λ placed. (H : ℕ) × (P : PlacedTree) × AreWordsOf self.new H 0 P placed) }
+        ensures sound { (H : ℕ) × (P : PlacedTree) × AreWordsOf self.new H 0 P result }
     {
-        self.check(tree)?;
-        if place_words(tree, &self.table, 0) > 250 || self.heap.made() > 1000 {
-            return Err(Fail::from("too many words"));
-        }
-        Ok(place(alloc, tree, &self.table, 0, at, &mut self.heap)?)
+        assert!(rt; place_words(tree, &self.table, 0) <= 250);
+        assert!(rt; self.heap.made() < 1000);
+        place(alloc, tree, &self.table, 0, at, &mut self.heap).expect(rt, "a place")
     }
 
     // The encoding of what a placed message is without its places.
-    fn forgotten(&self, alloc: Global, placed: &Placed) -> Result<Bytes, Fail>
+    fn forgotten(&self, rt: &impl Abort, alloc: Global, placed: &Placed) -> Bytes
         requires { (H : ℕ) × (P : PlacedTree) × AreWordsOf self.now H 0 P placed.now }
     {
-        let tree = forget(alloc, placed, &self.table, 0)?;
-        self.encode(alloc, &tree)
+        let tree = forget(alloc, placed, &self.table, 0).expect(rt, "a message");
+        self.encode(rt, alloc, &tree)
     }
 
     /// Places a message at one of the first places.
-    pub fn place(&mut self, alloc: Global, tree: &Tree, at: u64) -> Result<Placement, Fail>
+    pub fn place(&mut self, rt: &impl Abort, alloc: Global, tree: &Tree, at: u64) -> Placement
         requires from_one { 1 ≤ at }
         requires in_front { at ≤ 6 }
     {
-        let words = self.place_words(tree)?;
-        let placed = self.placed(alloc, tree, at)?;
-        Ok(Placement {
-            encoding: self.forgotten(alloc, &placed)?,
+        self.check(rt, tree);
+        let words = place_words(tree, &self.table, 0);
+        let placed = self.placed(rt, alloc, tree, at);
+        Placement {
+            encoding: self.forgotten(rt, alloc, &placed),
             placed,
             words,
-        })
+        }
     }
 
     /// Places the message that the bytes mean at one of the first places.
-    pub fn place_decoded(&mut self, alloc: Global, bytes: &[u8], at: u64) -> Result<Placement, Fail>
+    pub fn place_decoded(
+        &mut self,
+        rt: &impl Abort,
+        alloc: Global,
+        bytes: &[u8],
+        at: u64,
+    ) -> Placement
         requires from_one { 1 ≤ at }
         requires in_front { at ≤ 6 }
     {
-        let tree = self.decode(alloc, bytes)?;
-        self.place(alloc, &tree, at)
+        let tree = self.decode(rt, alloc, bytes);
+        self.place(rt, alloc, &tree, at)
     }
 
     /// The words that were stored, each with its place.

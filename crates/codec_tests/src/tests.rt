@@ -18,15 +18,14 @@ method 0 S Get C C
 ";
 
 #[test]
-fn packed_numbers_are_decoded_and_encoded(rt: HostRuntime) -> Result<(), Fail> {
+fn packed_numbers_are_decoded_and_encoded(rt: HostRuntime) {
     let alloc = rt.alloc();
-    let scene = Scene::open(alloc, NUMBERS)?;
+    let scene = Scene::open(&rt, alloc, NUMBERS);
     let bytes = b"\x32\x06\x03\x8e\x02\x9e\xa7\x05";
-    let tree = scene.decode(alloc, bytes)?;
-    assert!(rt; scene.encoded_len(&tree)? == 8);
-    assert!(rt; scene.encode(alloc, &tree)?.as_slice() == bytes.as_slice());
+    let tree = scene.decode(&rt, alloc, bytes);
+    assert!(rt; scene.encoded_len(&rt, &tree) == 8);
+    assert!(rt; scene.encode(&rt, alloc, &tree).as_slice() == bytes.as_slice());
     call_laws();
-    Ok(())
 }
 
 // Laws do nothing.
@@ -36,15 +35,14 @@ fn call_laws() {
 }
 
 #[test]
-fn a_field_takes_two_words_and_a_oneof_three(rt: HostRuntime) -> Result<(), Fail> {
-    let scene = Scene::open(rt.alloc(), SLOTS)?;
+fn a_field_takes_two_words_and_a_oneof_three(rt: HostRuntime) {
+    let scene = Scene::open(&rt, rt.alloc(), SLOTS);
     assert!(rt; scene.size_words() == 10);
-    Ok(())
 }
 
 #[test]
 fn a_sent_call_has_its_line(rt: HostRuntime) -> Result<(), Fail> {
-    let scene = Scene::open(rt.alloc(), NUMBERS)?;
+    let scene = Scene::open(&rt, rt.alloc(), NUMBERS);
     let line = scene.sent_line(rt.alloc(), 16, 4294967295, 262160)?;
     assert!(rt; line.as_slice() == b"sent 16 4294967295 262160\n".as_slice());
     Ok(())
