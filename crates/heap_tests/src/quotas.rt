@@ -1,32 +1,49 @@
-ghost use Rattle.std.specs.Prelude.{◌≡◌, ◌≤◌, IfOk};
+ghost use Rattle.std.specs.Prelude.{◌≡◌, ◌≤◌, ◌+◌, length};
 ghost use Rattle.std.specs.Thread.{IsSync};
 
 use mrpc_base::Tickets;
-use std::alloc::AllocError;
-use std::test::Fail;
+use std::alloc::Global;
+use std::process::Abort;
 use std::thread::{Threads, join};
 use tenant_quota::{Seat, Seats, open};
 
 #[test]
-fn a_new_quota_counts_from_zero(rt: HostRuntime) -> Result<(), Fail> {
-    let mut seat = open(rt.alloc(), 2)?;
+fn a_new_quota_counts_from_zero(rt: HostRuntime) {
+    let mut seat = open(rt.alloc(), 2).expect(&rt, "memory");
+    assert_counts(&rt, &mut seat);
+    discard(seat);
+}
+
+// Each function hands its seat over to be dropped here: what a drop comes to is proved in each function that has one.
+fn discard(_seat: Seat) {}
+
+fn assert_counts(rt: &impl Abort, seat: &mut Seat)
+    requires { seat.old.quota.words ≡ 2 }
+{
     assert!(rt; seat.draw(0) == 0);
     assert!(rt; seat.draw(0) == 1);
     assert!(rt; seat.draw(1) == 0);
-    Ok(())
+}
+
+// The next ticket of the first window.
+fn assert_next(rt: &impl Abort, seat: &mut Seat, ticket: u64)
+    requires { 1 ≤ seat.old.quota.words }
+    ensures quota { seat.new.quota ≡ seat.old.quota }
+    ensures share { seat.new.share ≡ seat.old.share }
+{
+    assert!(rt; seat.draw(0) == ticket);
 }
 
 #[test]
-fn a_split_seat_draws_from_the_same_words(rt: HostRuntime) -> Result<(), Fail> {
-    let mut seat = open(rt.alloc(), 1)?;
-    let first = seat.draw(0);
-    let mut other = seat.split()?;
-    assert!(rt; first == 0);
-    assert!(rt; other.draw(0) == 1);
+fn a_split_seat_draws_from_the_same_words(rt: HostRuntime) {
+    let mut seat = open(rt.alloc(), 1).expect(&rt, "memory");
+    assert_next(&rt, &mut seat, 0);
+    let mut other = seat.split().expect(&rt, "memory");
+    assert_next(&rt, &mut other, 1);
     seat.join(other);
     seat.tickets_are_distinct();
-    assert!(rt; seat.draw(0) == 2);
-    Ok(())
+    assert_next(&rt, &mut seat, 2);
+    discard(seat);
 }
 
 // The seats of a quota take no handle: no call of theirs can wait.
@@ -67,23 +84,23 @@ fn race<R: Threads + Sync>(rt: &R, mut one: Seat, mut other: Seat) -> Seat
 }
 
 #[test]
-fn threads_draw_each_ticket_once(rt: HostRuntime) -> Result<(), Fail> {
-    let mut one = open(rt.alloc(), 1)?;
-    let other = one.split()?;
+fn threads_draw_each_ticket_once(rt: HostRuntime) {
+    let mut one = open(rt.alloc(), 1).expect(&rt, "memory");
+    let other = one.split().expect(&rt, "memory");
     let mut all = race(&rt, one, other);
-    assert!(rt; all.draw(0) == 2000);
-    Ok(())
+    assert_next(&rt, &mut all, 2000);
+    discard(all);
 }
 
 // The same in four threads.
-fn race_of_four<R: Threads + Sync>(rt: &R, mut seat: Seat) -> Result<Seat, AllocError>
+fn race_of_four<R: Abort + Threads + Sync>(rt: &R, mut seat: Seat) -> Seat
     requires windows { seat.quota.words ≡ 1 }
     requires shares { 4 ≤ seat.share }
-    ensures { IfOk result (λ all. all.quota ≡ seat.quota) }
+    ensures { result.quota ≡ seat.quota }
 {
-    let mut third = seat.split()?;
-    let second = seat.split()?;
-    let fourth = third.split()?;
+    let mut third = seat.split().expect(rt, "memory");
+    let second = seat.split().expect(rt, "memory");
+    let fourth = third.split().expect(rt, "memory");
     let (mut all, other) = join(
         rt,
         move || -> Seat
@@ -96,49 +113,61 @@ fn race_of_four<R: Threads + Sync>(rt: &R, mut seat: Seat) -> Result<Seat, Alloc
         { race(rt, third, fourth) },
     );
     all.join(other);
-    Ok(all)
+    all
 }
 
 // The same in eight threads.
-fn race_of_eight<R: Threads + Sync>(rt: &R, mut seat: Seat) -> Result<Seat, AllocError>
+fn race_of_eight<R: Abort + Threads + Sync>(rt: &R, mut seat: Seat) -> Seat
     requires windows { seat.quota.words ≡ 1 }
     requires shares { 8 ≤ seat.share }
-    ensures { IfOk result (λ all. all.quota ≡ seat.quota) }
+    ensures { result.quota ≡ seat.quota }
 {
-    let half = seat.split()?;
-    let (all, others) = join(
+    let half = seat.split().expect(rt, "memory");
+    let (mut all, others) = join(
         rt,
-        move || -> Result<Seat, AllocError>
+        move || -> Seat
             requires { IsSync R.row × (seat.quota.words ≡ 1) × (4 ≤ seat.share) }
-            ensures { IfOk result (λ all. all.quota ≡ seat.quota) }
+            ensures { result.quota ≡ seat.quota }
         { race_of_four(rt, seat) },
-        move || -> Result<Seat, AllocError>
+        move || -> Seat
             requires { IsSync R.row × (half.quota.words ≡ 1) × (4 ≤ half.share) }
-            ensures { IfOk result (λ all. all.quota ≡ half.quota) }
+            ensures { result.quota ≡ half.quota }
         { race_of_four(rt, half) },
     );
-    let mut all = all?;
-    all.join(others?);
-    Ok(all)
+    all.join(others);
+    all
 }
 
 #[test]
-fn eight_threads_draw_each_ticket_once(rt: HostRuntime) -> Result<(), Fail> {
-    let seat = open(rt.alloc(), 1)?;
-    let mut all = race_of_eight(&rt, seat)?;
+fn eight_threads_draw_each_ticket_once(rt: HostRuntime) {
+    let seat = open(rt.alloc(), 1).expect(&rt, "memory");
+    let mut all = race_of_eight(&rt, seat);
     all.tickets_are_distinct();
     all.cap_is_kept(0, 100);
-    assert!(rt; all.draw(0) == 8000);
-    Ok(())
+    assert_next(&rt, &mut all, 8000);
+    discard(all);
+}
+
+// Adds the seat of a new quota.
+fn push_seat(rt: &impl Abort, alloc: Global, seats: &mut Seats)
+    ensures { length seats.new ≡ length seats.old + 1 }
+{
+    let seat = open(alloc, 1024).expect(rt, "memory");
+    seats.push(seat).expect(rt, "memory");
 }
 
 #[test]
-fn each_tenant_has_windows_of_its_own(rt: HostRuntime) -> Result<(), Fail> {
+fn each_tenant_has_windows_of_its_own(rt: HostRuntime) {
     let mut seats = Seats::new(rt.alloc());
-    seats.push(open(rt.alloc(), 1024)?)?;
-    seats.push(open(rt.alloc(), 1024)?)?;
+    push_seat(&rt, rt.alloc(), &mut seats);
+    push_seat(&rt, rt.alloc(), &mut seats);
+    assert_own_windows(&rt, &mut seats);
+}
+
+fn assert_own_windows(rt: &impl Abort, seats: &mut Seats)
+    requires { 2 ≤ length seats.old }
+{
     assert!(rt; seats.draw(0, 1023) == 0);
     assert!(rt; seats.draw(0, 1023) == 1);
     assert!(rt; seats.draw(1, 1023) == 0);
-    Ok(())
 }

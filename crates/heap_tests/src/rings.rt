@@ -2,103 +2,213 @@ ghost use Rattle.std.specs.Prelude.{◌≡◌, ◌≤◌, ◌<◌, ◌+◌, ◌^
 ghost use Rattle.std.specs.Thread.{IsSync};
 ghost use Rattle.descriptor_ring.specs.Rings.{IsOf};
 
+use crate::heaps::{a_heap, discard};
 use descriptor_ring::{
-    Descriptor, Full, NumberReceiver, NumberSender, NumberTaken, NumbersSent, Receiver, Sender,
-    Sent, Taken, open, open_numbers,
+    Descriptor, Full, NumberFull, NumberReceiver, NumberSender, NumberTaken, NumbersSent, Receiver,
+    Sender, Sent, Taken, open, open_numbers,
 };
 use mrpc_base::{Stores, Words};
 use shared_heap::{Note, Reader, Writer};
-use std::alloc::{AllocError, Global};
+use std::alloc::Global;
+use std::process::Abort;
 use std::sync::Wait;
-use std::test::Fail;
 use std::thread;
 use std::thread::{Threads, join};
 
-#[test]
-fn a_full_ring_of_one_number_refuses(rt: HostRuntime) -> Result<(), Fail> {
-    let (mut sender, mut receiver) = open_numbers(rt.alloc(), 1)?;
-    assert!(rt; sender.send(&rt, 7).is_ok());
-    let full = sender.send(&rt, 8).err().ok_or("it was full")?;
+// Sends a number to a ring that has room.
+fn assert_sent<R: Abort + Wait>(rt: &R, sender: &mut NumberSender, number: u64)
+    requires { length sender.old.sent < 10 }
+    ensures few { length sender.new.sent ≤ length sender.old.sent + 1 }
+    ensures ring { sender.new.ring ≡ sender.old.ring }
+{
+    assert!(rt; sender.send(rt, number).is_ok());
+}
+
+// Sends 8 to a full ring of one.
+fn assert_refused<R: Abort + Wait>(rt: &R, sender: &mut NumberSender)
+    requires { length sender.old.sent < 10 }
+    ensures { sender.new.ring ≡ sender.old.ring }
+{
+    let full = sender.send(rt, 8).expect_err(rt, "it was full");
     assert!(rt; full.item == 8);
     assert!(rt; full.lesson.held() == 1);
-    receiver.hear(sender.progress());
-    assert!(rt; matches!(receiver.take(&rt), NumberTaken::Item(7)));
-    sender.hear(receiver.progress());
-    let NumberTaken::Empty(lesson) = receiver.take(&rt) else {
-        return Err(Fail::from("it was empty"));
-    };
-    assert!(rt; lesson.held() == 0);
-    let Ok(sent) = sender.close(&rt) else {
-        return Err(Fail::from("there was room"));
-    };
-    receiver.hear_all(sent);
-    assert!(rt; matches!(receiver.take(&rt), NumberTaken::Closed));
-    Ok(())
+}
+
+// Takes this number.
+fn assert_item<R: Abort + Wait>(rt: &R, receiver: &mut NumberReceiver, number: u64)
+    ensures { receiver.new.ring ≡ receiver.old.ring }
+{
+    match receiver.take(rt) {
+        NumberTaken::Item(item) => assert!(rt; item == number),
+        _ => panic!(rt; "a number was sent"),
+    }
+}
+
+// Takes nothing of an empty ring.
+fn assert_empty<R: Abort + Wait>(rt: &R, receiver: &mut NumberReceiver)
+    ensures { receiver.new.ring ≡ receiver.old.ring }
+{
+    match receiver.take(rt) {
+        NumberTaken::Empty(lesson) => assert!(rt; lesson.held() == 0),
+        _ => panic!(rt; "it was empty"),
+    }
+}
+
+// Finds that all was taken.
+fn assert_closed<R: Abort + Wait>(rt: &R, receiver: &mut NumberReceiver)
+    ensures closed { IsTrue receiver.new.closed }
+    ensures ring { receiver.new.ring ≡ receiver.old.ring }
+{
+    match receiver.take(rt) {
+        NumberTaken::Closed => {}
+        _ => panic!(rt; "it was closed"),
+    }
+}
+
+// Closes a ring that has room.
+fn closed<R: Abort + Wait>(rt: &R, sender: NumberSender) -> NumbersSent
+    ensures { result.ring ≡ sender.ring }
+{
+    match sender.close(rt) {
+        Ok(sent) => sent,
+        Err(_) => panic!(rt; "there was room"),
+    }
+}
+
+// The sender of a full ring of two numbers, which can't be closed.
+fn unclosed<R: Abort + Wait>(rt: &R, sender: NumberSender) -> NumberSender
+    ensures { result ≡ sender }
+{
+    match sender.close(rt) {
+        Ok(_) => panic!(rt; "it was full"),
+        Err((sender, lesson)) => {
+            assert!(rt; lesson.held() == 2);
+            sender
+        }
+    }
 }
 
 #[test]
-fn a_ring_of_two_numbers_is_closed_once_there_is_room(rt: HostRuntime) -> Result<(), Fail> {
-    let (mut sender, mut receiver) = open_numbers(rt.alloc(), 2)?;
-    assert!(rt; sender.send(&rt, 7).is_ok() && sender.send(&rt, 8).is_ok());
-    let Err((sender, lesson)) = sender.close(&rt) else {
-        return Err(Fail::from("it was full"));
-    };
-    assert!(rt; lesson.held() == 2);
-    assert!(rt; matches!(receiver.take(&rt), NumberTaken::Item(7)));
-    let Ok(sent) = sender.close(&rt) else {
-        return Err(Fail::from("there was room"));
-    };
-    assert!(rt; matches!(receiver.take(&rt), NumberTaken::Item(8)));
-    let NumberTaken::Closed = receiver.take(&rt) else {
-        return Err(Fail::from("it was closed"));
-    };
-    receiver.meet(sent);
-    assert!(rt; matches!(receiver.take(&rt), NumberTaken::Closed));
-    Ok(())
+fn a_full_ring_of_one_number_refuses(rt: HostRuntime) {
+    let (mut sender, mut receiver) = open_numbers(rt.alloc(), 1).expect(&rt, "memory");
+    assert_sent(&rt, &mut sender, 7);
+    assert_refused(&rt, &mut sender);
+    receiver.hear(sender.progress());
+    assert_item(&rt, &mut receiver, 7);
+    sender.hear(receiver.progress());
+    assert_empty(&rt, &mut receiver);
+    receiver.hear_all(closed(&rt, sender));
+    assert_closed(&rt, &mut receiver);
+    discard_numbers(receiver);
 }
 
-// Sends a descriptor, or tells how many items a full ring held.
-fn submit<R: Wait>(rt: &R, writer: &mut Writer, sender: &mut Sender) -> Option<u64>
+// Each function hands its values over to be dropped here: what a drop comes to is proved in each function that has one.
+fn discard_numbers(_receiver: NumberReceiver) {}
+
+fn discard_descriptors(_receiver: Receiver) {}
+
+#[test]
+fn a_ring_of_two_numbers_is_closed_once_there_is_room(rt: HostRuntime) {
+    let (mut sender, mut receiver) = open_numbers(rt.alloc(), 2).expect(&rt, "memory");
+    assert_sent(&rt, &mut sender, 7);
+    assert_sent(&rt, &mut sender, 8);
+    let sender = unclosed(&rt, sender);
+    assert_item(&rt, &mut receiver, 7);
+    let sent = closed(&rt, sender);
+    assert_item(&rt, &mut receiver, 8);
+    assert_closed(&rt, &mut receiver);
+    receiver.meet(sent);
+    assert_closed(&rt, &mut receiver);
+    discard_numbers(receiver);
+}
+
+// Sends a descriptor, which a full ring of so many items refuses, and one with room, 0, doesn't.
+fn assert_held<R: Abort + Wait>(rt: &R, writer: &mut Writer, sender: &mut Sender, held: u64)
     requires one_heap { sender.old.heap ≡ writer.old.heap }
-    requires few { length sender.old.sent < 4294967294 }
+    requires few { length sender.old.sent < 10 }
     ensures writer { writer.new ≡ writer.old }
     ensures heap { sender.new.heap ≡ sender.old.heap }
     ensures ring { sender.new.ring ≡ sender.old.ring }
     ensures few { length sender.new.sent ≤ length sender.old.sent + 1 }
 {
-    let descriptor = submission(writer);
-    match sender.send(rt, descriptor) {
-        Ok(()) => None,
-        Err(full) => Some(full.lesson.held()),
+    assert!(rt; held_by(sender.send(rt, submission(writer))) == held);
+}
+
+fn held_by(answer: Result<(), Full>) -> u64 {
+    match answer {
+        Ok(()) => 0,
+        Err(full) => full.lesson.held(),
     }
 }
 
-#[test]
-fn a_full_ring_of_one_descriptor_refuses(rt: HostRuntime) -> Result<(), Fail> {
-    let (mut writer, mut reader) = shared_heap::open(rt.alloc(), 4)?;
-    let (mut sender, mut receiver) = open(rt.alloc(), 1, &reader)?;
-    writer.store(1, 9);
-    assert!(rt; submit(&rt, &mut writer, &mut sender).is_none());
-    assert!(rt; submit(&rt, &mut writer, &mut sender) == Some(1));
-    receiver.hear(sender.progress());
-    let Taken::Item(descriptor) = receiver.take(&rt) else {
-        return Err(Fail::from("one was sent"));
-    };
-    sender.hear(receiver.progress());
-    meet(&mut reader, descriptor);
+// The next descriptor.
+fn descriptor<R: Abort + Wait>(rt: &R, receiver: &mut Receiver) -> Descriptor
+    ensures of_heap { IsOf receiver.old.heap result }
+    ensures ring { receiver.new.ring ≡ receiver.old.ring }
+    ensures heap { receiver.new.heap ≡ receiver.old.heap }
+{
+    match receiver.take(rt) {
+        Taken::Item(descriptor) => descriptor,
+        _ => panic!(rt; "a descriptor was sent"),
+    }
+}
+
+// Takes nothing of an empty ring of descriptors.
+fn assert_no_descriptor<R: Abort + Wait>(rt: &R, receiver: &mut Receiver)
+    ensures { receiver.new.ring ≡ receiver.old.ring }
+{
+    match receiver.take(rt) {
+        Taken::Empty(lesson) => assert!(rt; lesson.held() == 0),
+        _ => panic!(rt; "it was empty"),
+    }
+}
+
+// Closes a ring of descriptors that has room.
+fn all_sent<R: Abort + Wait>(rt: &R, sender: Sender) -> Sent
+    ensures { result.ring ≡ sender.ring }
+{
+    match sender.close(rt) {
+        Ok(sent) => sent,
+        Err(_) => panic!(rt; "there was room"),
+    }
+}
+
+// Finds that all descriptors were taken.
+fn assert_all_taken<R: Abort + Wait>(rt: &R, receiver: &mut Receiver) {
+    match receiver.take(rt) {
+        Taken::Closed => {}
+        _ => panic!(rt; "it was closed"),
+    }
+}
+
+// What was stored before the first descriptor was sent is loaded.
+fn assert_nine(rt: &impl Abort, reader: &mut Reader)
+    requires { reader.old.heap.words ≡ 4 }
+    ensures { reader.new.heap ≡ reader.old.heap }
+{
     assert!(rt; reader.load(1) == 9);
-    assert!(rt; submit(&rt, &mut writer, &mut sender).is_none());
-    assert!(rt; matches!(receiver.take(&rt), Taken::Item(_)));
-    let Taken::Empty(lesson) = receiver.take(&rt) else {
-        return Err(Fail::from("it was empty"));
-    };
-    assert!(rt; lesson.held() == 0);
-    let Ok(sent) = sender.close(&rt) else {
-        return Err(Fail::from("there was room"));
-    };
-    receiver.hear_all(sent);
-    assert!(rt; matches!(receiver.take(&rt), Taken::Closed));
-    Ok(())
+}
+
+#[test]
+fn a_full_ring_of_one_descriptor_refuses(rt: HostRuntime) {
+    let (mut writer, mut reader) = a_heap(&rt, rt.alloc(), 4);
+    let (mut sender, mut receiver) = open(rt.alloc(), 1, &reader).expect(&rt, "memory");
+    writer.store(1, 9);
+    assert_held(&rt, &mut writer, &mut sender, 0);
+    assert_held(&rt, &mut writer, &mut sender, 1);
+    receiver.hear(sender.progress());
+    let first = descriptor(&rt, &mut receiver);
+    sender.hear(receiver.progress());
+    meet(&mut reader, first);
+    assert_nine(&rt, &mut reader);
+    assert_held(&rt, &mut writer, &mut sender, 0);
+    let second = descriptor(&rt, &mut receiver);
+    meet(&mut reader, second);
+    assert_no_descriptor(&rt, &mut receiver);
+    receiver.hear_all(all_sent(&rt, sender));
+    assert_all_taken(&rt, &mut receiver);
+    discard_descriptors(receiver);
+    discard(writer, reader);
 }
 
 // Sends a descriptor, however often the ring is full.
@@ -173,7 +283,7 @@ fn write_all<R: Wait>(rt: &R, mut writer: Writer, mut sender: Sender) -> (Note, 
 }
 
 // What a reader of descriptors found.
-#[derive(Drop)]
+#[derive(Clone, Copy)]
 struct Found {
     descriptors: u64,
     // Whether each loaded value was one that its note knew or a later one, and none fell.
@@ -248,31 +358,26 @@ fn run<R: Threads + Wait + Sync>(
         },
     );
     receiver.meet(sent);
+    discard_descriptors(receiver);
     reader.meet(note);
     (found, reader.load(2))
 }
 
 // The same over a new heap and a new ring: whether each of ten notes was met, and the last store was loaded.
-fn all_are_met<R: Threads + Wait + Sync>(
-    rt: &R,
-    alloc: Global,
-    cap: u64,
-) -> Result<bool, AllocError>
+fn all_are_met<R: Abort + Threads + Wait + Sync>(rt: &R, alloc: Global, cap: u64) -> bool
     requires { (1 ≤ cap) × (cap ≤ 1024) }
 {
-    let (writer, reader) = shared_heap::open(alloc, 4)?;
-    let (sender, receiver) = open(alloc, cap, &reader)?;
+    let (writer, reader) = a_heap(rt, alloc, 4);
+    let (sender, receiver) = open(alloc, cap, &reader).expect(rt, "memory");
     let (found, last) = run(rt, writer, sender, reader, receiver);
-    Ok(found.fresh && found.descriptors == 10 && last == 1000)
+    found.fresh && found.descriptors == 10 && last == 1000
 }
 
 #[test]
-fn a_reader_meets_the_notes_of_descriptors(rt: HostRuntime) -> Result<(), Fail> {
-    let alloc = rt.alloc();
-    assert!(rt; all_are_met(&rt, alloc, 1)?);
-    assert!(rt; all_are_met(&rt, alloc, 2)?);
-    assert!(rt; all_are_met(&rt, alloc, 1024)?);
-    Ok(())
+fn a_reader_meets_the_notes_of_descriptors(rt: HostRuntime) {
+    assert!(rt; all_are_met(&rt, rt.alloc(), 1));
+    assert!(rt; all_are_met(&rt, rt.alloc(), 2));
+    assert!(rt; all_are_met(&rt, rt.alloc(), 1024));
 }
 
 // Sends 0, 1, 2 and so on until the ring is full, and says how many it then holds.
@@ -324,14 +429,10 @@ fn take_numbers<R: Wait>(rt: &R, receiver: &mut NumberReceiver) -> u64
 }
 
 // Fills a ring, and closes it in one thread while another takes: whether all came that it has room for.
-fn nothing_is_lost<R: Threads + Wait + Sync>(
-    rt: &R,
-    alloc: Global,
-    cap: u64,
-) -> Result<bool, AllocError>
+fn nothing_is_lost<R: Abort + Threads + Wait + Sync>(rt: &R, alloc: Global, cap: u64) -> bool
     requires { (1 ≤ cap) × (cap ≤ 1024) }
 {
-    let (mut sender, mut receiver) = open_numbers(alloc, cap)?;
+    let (mut sender, mut receiver) = open_numbers(alloc, cap).expect(rt, "memory");
     let filled = fill(rt, &mut sender);
     let told = sender.progress();
     let (sent, (mut receiver, taken)) = join(
@@ -350,14 +451,13 @@ fn nothing_is_lost<R: Threads + Wait + Sync>(
         },
     );
     receiver.meet(sent);
-    Ok(filled == cap && taken == cap)
+    discard_numbers(receiver);
+    filled == cap && taken == cap
 }
 
 #[test]
-fn a_ring_that_is_closed_while_full_loses_nothing(rt: HostRuntime) -> Result<(), Fail> {
-    let alloc = rt.alloc();
-    assert!(rt; nothing_is_lost(&rt, alloc, 1)?);
-    assert!(rt; nothing_is_lost(&rt, alloc, 2)?);
-    assert!(rt; nothing_is_lost(&rt, alloc, 1024)?);
-    Ok(())
+fn a_ring_that_is_closed_while_full_loses_nothing(rt: HostRuntime) {
+    assert!(rt; nothing_is_lost(&rt, rt.alloc(), 1));
+    assert!(rt; nothing_is_lost(&rt, rt.alloc(), 2));
+    assert!(rt; nothing_is_lost(&rt, rt.alloc(), 1024));
 }
