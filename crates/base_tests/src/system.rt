@@ -71,17 +71,57 @@ fn a_writer_that_takes_nothing_has_failed(rt: HostRuntime) {
     assert!(rt; sink.write(b"c") == Put::Failed);
 }
 
+// The file as a sink. Its drop is by hand, so that it is one call in a test, and not a drop of each part.
+struct Wire {
+    sink: FileSink<HostRuntime>,
+}
+
+impl Drop for Wire {
+    fn drop(self) {
+        let Wire { sink: _sink } = self;
+    }
+}
+
+impl Wire {
+    fn new(rt: HostRuntime) -> Self {
+        Wire {
+            sink: FileSink::new(rt),
+        }
+    }
+
+    // Whether a write takes all of two bytes.
+    fn takes(&mut self, piece: &[u8; 2]) -> bool {
+        self.sink.write(piece.as_slice()) == Put::Took(2)
+    }
+}
+
+// Whether the file holds these bytes.
+fn holds(rt: HostRuntime, expected: &[u8]) -> bool {
+    match fs::read(&rt, "mrpc.wire") {
+        Ok(bytes) => bytes.as_slice() == expected,
+        Err(_) => false,
+    }
+}
+
+// Whether two writes are taken, one behind the other.
+fn writes(rt: HostRuntime, wire: &mut Wire) -> bool {
+    wire.takes(b"ab") && wire.takes(b"cd") && holds(rt, b"abcd")
+}
+
+// Whether a write fails while another sink has written these bytes, and they stay.
+fn is_shut_out(rt: HostRuntime, wire: &mut Wire) -> bool {
+    !wire.takes(b"ef") && holds(rt, b"abcd")
+}
+
 #[test]
 fn the_file_is_made_at_the_first_write_for_one_sink_alone(rt: HostRuntime) -> Result<(), Fail> {
-    let mut wire = FileSink::new(rt);
-    assert!(rt; wire.write(b"ab") == Put::Took(2));
-    assert!(rt; wire.write(b"c") == Put::Took(1));
-    let mut other = FileSink::new(rt);
-    assert!(rt; other.write(b"d") == Put::Failed);
-    assert!(rt; fs::read(&rt, "mrpc.wire")?.as_slice() == b"abc".as_slice());
+    let mut wire = Wire::new(rt);
+    assert!(rt; writes(rt, &mut wire));
+    let mut other = Wire::new(rt);
+    assert!(rt; is_shut_out(rt, &mut other));
     drop(wire);
-    assert!(rt; other.write(b"d") == Put::Took(1));
-    assert!(rt; fs::read(&rt, "mrpc.wire")?.as_slice() == b"d".as_slice());
+    assert!(rt; other.takes(b"ef"));
+    assert!(rt; holds(rt, b"ef"));
     fs::remove_file(&rt, "mrpc.wire")?;
     Ok(())
 }
