@@ -4,7 +4,7 @@ use Rattle.std.proofs.lemmas.List.{append-nil}
 use Rattle.table_text.specs.Judged.{Types, Before, nothing, values, fields, after, method_key}
 use Rattle.table_text.specs.Judged as faults
 use Rattle.table_text.specs.Places.{Holds}
-use Rattle.table_text.specs.Drafts.{open_enum, open_message, open_part, enum_names, message_names, method_names, names_in, oneofs_of, before, closed, with_enum, with_message, with_value, with_field, with_part, field_of, method_of, added}
+use Rattle.table_text.specs.Drafts.{open_enum, open_message, open_part, enum_names, message_names, method_names, names_in, oneofs_of, before, closed, with_enum, with_message, with_value, with_field, with_part, joined_with, joined_parts, with_parts, new_oneof, field_of, method_of, added}
 use Rattle.table_text.specs.Readers.{IsKept}
 use Rattle.mrpc_table.specs.declared.table.Field.{Field as TheField}
 use Rattle.mrpc_table.specs.declared.table.Message.{Message as TheMessage}
@@ -141,45 +141,54 @@ kept_method t r e methods m ps inner oneofs is more h added none no_oneofs =
       oneofs = subst (λ (o : Open). Holds oneofs (oneofs_of o)) (sym part) no_oneofs;
     }
 
-pub kept_value : (t : Types) (r : Reader) (c : Choices) (z : ℤ) (name : List ℕ) (vs : List (ℤ × List ℕ)) (ps : Places) → r.draft.open_part ≡ open_parts.Enum c → vs ≡ c.values ++ (z, name) ∷ [] → IsKept t r → Holds ps (map (λ v. v.1) c.values ++ name ∷ [])
+pub kept_value : (t : Types) (r : Reader) (c : Choices) (z : ℤ) (name : List ℕ) (part : Open) (ps : Places) → r.draft.open_part ≡ open_parts.Enum c → IsKept t r → Holds ps (map (λ v. v.1) c.values ++ name ∷ []) → part ≡ with_value r.draft.open_part (Within z) name
     → IsKept t (record {
       known_enums = r.known_enums;
       known_messages = r.known_messages;
-      draft = record { enums = r.draft.enums; messages = r.draft.messages; methods = r.draft.methods; open_part = open_parts.Enum (record { name = c.name; values = vs }) };
+      draft = record { enums = r.draft.enums; messages = r.draft.messages; methods = r.draft.methods; open_part = part };
       enum_names = r.enum_names;
       message_names = r.message_names;
       method_names = r.method_names;
       inner_names = ps;
       oneofs = r.oneofs;
     })
-kept_value t r c z name vs ps is more h added = record {
-  enums = h.enums;
-  messages = h.messages;
-  enum_names = subst (λ (o : Open). Holds r.enum_names (map (λ e. e.name) r.draft.enums ++ open_enum o)) is h.enum_names;
-  message_names = subst (λ (o : Open). Holds r.message_names (map (λ m. m.name) r.draft.messages ++ open_message o)) is h.message_names;
-  method_names = h.method_names;
-  inner_names = subst (Holds ps) (sym (ap (map (λ v. v.1)) more ∙ map_push (λ v. v.1) c.values (z, name))) added;
-  oneofs = subst (λ (o : Open). Holds r.oneofs (oneofs_of o)) is h.oneofs;
-}
+kept_value t r c z name part ps is h added made =
+    let whole : part ≡ open_parts.Enum (record { name = c.name; values = c.values ++ (z, name) ∷ [] }) = made ∙ ap (λ (o : Open). with_value o (Within z) name) is in
+    rw whole (record {
+      enums = h.enums;
+      messages = h.messages;
+      enum_names = subst (λ (o : Open). Holds r.enum_names (map (λ e. e.name) r.draft.enums ++ open_enum o)) is h.enum_names;
+      message_names = subst (λ (o : Open). Holds r.message_names (map (λ m. m.name) r.draft.messages ++ open_message o)) is h.message_names;
+      method_names = h.method_names;
+      inner_names = subst (Holds ps) (sym (map_push (λ v. v.1) c.values (z, name))) added;
+      oneofs = subst (λ (o : Open). Holds r.oneofs (oneofs_of o)) is h.oneofs;
+    })
 
-pub kept_field : (t : Types) (r : Reader) (m : TheMessage) (f : TheField) (fs : List TheField) (oneofs : List (List ℕ)) (ps places : Places) → r.draft.open_part ≡ open_parts.Message m → fs ≡ m.fields ++ f ∷ [] → IsKept t r
-    → Holds ps (map (λ (p : ℕ × List ℕ). p.1) (map numbered m.fields) ++ f.name ∷ []) → Holds places oneofs
+-- a field and its oneof make what their line adds
+pub parts_made : (t : Types) (o : Open) (m : TheMessage) (number : Option ℕ) (n : ℕ) (line : FieldLine) (f : TheField) (oneof : Option (List ℕ)) → o ≡ open_parts.Message m → number ≡ Some n
+    → f ≡ field_of t (oneofs_of o) n line → oneof ≡ new_oneof (oneofs_of o) line.label → with_parts o f oneof ≡ with_field t o number line
+parts_made t o m number n line f oneof is some made new = rw (made, new, is, some) refl
+
+pub kept_field : (t : Types) (r : Reader) (m : TheMessage) (f : TheField) (oneof : Option (List ℕ)) (part : Open) (ps places : Places) → r.draft.open_part ≡ open_parts.Message m → IsKept t r → Holds ps (map (λ (p : ℕ × List ℕ). p.1) (map numbered m.fields) ++ f.name ∷ [])
+    → Holds places (joined_with m.oneofs oneof) → part ≡ with_parts r.draft.open_part f oneof
     → IsKept t (record {
       known_enums = r.known_enums;
       known_messages = r.known_messages;
-      draft = record { enums = r.draft.enums; messages = r.draft.messages; methods = r.draft.methods; open_part = open_parts.Message (record { name = m.name; fields = fs; oneofs = oneofs }) };
+      draft = record { enums = r.draft.enums; messages = r.draft.messages; methods = r.draft.methods; open_part = part };
       enum_names = r.enum_names;
       message_names = r.message_names;
       method_names = r.method_names;
       inner_names = ps;
       oneofs = places;
     })
-kept_field t r m f fs oneofs ps places is more h added no_oneofs = record {
-  enums = h.enums;
-  messages = h.messages;
-  enum_names = subst (λ (o : Open). Holds r.enum_names (map (λ e. e.name) r.draft.enums ++ open_enum o)) is h.enum_names;
-  message_names = subst (λ (o : Open). Holds r.message_names (map (λ m. m.name) r.draft.messages ++ open_message o)) is h.message_names;
-  method_names = h.method_names;
-  inner_names = subst (Holds ps) (sym (ap (λ (gs : List TheField). map (λ (p : ℕ × List ℕ). p.1) (map numbered gs)) more ∙ ap (map (λ (p : ℕ × List ℕ). p.1)) (map_push numbered m.fields f) ∙ map_push (λ (p : ℕ × List ℕ). p.1) (map numbered m.fields) (f.number, f.name))) added;
-  oneofs = no_oneofs;
-}
+kept_field t r m f oneof part ps places is h added placed made =
+    let whole : part ≡ open_parts.Message (joined_parts m f oneof) = made ∙ ap (λ (o : Open). with_parts o f oneof) is in
+    rw whole (record {
+      enums = h.enums;
+      messages = h.messages;
+      enum_names = subst (λ (o : Open). Holds r.enum_names (map (λ e. e.name) r.draft.enums ++ open_enum o)) is h.enum_names;
+      message_names = subst (λ (o : Open). Holds r.message_names (map (λ m. m.name) r.draft.messages ++ open_message o)) is h.message_names;
+      method_names = h.method_names;
+      inner_names = subst (Holds ps) (sym (ap (map (λ (p : ℕ × List ℕ). p.1)) (map_push numbered m.fields f) ∙ map_push (λ (p : ℕ × List ℕ). p.1) (map numbered m.fields) (f.number, f.name))) added;
+      oneofs = placed;
+    })

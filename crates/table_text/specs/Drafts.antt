@@ -121,6 +121,14 @@ with_value o z name = o
 abbrev pub field_of : Types → List (List ℕ) → ℕ → FieldLine → TheField
 field_of t oneofs n f = record { number = n; name = f.name; kind = resolved t f.kind; label = labeled t oneofs f.label }
 
+-- a message with one field more, and with its oneof, where that is new
+abbrev pub joined_parts : TheMessage → TheField → Option (List ℕ) → TheMessage
+joined_parts m f oneof = record { name = m.name; fields = m.fields ++ f ∷ []; oneofs = joined_with m.oneofs oneof }
+
+abbrev pub with_parts : Open → TheField → Option (List ℕ) → Open
+with_parts (open_parts.Message m) f oneof = open_parts.Message (joined_parts m f oneof)
+with_parts o f oneof = o
+
 abbrev pub with_field : Types → Open → Option ℕ → FieldLine → Open
 with_field t (open_parts.Message m) (Some n) f =
     open_parts.Message (record {

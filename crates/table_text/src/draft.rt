@@ -1,23 +1,24 @@
 //! A table while its text is read.
 
-ghost use Rattle.std.specs.Prelude.{◌≡◌, ◌<◌, ◌==◌, ◌++◌, ◌∷◌, ℕ, [], length, map, not, nat_le, option_map, IsTrue, OnOk};
+ghost use Rattle.std.specs.Prelude.{◌≡◌, ◌<◌, ◌==◌, ◌++◌, ◌∷◌, ℕ, [], length, map, not, nat_le, option_map, IsTrue, IfOk, OnOk};
 ghost use Rattle.std.specs.Prelude.{pos};
 ghost use Rattle.std.specs.Ordering.{int_eq};
 ghost use Rattle.std.specs.List.{list_any};
 ghost use Rattle.std.specs.Option.{option_copied};
 ghost use Rattle.table_text.specs.Judged.{last_of, is_below, is_empty, falls, is_value_below, lacks_value, lacks_zero, value_falls, is_field_below, field_falls, is_index, has_field_number, open_count, repeats_number};
-ghost use Rattle.table_text.specs.Drafts.{open_part, enum_names, message_names, method_names, closed, empty_draft};
+ghost use Rattle.table_text.specs.declared.line.Whole.TheVariants.{Within};
+ghost use Rattle.table_text.specs.Drafts.{open_part, enum_names, message_names, method_names, with_enum, with_message, with_value, joined_parts, with_parts, closed, table_of, empty_draft};
 
 use crate::line::Whole;
 use mrpc_table::{
-    Choices, Enums, MAX_ENUMS, MAX_MESSAGES, Memory, Message, Messages, Methods, Name, Sequence,
+    Choices, Enums, Field, MAX_ENUMS, MAX_MESSAGES, Memory, Message, Messages, Methods, Name,
+    Sequence, Table,
 };
 use std::alloc::Global;
 use std::cmp::Ordering;
 use std::mem;
 
 /// The enum or the message to which a line may add.
-#[derive(Drop)]
 pub enum Open {
     Nothing,
     Enum(Choices),
@@ -25,12 +26,42 @@ pub enum Open {
 }
 
 /// The parts that are whole, and the one that is open.
-#[derive(Drop)]
 pub struct Draft {
     pub enums: Enums,
     pub messages: Messages,
     pub methods: Methods,
     pub open_part: Open,
+}
+
+impl Drop for Open {
+    fn drop(self) {
+        match self {
+            Open::Nothing => {}
+            Open::Enum(_choices) => {}
+            Open::Message(_message) => {}
+        }
+    }
+}
+
+impl Drop for Draft {
+    fn drop(self) {
+        let Draft {
+            enums: _enums,
+            messages: _messages,
+            methods: _methods,
+            open_part: _open_part,
+        } = self;
+    }
+}
+
+fn add_parts(message: &mut Message, field: Field, oneof: Option<Name>) -> Result<(), Memory>
+    ensures { OnOk result (message.new ≡ joined_parts message.old field oneof) }
+{
+    message.fields.push(field)?;
+    match oneof {
+        Some(name) => message.oneofs.push(name),
+        None => Ok(()),
+    }
 }
 
 /// A name is below another, byte by byte.
@@ -141,6 +172,38 @@ impl Open {
         }
     }
 
+    /// Adds a value to an enum.
+    pub fn add_value(&mut self, number: i32, name: Name) -> Result<(), Memory>
+        ensures { OnOk result (self.new ≡ with_value self.old (Within number) name) }
+    {
+        match self {
+            Open::Enum(choices) => choices.values.push((number, name)),
+            _ => Ok(()),
+        }
+    }
+
+    /// Adds a field to a message, and its oneof, where that is new.
+    pub fn add_field(&mut self, field: Field, oneof: Option<Name>) -> Result<(), Memory>
+        ensures { OnOk result (self.new ≡ with_parts self.old field oneof) }
+    {
+        match self {
+            Open::Message(message) => add_parts(message, field, oneof),
+            _ => Ok(()),
+        }
+    }
+
+    // Puts the part among the whole ones.
+    fn join(self, enums: &mut Enums, messages: &mut Messages) -> Result<(), Memory>
+        ensures enums { OnOk result (enums.new ≡ with_enum self enums.old) }
+        ensures messages { OnOk result (messages.new ≡ with_message self messages.old) }
+    {
+        match self {
+            Open::Nothing => Ok(()),
+            Open::Enum(choices) => enums.push(choices),
+            Open::Message(message) => messages.push(message),
+        }
+    }
+
     /// How many values or fields there are.
     pub fn count(&self) -> usize
         ensures { result ≡ open_count (open_part self.now) }
@@ -220,11 +283,24 @@ impl Draft {
     pub fn close(&mut self) -> Result<(), Memory>
         ensures { OnOk result (self.new ≡ closed self.old) }
     {
-        match mem::replace(&mut self.open_part, Open::Nothing) {
-            Open::Nothing => {}
-            Open::Enum(choices) => self.enums.push(choices)?,
-            Open::Message(message) => self.messages.push(message)?,
-        }
-        Ok(())
+        mem::replace(&mut self.open_part, Open::Nothing).join(&mut self.enums, &mut self.messages)
+    }
+
+    /// The table of the parts, the open one among them.
+    pub fn into_table(mut self) -> Result<Table, Memory>
+        ensures { IfOk result (λ t. t ≡ table_of self) }
+    {
+        self.close()?;
+        let Draft {
+            enums,
+            messages,
+            methods,
+            open_part: _open_part,
+        } = self;
+        Ok(Table {
+            messages,
+            enums,
+            methods,
+        })
     }
 }

@@ -5,36 +5,31 @@ ghost use Rattle.table_text.specs.declared.fault.TableFault.TheVariants.{Memory 
 
 use mrpc_table::Memory;
 use std::alloc::{AllocError, AllocFailed};
+use std::fmt;
 use thiserror::Error;
 
 /// What is wrong with a line. Of several reasons at one line, the first of this list counts.
-#[derive(Clone, Copy, Debug, PartialEq, Eq, Error)]
+#[derive(Clone, Copy, Debug)]
 pub enum TableReason {
     /// The form or the order of lines, a label that doesn't go with its kind, or an enum without a
     /// value.
-    #[error("syntax")]
     Syntax,
     /// A field number out of 1 to 536870911 or in 19000 to 19999, an enum's number out of 32 signed
     /// bits, an enum without a value 0, or a method's index out of turn.
-    #[error("number")]
     Number,
     /// A name or a field number that stands twice.
-    #[error("duplicate")]
     Duplicate,
     /// A message or an enum that no line of the text names.
-    #[error("unknown type")]
     UnknownType,
     /// A map key that is neither integral, nor a bool, nor a string.
-    #[error("map key")]
     MapKey,
     /// More than 256 messages, enums or methods, 128 fields of a message, 1024 values of an enum,
     /// 64 bytes of a name, 255 bytes of a full name, or 65536 bytes of text.
-    #[error("limit")]
     Limit,
 }
 
 /// Why no table was read.
-#[derive(Clone, Copy, Debug, PartialEq, Eq, Error)]
+#[derive(Clone, Copy, Debug, Error)]
 pub enum TableFault {
     /// The first line at fault, from 1, with its first reason.
     #[error("line {line}: {reason}")]
@@ -61,6 +56,14 @@ impl TableReason {
         }
     }
 }
+
+impl fmt::Display for TableReason {
+    fn fmt<W: fmt::Write>(&self, f: &mut fmt::Formatter<W>) -> fmt::Result {
+        f.write_str(self.word())
+    }
+}
+
+impl std::error::Error for TableReason {}
 
 impl From<Memory> for TableFault {
     ghost from_gives = { λ _ e. e ≡ NoMemory };

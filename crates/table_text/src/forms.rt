@@ -1,12 +1,13 @@
 //! A line, by its form.
 
-ghost use Rattle.std.specs.Prelude.{◌≡◌, ◌++◌, ◌∷◌, ◌==◌, ℕ, [], List, length, IfOk, IfSome, MatchOption};
+ghost use Rattle.std.specs.Prelude.{◌≡◌, ◌++◌, ◌∷◌, ◌==◌, ◌&&◌, ℕ, [], List, length, IfOk, IfSome, MatchOption};
 ghost use Rattle.mrpc_table.specs.Lines.{words_of};
+ghost use Rattle.mrpc_table.specs.Names.{is_name_form, is_full_form};
 ghost use Rattle.table_text.specs.Lines.{line_of_words, line_of, enum_of, value_of, message_of, field_of, method_of};
 
 use crate::line::{FieldLine, Line, MethodLine};
 use crate::words::{full_name_of, index_of, kind_of, label_of, name_of, whole_of};
-use mrpc_table::{Memory, cut, is_word};
+use mrpc_table::{Bytes, Memory, cut, is_full_form, is_name_form, is_word};
 use std::alloc::Global;
 
 // The first of at least two words, and the line of the others.
@@ -145,6 +146,14 @@ fn method_line(alloc: Global, line: &[u8]) -> Result<Option<Line>, Memory>
     method_of_words(alloc, index, service, name, input, output)
 }
 
+// The words of a method's names are in form.
+fn are_method_names(service: &[u8], name: &[u8], input: &[u8], output: &[u8]) -> bool
+    ensures { result ≡ is_full_form service.now && is_name_form name.now && is_full_form input.now
+        && is_full_form output.now }
+{
+    is_full_form(service) && is_name_form(name) && is_full_form(input) && is_full_form(output)
+}
+
 fn method_of_words(
     alloc: Global,
     index: &[u8],
@@ -158,24 +167,15 @@ fn method_of_words(
     let Some(index) = index_of(index) else {
         return Ok(None);
     };
-    let Some(service) = full_name_of(alloc, service)? else {
+    if !are_method_names(service, name, input, output) {
         return Ok(None);
-    };
-    let Some(name) = name_of(alloc, name)? else {
-        return Ok(None);
-    };
-    let Some(input) = full_name_of(alloc, input)? else {
-        return Ok(None);
-    };
-    let Some(output) = full_name_of(alloc, output)? else {
-        return Ok(None);
-    };
+    }
     Ok(Some(Line::Method(MethodLine {
         index,
-        service,
-        name,
-        input,
-        output,
+        service: Bytes::from_slice(alloc, service)?,
+        name: Bytes::from_slice(alloc, name)?,
+        input: Bytes::from_slice(alloc, input)?,
+        output: Bytes::from_slice(alloc, output)?,
     })))
 }
 

@@ -1,9 +1,18 @@
-//! What a line of a table's text says, in the words of the text.
+//! What a line of a table's text says, in the words of the text. Each of these values is dropped by one call, wherever
+//! it is dropped.
 
-use mrpc_table::{Kind, Name};
+ghost use Rattle.std.specs.Prelude.{◌≡◌, OnOk};
+ghost use Rattle.table_text.specs.Judged.{Types};
+ghost use Rattle.table_text.specs.Drafts.{added, method_of};
+ghost use Rattle.table_text.specs.Places.{Holds};
+ghost use Rattle.table_text.specs.Readers.{IsKept};
+
+use crate::places::Places;
+use crate::reader::Reader;
+use mrpc_table::{Kind, Memory, Method, Name};
+use std::alloc::Global;
 
 /// A kind as its word names it.
-#[derive(Drop)]
 pub enum KindWord {
     /// A scalar kind, by its name in proto3.
     Scalar(Kind),
@@ -14,7 +23,6 @@ pub enum KindWord {
 }
 
 /// A label as its word names it.
-#[derive(Drop)]
 pub enum LabelWord {
     /// `plain`
     Plain,
@@ -31,7 +39,7 @@ pub enum LabelWord {
 }
 
 /// The number of a value, however long it is written.
-#[derive(Clone, Copy, PartialEq, Eq)]
+#[derive(Clone, Copy)]
 pub enum Whole {
     /// Below every number of 32 signed bits.
     Low,
@@ -42,7 +50,6 @@ pub enum Whole {
 }
 
 /// `field NUMBER LABEL KIND NAME`
-#[derive(Drop)]
 pub struct FieldLine {
     /// The number, or `None` where it has more than 32 bits.
     pub number: Option<u32>,
@@ -52,7 +59,6 @@ pub struct FieldLine {
 }
 
 /// `method INDEX SERVICE NAME INPUT OUTPUT`
-#[derive(Drop)]
 pub struct MethodLine {
     /// The index, or `None` where it has more than 32 bits.
     pub index: Option<u32>,
@@ -63,7 +69,6 @@ pub struct MethodLine {
 }
 
 /// A line in form.
-#[derive(Drop)]
 pub enum Line {
     /// `enum FULLNAME`
     Enum(Name),
@@ -75,4 +80,109 @@ pub enum Line {
     Field(FieldLine),
     /// A method.
     Method(MethodLine),
+}
+
+impl Drop for KindWord {
+    fn drop(self) {
+        match self {
+            KindWord::Scalar(_) => {}
+            KindWord::Message(_name) | KindWord::Choice(_name) => {}
+        }
+    }
+}
+
+impl Drop for LabelWord {
+    fn drop(self) {
+        match self {
+            LabelWord::Plain | LabelWord::Optional | LabelWord::Repeated | LabelWord::Packed => {}
+            LabelWord::Map(_key) => {}
+            LabelWord::Member(_name) => {}
+        }
+    }
+}
+
+impl Drop for FieldLine {
+    fn drop(self) {
+        let FieldLine {
+            number: _,
+            label: _label,
+            kind: _kind,
+            name: _name,
+        } = self;
+    }
+}
+
+impl Drop for MethodLine {
+    fn drop(self) {
+        let MethodLine {
+            index: _,
+            service: _service,
+            name: _name,
+            input: _input,
+            output: _output,
+        } = self;
+    }
+}
+
+impl Drop for Line {
+    fn drop(self) {
+        match self {
+            Line::Enum(_name) | Line::Message(_name) | Line::Value(_, _name) => {}
+            Line::Field(_field) => {}
+            Line::Method(_method) => {}
+        }
+    }
+}
+
+impl FieldLine {
+    /// The name.
+    pub fn into_name(self) -> Name
+        ensures { result ≡ self.name }
+    {
+        let FieldLine {
+            number: _,
+            label: _label,
+            kind: _kind,
+            name,
+        } = self;
+        name
+    }
+}
+
+impl MethodLine {
+    /// The method, with the places of its messages among these.
+    pub fn into_method(self, messages: &Places) -> Method
+        ensures { (t : Types) → Holds messages.now t.messages → result ≡ method_of t self }
+    {
+        let MethodLine {
+            index: _,
+            service,
+            name,
+            input,
+            output,
+        } = self;
+        Method {
+            service,
+            name,
+            input: messages.place_or_next(input.as_slice()),
+            output: messages.place_or_next(output.as_slice()),
+        }
+    }
+}
+
+impl Line {
+    /// Adds what the line says. Of a line that no fault stands against nothing is lost.
+    pub fn add_to(self, alloc: Global, reader: &mut Reader) -> Result<(), Memory>
+        ensures draft { (t : Types) → IsKept t reader.old
+            → OnOk result (reader.new.draft ≡ added t reader.old.draft self) }
+        ensures kept { (t : Types) → IsKept t reader.old → OnOk result (IsKept t reader.new) }
+    {
+        match self {
+            Line::Enum(name) => reader.add_enum(alloc, name),
+            Line::Value(number, name) => reader.add_value(alloc, number, name),
+            Line::Message(name) => reader.add_message(alloc, name),
+            Line::Field(field) => reader.add_field(alloc, field),
+            Line::Method(method) => reader.add_method(alloc, method),
+        }
+    }
 }

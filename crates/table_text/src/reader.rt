@@ -1,6 +1,6 @@
 //! A draft with the names that were met.
 
-ghost use Rattle.std.specs.Prelude.{◌≡◌, ◌++◌, ◌∷◌, ℕ, [], length, IfOk, IfErr, OnOk, Some, None};
+ghost use Rattle.std.specs.Prelude.{◌≡◌, ◌++◌, ◌∷◌, ℕ, List, [], length, IfOk, IfErr, OnOk, Some, None};
 ghost use Rattle.table_text.specs.declared.line.Line.TheVariants.{Enum, Value, Message as MessageLine, Field as FieldOf, Method as MethodOf};
 ghost use Rattle.table_text.specs.Judged.{Types, none_before, is_type_before, is_value_before, is_field_before, method_key, is_unknown_kind, is_unknown_label, is_unknown, is_duplicate, line_fault, end_fault};
 ghost use Rattle.table_text.specs.Lines.{line_of};
@@ -15,15 +15,13 @@ use crate::judge::{is_limit, is_map_key, is_number, is_syntax};
 use crate::line::{FieldLine, KindWord, LabelWord, Line, MethodLine, Whole};
 use crate::places::Places;
 use mrpc_table::{
-    Bytes, Choices, Field, Kind, Label, Memory, Message, Method, Name, Names, Sequence, Table,
+    Bytes, Choices, Field, Kind, Label, Memory, Message, Name, Names, Sequence, Table,
 };
 use std::alloc::Global;
-use std::mem;
 
 /// A table while its text is read, with the types that the text names, and the names so far: of enums,
 /// of messages, of methods with their services, of the values or fields of the open part, and of its
 /// oneofs.
-#[derive(Drop)]
 pub struct Reader {
     pub known_enums: Places,
     pub known_messages: Places,
@@ -33,6 +31,21 @@ pub struct Reader {
     pub method_names: Places,
     pub inner_names: Places,
     pub oneofs: Places,
+}
+
+impl Drop for Reader {
+    fn drop(self) {
+        let Reader {
+            known_enums: _known_enums,
+            known_messages: _known_messages,
+            draft: _draft,
+            enum_names: _enum_names,
+            message_names: _message_names,
+            method_names: _method_names,
+            inner_names: _inner_names,
+            oneofs: _oneofs,
+        } = self;
+    }
 }
 
 // A service and a name, with a space between.
@@ -202,7 +215,7 @@ impl Reader {
                 reason,
             });
         }
-        self.add(alloc, line)?;
+        line.add_to(alloc, self)?;
         Ok(())
     }
 
@@ -231,30 +244,27 @@ impl Reader {
                 reason,
             });
         }
-        let mut draft = self.draft;
-        draft.close()?;
-        Ok(Table {
-            messages: draft.messages,
-            enums: draft.enums,
-            methods: draft.methods,
-        })
+        Ok(self.into_draft().into_table()?)
     }
 
-    /// Adds what the line says. Of a line that no fault stands against nothing is lost.
-    pub fn add(&mut self, alloc: Global, line: Line) -> Result<(), Memory>
-        ensures draft { (t : Types) → IsKept t self.old → OnOk result (self.new.draft ≡ added t self.old.draft line) }
-        ensures kept { (t : Types) → IsKept t self.old → OnOk result (IsKept t self.new) }
+    // The draft alone.
+    fn into_draft(self) -> Draft
+        ensures { result ≡ self.draft }
     {
-        match line {
-            Line::Enum(name) => self.add_enum(alloc, name),
-            Line::Value(number, name) => self.add_value(alloc, number, name),
-            Line::Message(name) => self.add_message(alloc, name),
-            Line::Field(field) => self.add_field(alloc, field),
-            Line::Method(method) => self.add_method(alloc, method),
-        }
+        let Reader {
+            known_enums: _known_enums,
+            known_messages: _known_messages,
+            draft,
+            enum_names: _enum_names,
+            message_names: _message_names,
+            method_names: _method_names,
+            inner_names: _inner_names,
+            oneofs: _oneofs,
+        } = self;
+        draft
     }
 
-    fn add_enum(&mut self, alloc: Global, name: Name) -> Result<(), Memory>
+    pub fn add_enum(&mut self, alloc: Global, name: Name) -> Result<(), Memory>
         ensures draft { OnOk result (self.new.draft ≡ added_enum self.old.draft name) }
         ensures kept { (t : Types) → IsKept t self.old → OnOk result (IsKept t self.new) }
     {
@@ -269,7 +279,7 @@ impl Reader {
         Ok(())
     }
 
-    fn add_message(&mut self, alloc: Global, name: Name) -> Result<(), Memory>
+    pub fn add_message(&mut self, alloc: Global, name: Name) -> Result<(), Memory>
         ensures draft { OnOk result (self.new.draft ≡ added_message self.old.draft name) }
         ensures kept { (t : Types) → IsKept t self.old → OnOk result (IsKept t self.new) }
     {
@@ -285,43 +295,31 @@ impl Reader {
         Ok(())
     }
 
-    fn add_value(&mut self, alloc: Global, number: Whole, name: Name) -> Result<(), Memory>
+    pub fn add_value(&mut self, alloc: Global, number: Whole, name: Name) -> Result<(), Memory>
         ensures draft { OnOk result (self.new.draft ≡ added_value self.old.draft number name) }
         ensures kept { (t : Types) → IsKept t self.old → OnOk result (IsKept t self.new) }
     {
         let Whole::Within(number) = number else {
             return Ok(());
         };
-        match mem::replace(&mut self.draft.open_part, Open::Nothing) {
-            Open::Enum(mut choices) => {
-                self.inner_names.add(alloc, name.as_slice())?;
-                choices.values.push((number, name))?;
-                self.draft.open_part = Open::Enum(choices);
-            }
-            part => self.draft.open_part = part,
-        }
-        Ok(())
+        let Open::Enum(_) = self.draft.open_part else {
+            return Ok(());
+        };
+        self.inner_names.add(alloc, name.as_slice())?;
+        self.draft.open_part.add_value(number, name)
     }
 
-    fn add_method(&mut self, alloc: Global, method: MethodLine) -> Result<(), Memory>
+    pub fn add_method(&mut self, alloc: Global, method: MethodLine) -> Result<(), Memory>
         ensures draft { (t : Types) → IsKept t self.old
             → OnOk result (self.new.draft ≡ added_method t self.old.draft method) }
         ensures kept { (t : Types) → IsKept t self.old → OnOk result (IsKept t self.new) }
     {
-        let key = key_of(alloc, &method)?;
-        self.method_names.add(alloc, key.as_slice())?;
+        add_key(alloc, &mut self.method_names, &method)?;
         self.inner_names = Places::new(alloc);
         self.oneofs = Places::new(alloc);
         self.draft.close()?;
-        let input = self.known_messages.place_or_next(method.input.as_slice());
-        let output = self.known_messages.place_or_next(method.output.as_slice());
-        self.draft.methods.push(Method {
-            service: method.service,
-            name: method.name,
-            input,
-            output,
-        })?;
-        Ok(())
+        let method = method.into_method(&self.known_messages);
+        self.draft.methods.push(method)
     }
 
     // The kind that a word names, by its place in the table.
@@ -353,6 +351,7 @@ impl Reader {
         }
     }
 
+    // A field with its number.
     fn field_of(&self, number: u32, line: FieldLine) -> Field
         ensures { (t : Types) → IsKept t self.now
             → result ≡ field_of t (oneofs_of self.now.draft.open_part) number line }
@@ -361,7 +360,7 @@ impl Reader {
         let label = self.labeled(&line.label);
         Field {
             number,
-            name: line.name,
+            name: line.into_name(),
             kind,
             label,
         }
@@ -384,7 +383,7 @@ impl Reader {
         }
     }
 
-    fn add_field(&mut self, alloc: Global, line: FieldLine) -> Result<(), Memory>
+    pub fn add_field(&mut self, alloc: Global, line: FieldLine) -> Result<(), Memory>
         ensures draft { (t : Types) → IsKept t self.old
             → OnOk result (self.new.draft ≡ added_field t self.old.draft line) }
         ensures kept { (t : Types) → IsKept t self.old → OnOk result (IsKept t self.new) }
@@ -392,33 +391,33 @@ impl Reader {
         let Some(number) = line.number else {
             return Ok(());
         };
+        let Open::Message(_) = self.draft.open_part else {
+            return Ok(());
+        };
         let oneof = self.new_oneof(alloc, &line.label)?;
         let field = self.field_of(number, line);
-        match mem::replace(&mut self.draft.open_part, Open::Nothing) {
-            Open::Message(mut message) => {
-                self.inner_names.add(alloc, field.name.as_slice())?;
-                message.fields.push(field)?;
-                add_oneof(alloc, &mut message.oneofs, &mut self.oneofs, oneof)?;
-                self.draft.open_part = Open::Message(message);
-            }
-            part => self.draft.open_part = part,
-        }
-        Ok(())
+        self.inner_names.add(alloc, field.name.as_slice())?;
+        add_oneof(alloc, &mut self.oneofs, &oneof)?;
+        self.draft.open_part.add_field(field, oneof)
     }
 }
 
-fn add_oneof(
-    alloc: Global,
-    oneofs: &mut Names,
-    places: &mut Places,
-    oneof: Option<Name>,
-) -> Result<(), Memory>
-    ensures names { OnOk result (oneofs.new ≡ joined_with oneofs.old oneof) }
-    ensures places { Holds places.old oneofs.old → OnOk result (Holds places.new oneofs.new) }
+// Adds the key of a method.
+fn add_key(alloc: Global, names: &mut Places, method: &MethodLine) -> Result<(), Memory>
+    ensures { (old : List (List ℕ)) → Holds names.old old
+        → OnOk result (Holds names.new (old ++ method_key method.now ∷ [])) }
 {
-    if let Some(name) = oneof {
-        places.add(alloc, name.as_slice())?;
-        oneofs.push(name)?;
+    let key = key_of(alloc, method)?;
+    names.add(alloc, key.as_slice())
+}
+
+// Adds a oneof, where there is a new one.
+fn add_oneof(alloc: Global, oneofs: &mut Places, oneof: &Option<Name>) -> Result<(), Memory>
+    ensures { (old : List (List ℕ)) → Holds oneofs.old old
+        → OnOk result (Holds oneofs.new (joined_with old oneof.now)) }
+{
+    match oneof {
+        Some(name) => oneofs.add(alloc, name.as_slice()),
+        None => Ok(()),
     }
-    Ok(())
 }

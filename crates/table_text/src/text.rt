@@ -15,16 +15,26 @@ pub fn table_text(alloc: Global, table: &Table) -> Result<Bytes, Memory>
     ensures { IfOk result (λ text. text ≡ table_text table.now) }
 {
     let mut out = Bytes::new(alloc);
+    put_table(&mut out, table)?;
+    Ok(out)
+}
+
+// Writes the text of a table where nothing stands yet.
+fn put_table(out: &mut Bytes, table: &Table) -> Result<(), Memory>
+    requires valid { IsValid table.now }
+    requires empty { out.old ≡ [] }
+    ensures { OnOk result (out.new ≡ table_text table.now) }
+{
     for choices in table.enums.as_slice() {
-        put_enum(&mut out, choices)?;
+        put_enum(out, choices)?;
     }
     for message in table.messages.as_slice() {
-        put_message(&mut out, table, message)?;
+        put_message(out, table, message)?;
     }
     for (index, method) in table.methods.as_slice().iter().enumerate() {
-        put_method(&mut out, table, index, method)?;
+        put_method(out, table, index, method)?;
     }
-    Ok(out)
+    Ok(())
 }
 
 fn put_value(out: &mut Bytes, value: &(i32, Name)) -> Result<(), Memory>
@@ -32,8 +42,7 @@ fn put_value(out: &mut Bytes, value: &(i32, Name)) -> Result<(), Memory>
 {
     out.append(b"value ")?;
     out.append_signed(value.0)?;
-    out.append(b" ")?;
-    out.append(value.1.as_slice())?;
+    put_word(out, value.1.as_slice())?;
     out.append(b"\n")
 }
 

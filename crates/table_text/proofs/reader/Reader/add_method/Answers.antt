@@ -1,10 +1,12 @@
-use Rattle.std.proofs.Common.{List, ℕ, subst, ◌∙◌, ◌++◌, ◌∷◌, []}
-use Rattle.table_text.specs.Places.{Holds}
-use Rattle.table_text.specs.Drafts.{method_names}
+use Rattle.std.proofs.Common.{◌≡◌, ap, ◌∙◌, ◌++◌, ◌∷◌, []}
+use Rattle.std.proofs.lemmas.Result.{on_ok_weaker}
+use Rattle.mrpc_table.specs.declared.table.Method.{Method}
+use Rattle.table_text.specs.Drafts.{method_names, method_of}
 use Rattle.table_text.proofs.KeptLemmas.{kept_method}
 use Rattle.table_text.proofs.reader.Reader.add_method.Goals as goal
 
 pub returns-clause-kept : goal.returns-clause-kept
 returns-clause-kept c t h =
-    let added = subst (λ (n : List ℕ). Holds c.add.new.self (method_names c.args.self.now.draft ++ n ∷ [])) (c.as_slice.ensures ∙ c.in_ok-key.ensures) (c.in_ok-add.ensures (method_names c.args.self.now.draft) h.method_names) in
-    kept_method t c.args.self.now c.close.new.self c.push.new.self _ c.add.new.self c.new.result c.new-2.result c.in_ok-close.ensures c.in_ok-push.ensures.ok h added c.new.ensures c.new-2.ensures
+    let is : c.into_method-method.result ≡ method_of t c.args.method = c.into_method-method.ensures t h.messages in
+    let added = c.in_ok-add_key.ensures (method_names c.args.self.now.draft) h.method_names in
+    on_ok_weaker c.push.result (λ (more : c.push.new.self ≡ c.close.new.self.methods ++ c.into_method-method.result ∷ []). kept_method t c.args.self.now c.close.new.self c.push.new.self (method_of t c.args.method) c.add_key.new.names c.new.result c.new-2.result c.in_ok-close.ensures (more ∙ ap (λ (m : Method). c.close.new.self.methods ++ m ∷ []) is) h added c.new.ensures c.new-2.ensures) c.push.ensures.ok

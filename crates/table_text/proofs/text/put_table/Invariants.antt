@@ -2,7 +2,7 @@
 use Rattle.std.proofs.Common.{◌≡◌, ◌++◌, take}
 use Rattle.std.specs.List.{flat_map, enumerate_from}
 use Rattle.mrpc_table.specs.Text.{enum_lines, message_lines, method_line}
-use Rattle.table_text.proofs.text.table_text.Given as goal
+use Rattle.table_text.proofs.text.put_table.Given as goal
 
 abbrev pub invariant-loop-choices : goal.invariant-loop-choices
 invariant-loop-choices l = l.out ≡ flat_map enum_lines (take l.choices-index l.choices-items)

@@ -4,7 +4,7 @@ use Rattle.std.specs.List.{flat_map, enumerate_from}
 use Rattle.mrpc_table.specs.Text.{enum_lines, message_lines, method_line}
 use Rattle.mrpc_table.specs.declared.table.Method.{Method}
 use Rattle.table_text.proofs.LastLemmas.{enumerate-push}
-use Rattle.table_text.proofs.text.table_text.Goals as goal
+use Rattle.table_text.proofs.text.put_table.Goals as goal
 
 -- one more item: its line follows the lines of those before it
 more : (f : ℕ × Method → List ℕ) (front : List ℕ) (ms : List Method) (i : ℕ) (m : Method) → i < length ms → m ≡ get_or ms i m
