@@ -279,3 +279,10 @@ said-same T (l ∷ ls) (r ∷ rs) (q ∷ qs) s t = let here : r ≡ q = one_valu
   where
     one_value : (o : Option Rule) (a b : Rule) → o ≡ Some a → o ≡ Some b → a ≡ b
     one_value o a b e d = cc
+
+-- what a line of a rule says, by the parts that were judged
+pub judged_by : (many : Bool) (about about' : Result About PartReason) (named named' known known' : Bool) (r : RuleLine) (said : Result Rule RuleReason)
+    → said ≡ judged_rule false about named known r → many ≡ false → about ≡ about' → named ≡ named' → known ≡ known' → said ≡ judged_rule many about' named' known' r
+judged_by many about about' named named' known known' r said e few a n k =
+    e ∙ ap (λ (b : Bool). judged_rule b about named known r) (sym few) ∙ ap (λ (x : Result About PartReason). judged_rule many x named known r) a
+    ∙ ap (λ (b : Bool). judged_rule many about' b known r) n ∙ ap (λ (b : Bool). judged_rule many about' named' b r) k

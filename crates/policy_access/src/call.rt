@@ -6,7 +6,7 @@ ghost use Rattle.policy_access.specs.Call.{is_reply};
 use mrpc_table::Tree;
 
 /// A request or a reply, with its private copy.
-#[derive(Debug, Drop)]
+#[derive(Drop)]
 pub struct Call {
     /// The connection, from 1.
     pub conn: u32,
@@ -21,7 +21,7 @@ pub struct Call {
 }
 
 /// What a policy says of a call.
-#[derive(Clone, Copy, Debug, PartialEq, Eq)]
+#[derive(Clone, Copy)]
 pub struct Verdict {
     /// Whether the call may go on.
     pub allow: bool,

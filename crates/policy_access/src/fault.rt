@@ -5,33 +5,43 @@ ghost use Rattle.policy_access.specs.declared.fault.RuleFault.TheVariants.{Memor
 
 use mrpc_table::Memory;
 use std::alloc::{AllocError, AllocFailed};
+use std::fmt;
 use thiserror::Error;
 
 /// What is wrong with a line. Of several reasons at one line, the first of this list counts.
-#[derive(Clone, Copy, Debug, PartialEq, Eq, Error)]
+#[derive(Clone, Copy, Debug)]
 pub enum RuleReason {
     /// A line, or its value, that is out of form, or a 65th rule.
-    #[error("word")]
     Word,
     /// An index above 65535, or a value out of the range of its kind.
-    #[error("number")]
     Number,
     /// A rule's name that is no name of at most 64 bytes, or is `default`.
-    #[error("name")]
     Name,
     /// A rule's name that stands before.
-    #[error("known")]
     Known,
     /// A method or a field that the table lacks, or an OP that doesn't go with the field.
-    #[error("path")]
     Path,
     /// A line behind the default, or no default.
-    #[error("default")]
     Default,
 }
 
+impl fmt::Display for RuleReason {
+    fn fmt<W: fmt::Write>(&self, f: &mut fmt::Formatter<W>) -> fmt::Result {
+        f.write_str(match self {
+            RuleReason::Word => "word",
+            RuleReason::Number => "number",
+            RuleReason::Name => "name",
+            RuleReason::Known => "known",
+            RuleReason::Path => "path",
+            RuleReason::Default => "default",
+        })
+    }
+}
+
+impl std::error::Error for RuleReason {}
+
 /// What is wrong with what a rule is about. It is a [`RuleReason`], too.
-#[derive(Clone, Copy, PartialEq, Eq)]
+#[derive(Clone, Copy)]
 pub enum PartReason {
     /// A value out of form.
     Word,
@@ -42,7 +52,7 @@ pub enum PartReason {
 }
 
 /// Why no policy was read.
-#[derive(Clone, Copy, Debug, PartialEq, Eq, Error)]
+#[derive(Clone, Copy, Debug, Error)]
 pub enum RuleFault {
     /// The first line at fault, from 1, with its first reason.
     #[error("line {line}: {reason}")]

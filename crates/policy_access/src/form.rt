@@ -1,14 +1,13 @@
 //! Lines by their form.
 
 ghost use Rattle.std.specs.Prelude.{◌≡◌, ◌∷◌, ℕ, List, [], Some, IfOk, IfSome, MatchOption};
-ghost use Rattle.std.specs.Str.{bytes_eq};
 ghost use Rattle.mrpc_table.specs.Lines.{words_of};
 ghost use Rattle.policy_access.specs.Lines.{allow_of, comparison_of, value_of, condition_of, condition_of_words, test_of, calls_with, calls_of, about_of, rule_of, default_of, line_of, is_quoted};
 
 use crate::line::{AboutLine, CallsLine, ConditionLine, Line, RuleLine, TestLine};
 use crate::rule::Comparison;
 use field_path::PathWord;
-use mrpc_table::{Bytes, Decimal, Memory, cut, number_of};
+use mrpc_table::{Bytes, Decimal, Memory, cut, is_word, number_of};
 use std::alloc::Global;
 
 // The first of at least two words, and the line of the others.
@@ -19,13 +18,6 @@ fn next_word(line: &[u8]) -> Option<(&[u8], &[u8])>
         (λ p. words_of line.now ≡ p.0.now ∷ words_of p.1.now) }
 {
     cut(line, b' ')
-}
-
-/// Whether the word is this one.
-pub fn is_word<'a>(word: &'a [u8], expected: &'a [u8]) -> bool
-    ensures { result ≡ bytes_eq word.now expected.now }
-{
-    word == expected
 }
 
 fn allow_of(word: &[u8]) -> Option<bool>

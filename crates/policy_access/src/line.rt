@@ -1,6 +1,9 @@
 //! What a line of a policy says, by its form alone.
 
-use crate::rule::Comparison;
+ghost use Rattle.std.specs.Prelude.{◌≡◌};
+ghost use Rattle.policy_access.specs.Texts.{with_about};
+
+use crate::rule::{About, Comparison, Rule};
 use field_path::PathWord;
 use mrpc_table::{Bytes, Decimal};
 
@@ -14,12 +17,36 @@ pub enum Line {
 }
 
 /// `rule NAME allow|deny [method INDEX [reply] [where ..]]`
-#[derive(Drop)]
 pub struct RuleLine {
     /// The word in the name's place.
     pub name: Bytes,
     pub allow: bool,
     pub about: AboutLine,
+}
+
+// By hand, so that a drop is one call where it is needed, and not a drop of each part.
+impl Drop for RuleLine {
+    fn drop(self) {
+        let RuleLine {
+            name: _name,
+            allow: _,
+            about: _about,
+        } = self;
+    }
+}
+
+impl RuleLine {
+    /// The rule of the line, which is about this.
+    pub fn with_about(self, about: About) -> Rule
+        ensures { result ≡ with_about self about }
+    {
+        let RuleLine {
+            name,
+            allow,
+            about: _,
+        } = self;
+        Rule { name, allow, about }
+    }
 }
 
 /// What a rule is about, as its line says it.
@@ -32,18 +59,37 @@ pub enum AboutLine {
 }
 
 /// `method INDEX [reply] [where ..]`
-#[derive(Drop)]
 pub struct CallsLine {
     pub index: Decimal,
     pub reply: bool,
     pub test: Option<TestLine>,
 }
 
+// By hand, so that a drop is one call where it is needed, and not a drop of each part.
+impl Drop for CallsLine {
+    fn drop(self) {
+        let CallsLine {
+            index: _,
+            reply: _,
+            test: _test,
+        } = self;
+    }
+}
+
 /// `where PATH OP [VALUE]`
-#[derive(Drop)]
 pub struct TestLine {
     pub path: PathWord,
     pub condition: ConditionLine,
+}
+
+// By hand, so that a drop is one call where it is needed, and not a drop of each part.
+impl Drop for TestLine {
+    fn drop(self) {
+        let TestLine {
+            path: _path,
+            condition: _condition,
+        } = self;
+    }
 }
 
 /// `OP [VALUE]`

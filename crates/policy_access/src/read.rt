@@ -1,6 +1,6 @@
 //! Access policies from their lines.
 
-ghost use Rattle.std.specs.Prelude.{◌≡◌, ◌+◌, ◌^◌, ◌<◌, ℕ, List, length, IfOk, IfErr, MatchResult, nat_le};
+ghost use Rattle.std.specs.Prelude.{◌≡◌, ◌+◌, ◌++◌, ◌^◌, ◌<◌, ◌≤◌, ℕ, List, [], ◌∷◌, Err, false, length, IfOk, IfErr, OnOk, MatchResult, nat_le};
 ghost use Rattle.mrpc_table.specs.Valid.{IsValid};
 ghost use Rattle.policy_access.specs.Faults.{is_rule_name, is_among, reason_of, IsFaultOf};
 ghost use Rattle.policy_access.specs.Lines.{line_of};
@@ -11,17 +11,18 @@ ghost use Rattle.policy_access.specs.Verdict.{AccessPolicy};
 ghost use Rattle.policy_access.specs.declared.fault.RuleFault.TheVariants.{Memory as NoMemory};
 ghost use Rattle.policy_access.specs.Rules.{about_in};
 ghost use Rattle.policy_access.specs.Said.{judged_rule, said_in, reason_behind};
+ghost use Rattle.policy_access.specs.declared.line.RuleLine.{RuleLine};
 ghost use Rattle.policy_access.specs.declared.limits.TheConstants.{MAX_RULES};
 
 use crate::access::Access;
 use crate::fault::{PartReason, RuleFault, RuleReason};
-use crate::form::{is_word, line_of};
+use crate::form::line_of;
 use crate::limits::MAX_RULES;
 use crate::line::{Line, RuleLine};
 use crate::names::SeenNames;
 use crate::resolve::about_in;
-use crate::rule::Rule;
-use mrpc_table::{Bytes, Memory, Sequence, Table, is_name_form, is_short};
+use crate::rule::{About, Rule};
+use mrpc_table::{Bytes, Memory, Sequence, Table, is_name_form, is_short, is_word};
 use std::alloc::Global;
 
 /// What a line without a fault says.
@@ -55,25 +56,48 @@ fn judged_rule(
     if count >= MAX_RULES {
         return Ok(Err(RuleReason::Word));
     }
-    let about = match about_in(alloc, table, &line.about)? {
-        Err(PartReason::Word) => return Ok(Err(RuleReason::Word)),
-        Err(PartReason::Number) => return Ok(Err(RuleReason::Number)),
-        Err(PartReason::Path) => None,
-        Ok(about) => Some(about),
-    };
-    if !is_rule_name(line.name.as_slice()) {
-        return Ok(Err(RuleReason::Name));
-    }
-    if names.contains(line.name.as_slice()) {
-        return Ok(Err(RuleReason::Known));
-    }
+    let about = about_in(alloc, table, &line.about)?;
+    let named = is_rule_name(line.name.as_slice());
+    let known = names.contains(line.name.as_slice());
+    Ok(judged(about, named, known, line))
+}
+
+// What a line of a rule says, or its first reason, by what the rule is about, whether its name is one and whether it
+// stands before.
+fn judged(
+    about: Result<About, PartReason>,
+    named: bool,
+    known: bool,
+    line: RuleLine,
+) -> Result<Rule, RuleReason>
+    ensures { result ≡ judged_rule false about named known line }
+{
     match about {
-        None => Ok(Err(RuleReason::Path)),
-        Some(about) => Ok(Ok(Rule {
-            name: line.name,
-            allow: line.allow,
-            about,
-        })),
+        Err(reason) => Err(first_reason(reason, named, known)),
+        Ok(about) => {
+            if named && !known {
+                Ok(line.with_about(about))
+            } else {
+                Err(if named {
+                    RuleReason::Known
+                } else {
+                    RuleReason::Name
+                })
+            }
+        }
+    }
+}
+
+// The first reason against a line of a rule, by that against what the rule is about.
+fn first_reason(reason: PartReason, named: bool, known: bool) -> RuleReason
+    ensures { (line : RuleLine) → judged_rule false (Err reason) named known line ≡ Err result }
+{
+    match reason {
+        PartReason::Word => RuleReason::Word,
+        PartReason::Number => RuleReason::Number,
+        PartReason::Path if !named => RuleReason::Name,
+        PartReason::Path if known => RuleReason::Known,
+        PartReason::Path => RuleReason::Path,
     }
 }
 
@@ -131,30 +155,118 @@ fn reason_behind(
     }
 }
 
+// The rules so far, and their names.
+struct SoFar {
+    rules: Vec<Rule>,
+    names: SeenNames,
+}
+
+// By hand, so that a drop is one call where it is needed, and not a drop of each part.
+impl Drop for SoFar {
+    fn drop(self) {
+        let SoFar {
+            rules: _rules,
+            names: _names,
+        } = self;
+    }
+}
+
+impl SoFar {
+    fn new(alloc: Global) -> SoFar
+        ensures rules { result.rules.items ≡ [] }
+        ensures names { Holds result.names [] }
+    {
+        SoFar {
+            rules: Vec::new(alloc),
+            names: SeenNames::new(alloc),
+        }
+    }
+
+    fn add(&mut self, alloc: Global, rule: Rule) -> Result<(), Memory>
+        ensures rules { OnOk result (self.new.rules.items ≡ self.old.rules.items ++ rule ∷ []) }
+        ensures names { (names : List (List ℕ)) → Holds self.old.names names
+            → OnOk result (Holds self.new.names (names ++ rule.name ∷ [])) }
+    {
+        self.names.add(alloc, rule.name.as_slice())?;
+        self.rules.push(rule)?;
+        Ok(())
+    }
+
+    // The policy of the rules, with this default.
+    fn into_access(self, alloc: Global, allow: bool) -> Result<Access, Memory>
+        requires { length self.rules.items ≤ MAX_RULES }
+        ensures { IfOk result (λ a. (a.rules ≡ self.rules.items) × (a.allow ≡ allow)) }
+    {
+        let SoFar {
+            rules,
+            names: _names,
+        } = self;
+        Access::new(alloc, rules, allow)
+    }
+}
+
 // The policy, where the default's line at this place is the last, or the fault of the line behind it.
 fn finish(
     alloc: Global,
     table: &Table,
     lines: &[Bytes],
     place: usize,
-    names: &SeenNames,
-    rules: Vec<Rule>,
+    so_far: SoFar,
     allow: bool,
 ) -> Result<Access, RuleFault>
     requires valid { IsValid table.now }
-    requires read { AreRead table.now lines.now place rules.items }
-    requires names { Holds names.now (names_in rules.items) }
-    requires default { DefaultAt table.now lines.now place rules.items allow }
+    requires read { AreRead table.now lines.now place so_far.rules.items }
+    requires names { Holds so_far.names (names_in so_far.rules.items) }
+    requires default { DefaultAt table.now lines.now place so_far.rules.items allow }
     ensures accepted { IfOk result (λ a. IsTextOf table.now lines.now a) }
     ensures fault { IfErr result (λ e. IsFaultOf table.now lines.now e) }
 {
     match lines.get(place + 1) {
-        None => Ok(Access::new(alloc, rules, allow)?),
+        None => Ok(so_far.into_access(alloc, allow)?),
         Some(line) => {
-            let reason = reason_behind(alloc, table, names, rules.len(), line.as_slice())?;
+            let reason = reason_behind(
+                alloc,
+                table,
+                &so_far.names,
+                so_far.rules.len(),
+                line.as_slice(),
+            )?;
             Err(fault_at(place + 1, reason))
         }
     }
+}
+
+// Reads the rules in front of the default's line, and answers its place and whether it allows, or the fault of a line
+// in front of it.
+fn read_rules(
+    alloc: Global,
+    table: &Table,
+    lines: &[Bytes],
+    so_far: &mut SoFar,
+) -> Result<(usize, bool), RuleFault>
+    requires valid { IsValid table.now }
+    requires none { so_far.old.rules.items ≡ [] }
+    requires no_names { Holds so_far.old.names [] }
+    ensures read { IfOk result (λ default. AreRead table.now lines.now default.0 so_far.new.rules.items) }
+    ensures names { IfOk result (λ default. Holds so_far.new.names (names_in so_far.new.rules.items)) }
+    ensures default { IfOk result (λ default.
+        DefaultAt table.now lines.now default.0 so_far.new.rules.items default.1) }
+    ensures fault { IfErr result (λ e. IsFaultOf table.now lines.now e) }
+{
+    for (place, line) in lines.iter().enumerate() {
+        match said_in(
+            alloc,
+            table,
+            &so_far.names,
+            so_far.rules.len(),
+            line.as_slice(),
+        )? {
+            Err(reason) => return Err(fault_at(place, reason)),
+            Ok(Said::Default(allow)) => return Ok((place, allow)),
+            Ok(Said::Rule(rule)) => so_far.add(alloc, rule)?,
+        }
+    }
+    Err(fault_at(lines.len(), RuleReason::Default))
 }
 
 fn read_lines(alloc: Global, lines: &[Bytes], table: &Table) -> Result<Access, RuleFault>
@@ -162,21 +274,9 @@ fn read_lines(alloc: Global, lines: &[Bytes], table: &Table) -> Result<Access, R
     ensures accepted { IfOk result (λ a. IsTextOf table.now lines.now a) }
     ensures fault { IfErr result (λ e. IsFaultOf table.now lines.now e) }
 {
-    let mut rules = Vec::new(alloc);
-    let mut names = SeenNames::new(alloc);
-    for (place, line) in lines.iter().enumerate() {
-        match said_in(alloc, table, &names, rules.len(), line.as_slice())? {
-            Err(reason) => return Err(fault_at(place, reason)),
-            Ok(Said::Default(allow)) => {
-                return finish(alloc, table, lines, place, &names, rules, allow);
-            }
-            Ok(Said::Rule(rule)) => {
-                names.add(alloc, rule.name.as_slice())?;
-                rules.push(rule)?;
-            }
-        }
-    }
-    Err(fault_at(lines.len(), RuleReason::Default))
+    let mut so_far = SoFar::new(alloc);
+    let (place, allow) = read_rules(alloc, table, lines, &mut so_far)?;
+    finish(alloc, table, lines, place, so_far, allow)
 }
 
 /// The access policy that the lines say, or their first fault. Each line but the last is a rule,

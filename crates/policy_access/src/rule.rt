@@ -4,12 +4,22 @@ use field_path::Path;
 use mrpc_table::{Bytes, Name};
 
 /// One rule of a policy.
-#[derive(Drop)]
 pub struct Rule {
     pub name: Name,
     /// Whether a call that matches is allowed, or else denied.
     pub allow: bool,
     pub about: About,
+}
+
+// By hand, so that a drop is one call where it is needed, and not a drop of each part.
+impl Drop for Rule {
+    fn drop(self) {
+        let Rule {
+            name: _name,
+            allow: _,
+            about: _about,
+        } = self;
+    }
 }
 
 /// Which calls a rule matches.
@@ -22,7 +32,6 @@ pub enum About {
 }
 
 /// The requests, or the replies, of a method, or those of them that meet a test.
-#[derive(Drop)]
 pub struct Calls {
     /// The index of the method in the table.
     pub method: u16,
@@ -31,11 +40,31 @@ pub struct Calls {
     pub test: Option<Test>,
 }
 
+// By hand, so that a drop is one call where it is needed, and not a drop of each part.
+impl Drop for Calls {
+    fn drop(self) {
+        let Calls {
+            method: _,
+            reply: _,
+            test: _test,
+        } = self;
+    }
+}
+
 /// What a call's tree must be for a rule to match.
-#[derive(Drop)]
 pub struct Test {
     pub path: Path,
     pub condition: Condition,
+}
+
+// By hand, so that a drop is one call where it is needed, and not a drop of each part.
+impl Drop for Test {
+    fn drop(self) {
+        let Test {
+            path: _path,
+            condition: _condition,
+        } = self;
+    }
 }
 
 /// What is asked of the field at the end of a path.
