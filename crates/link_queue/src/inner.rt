@@ -83,13 +83,21 @@ impl<L: Link> Inner<L> {
         match self.link.receive(buf) {
             Came::Bytes(count) => {
                 self.came = GivenBytes::with(&self.came, &buf[..count]);
-                return count;
+                count
             }
-            Came::Idle => {}
-            Came::End => self.ended = true,
-            Came::Failed => self.health = Health::Failed,
-            Came::Memory => self.health = Health::Memory,
+            Came::Idle => 0,
+            Came::End => {
+                self.ended = true;
+                0
+            }
+            Came::Failed => {
+                self.health = Health::Failed;
+                0
+            }
+            Came::Memory => {
+                self.health = Health::Memory;
+                0
+            }
         }
-        0
     }
 }

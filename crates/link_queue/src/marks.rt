@@ -21,7 +21,7 @@ pub(crate) enum News {
 }
 
 /// How an inner link does.
-#[derive(Clone, Copy, Debug, PartialEq, Eq)]
+#[derive(Clone, Copy, PartialEq, Eq)]
 pub enum Health {
     /// It didn't fail, and memory didn't run out.
     Working,

@@ -18,7 +18,6 @@ pub(crate) const MARK_PLACES: usize = 2;
 
 /// A link whose frames a [`QueueWriter`](crate::QueueWriter) passes on. Contracts see it as a `Queueing`. A frame was
 /// handed over once it is in the queue.
-#[derive(Drop)]
 pub struct QueueLink<'r, R> {
     rt: &'r R,
     alloc: Global,
@@ -31,6 +30,23 @@ pub struct QueueLink<'r, R> {
     faults: u64,
     finished: bool,
     ended: bool,
+}
+
+// By hand, so that a drop is one call where it is needed, and not a drop of each part.
+impl<'r, R> Drop for QueueLink<'r, R> {
+    fn drop(self) {
+        let QueueLink {
+            rt: _,
+            alloc: _,
+            most: _,
+            out: _out,
+            incoming: _incoming,
+            health: _,
+            faults: _,
+            finished: _,
+            ended: _,
+        } = self;
+    }
 }
 
 impl<'r, R> Model for QueueLink<'r, R> {

@@ -17,7 +17,6 @@ use std::{mem, thread};
 const MOST_BYTES: usize = 4096;
 
 /// What passes the frames of a queue on to the inner link, in a thread of its own.
-#[derive(Drop)]
 pub struct QueueWriter<'r, R, L: Link> {
     rt: &'r R,
     alloc: Global,
@@ -33,6 +32,23 @@ pub struct QueueWriter<'r, R, L: Link> {
     closed: bool,
     ghost passes: { PassesOn (taken_of orders) (passed_on inner) closed inner.health },
     ghost brings: { BringsBack (put_of out) held inner.came.bytes inner.ended inner.health },
+}
+
+// By hand, so that a drop is one call where it is needed, and not a drop of each part.
+impl<'r, R, L: Link + Drop> Drop for QueueWriter<'r, R, L> {
+    fn drop(self) {
+        let QueueWriter {
+            rt: _,
+            alloc: _,
+            inner: _inner,
+            orders: _orders,
+            out: _out,
+            held: _held,
+            buffer: _buffer,
+            told: _,
+            closed: _,
+        } = self;
+    }
 }
 
 impl<'r, R: Wait, L: Link> QueueWriter<'r, R, L> {

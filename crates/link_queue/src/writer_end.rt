@@ -10,13 +10,23 @@ use mrpc_base::Link;
 use one_way_queue::{Consumer, Piece, Producer};
 
 /// What a writer leaves: the inner link, and whether memory ran out.
-#[derive(Drop)]
 pub struct WriterEnd<L: Link> {
     pub(crate) inner: Inner<L>,
     pub(crate) orders: Consumer<Piece<Order>>,
     pub(crate) out: Producer<Piece<News>>,
     ghost passes: { PassesOn (taken_of orders) (passed_on inner) true inner.health },
     ghost brings: { HasBroughtBack (put_of out) inner.came.bytes inner.ended inner.health },
+}
+
+// By hand, so that a drop is one call where it is needed, and not a drop of each part.
+impl<L: Link + Drop> Drop for WriterEnd<L> {
+    fn drop(self) {
+        let WriterEnd {
+            inner: _inner,
+            orders: _orders,
+            out: _out,
+        } = self;
+    }
 }
 
 impl<L: Link> WriterEnd<L> {
@@ -54,7 +64,12 @@ impl<L: Link> WriterEnd<L> {
         ensures link { result ≡ link_of self }
         ensures same_link { (first : L) → L.since first (start_of self) → L.since first result }
     {
-        self.inner.link.into_link()
+        let WriterEnd {
+            inner,
+            orders: _orders,
+            out: _out,
+        } = self;
+        inner.link.into_link()
     }
 
     /// Whether the inner link failed: then its count of faults rose, or stands at its last value, and else it stayed.

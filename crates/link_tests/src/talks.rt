@@ -3,7 +3,8 @@ use mrpc_base::{Came, Handed, Link};
 use std::sync::Wait;
 use std::thread;
 
-// What came of a talk: how many frames the link took, how many bytes came, these as decimal digits, and the last answer.
+// What came of a talk: how many frames the link took, how many bytes came, these as decimal digits, and the last
+// answer.
 #[derive(Clone, Copy)]
 pub(crate) struct Talked {
     pub sent: u64,

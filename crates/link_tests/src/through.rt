@@ -1,7 +1,7 @@
 // A link goes through a writer, and is known to be the same.
 ghost use Rattle.mem_fabric.specs.Pair.{ArePair, IsHandedOn};
 
-use crate::pairs::{a_pair, discard};
+use crate::pairs::a_pair;
 use crate::talks::{Talked, receive_all};
 use crate::writers::talk_over;
 use mem_fabric::{PairLink, meet};
@@ -33,11 +33,8 @@ fn meet_behind_a_writer<'r, R: Abort + Threads + Wait + Sync>(
 // What the other end then receives.
 fn come_behind_a_writer<'r, R: Abort + Threads + Wait + Sync>(rt: &'r R, alloc: Global) -> Talked {
     let (first, second) = a_pair(rt, alloc, &[], &[]);
-    let (first, mut second) = meet_behind_a_writer(rt, alloc, first, second);
-    let came = receive_all(rt, &mut second, 0);
-    discard(first);
-    discard(second);
-    came
+    let (_first, mut second) = meet_behind_a_writer(rt, alloc, first, second);
+    receive_all(rt, &mut second, 0)
 }
 
 #[test]

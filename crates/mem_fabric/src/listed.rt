@@ -4,11 +4,20 @@ ghost use Rattle.mrpc_base.specs.Faults.{raised};
 
 use std::marker::Model;
 
-#[derive(Drop)]
 pub(crate) struct ListedCalls {
     // In ascending order, so that a call is looked up by a binary search.
     failing: Vec<u64>,
     calls: u64,
+}
+
+// By hand, so that a drop is one call where it is needed, and not a drop of each part.
+impl Drop for ListedCalls {
+    fn drop(self) {
+        let ListedCalls {
+            failing: _failing,
+            calls: _,
+        } = self;
+    }
 }
 
 impl Model for ListedCalls {
@@ -41,4 +50,11 @@ impl ListedCalls {
         self.calls = self.calls.saturating_add(1);
         self.failing.binary_search(&self.calls).is_ok()
     }
+}
+
+// The calls of one end of a pair.
+#[derive(Drop)]
+pub(crate) struct EndCalls {
+    pub sends: ListedCalls,
+    pub receives: ListedCalls,
 }

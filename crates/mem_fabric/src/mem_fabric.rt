@@ -5,7 +5,7 @@ ghost use Rattle.mem_fabric.specs.Fabric.{IsNewEnd, numbers_of};
 ghost use Rattle.mem_fabric.specs.Pair.{ArePair};
 
 use crate::PairLink;
-use crate::listed::ListedCalls;
+use crate::listed::{EndCalls, ListedCalls};
 use crate::pair_link::{END_PLACES, MOST_PIECES};
 use mrpc_base::{Fabric, OpenFault};
 use std::alloc::{AllocError, Global};
@@ -13,7 +13,7 @@ use std::marker::Model;
 use std::sync::Wait;
 
 /// Which calls of a fabric in memory and its links are to fail, each counted from 1, in any order.
-#[derive(Debug, Drop)]
+#[derive(Drop)]
 pub struct ListedFaults {
     /// Openings, by number.
     pub openings: Vec<u64>,
@@ -25,7 +25,6 @@ pub struct ListedFaults {
 
 /// A fabric in memory. Contracts see it as a `FabricState`: the links that it has back and how many it doesn't have
 /// back, which calls are to fail, and how many openings there were and failed.
-#[derive(Drop)]
 pub struct MemFabric<'r, R> {
     rt: &'r R,
     alloc: Global,
@@ -36,6 +35,22 @@ pub struct MemFabric<'r, R> {
     sends: Vec<(u32, u64)>,
     receives: Vec<(u32, u64)>,
     faults: u64,
+}
+
+// By hand, so that a drop is one call where it is needed, and not a drop of each part.
+impl<'r, R> Drop for MemFabric<'r, R> {
+    fn drop(self) {
+        let MemFabric {
+            rt: _,
+            alloc: _,
+            back: _back,
+            away: _,
+            openings: _openings,
+            sends: _sends,
+            receives: _receives,
+            faults: _,
+        } = self;
+    }
 }
 
 impl<'r, R> Model for MemFabric<'r, R> {
@@ -118,15 +133,27 @@ impl<'r, R: Wait> MemFabric<'r, R> {
         ensures second { IfOk result (λ ends.
             IsNewEnd (numbers_of b self.now.failing_sends) (numbers_of b self.now.failing_receives) ends.1) }
     {
+        let first_calls = self.calls_of(a)?;
+        let second_calls = self.calls_of(b)?;
         let (from_a, to_b) = one_way_queue::open(self.alloc, MOST_PIECES + END_PLACES)?;
         let (from_b, to_a) = one_way_queue::open(self.alloc, MOST_PIECES + END_PLACES)?;
-        let sends_a = listed_for(self.alloc, &self.sends, a)?;
-        let sends_b = listed_for(self.alloc, &self.sends, b)?;
-        let receives_a = listed_for(self.alloc, &self.receives, a)?;
-        let receives_b = listed_for(self.alloc, &self.receives, b)?;
-        let first = PairLink::new(self.rt, self.alloc, from_a, to_a, sends_a, receives_a);
-        let second = PairLink::new(self.rt, self.alloc, from_b, to_b, sends_b, receives_b);
-        Ok((first, second))
+        Ok((
+            PairLink::new(self.rt, self.alloc, from_a, to_a, first_calls),
+            PairLink::new(self.rt, self.alloc, from_b, to_b, second_calls),
+        ))
+    }
+
+    // The sends and the receives of a connection, of which those that are listed are to fail.
+    fn calls_of(&self, conn: u32) -> Result<EndCalls, AllocError>
+        ensures sends { IfOk result (λ calls.
+            IsPermutation (numbers_of conn self.now.failing_sends) calls.sends.failing) }
+        ensures receives { IfOk result (λ calls.
+            IsPermutation (numbers_of conn self.now.failing_receives) calls.receives.failing) }
+        ensures none { IfOk result (λ calls. (calls.sends.calls ≡ 0) × (calls.receives.calls ≡ 0)) }
+    {
+        let sends = ListedCalls::new(listed_for(self.alloc, &self.sends, conn)?);
+        let receives = ListedCalls::new(listed_for(self.alloc, &self.receives, conn)?);
+        Ok(EndCalls { sends, receives })
     }
 }
 
@@ -176,12 +203,12 @@ impl<'r, R: Wait + Sync> Fabric for MemFabric<'r, R> {
             self.faults = self.faults.saturating_add(1);
             return Err(OpenFault::Failed);
         }
-        let Ok(ends) = self.new_pair(a, b) else {
-            return Err(OpenFault::Memory);
-        };
         if self.back.reserve(self.away + 2).is_err() {
             return Err(OpenFault::Memory);
         }
+        let Ok(ends) = self.new_pair(a, b) else {
+            return Err(OpenFault::Memory);
+        };
         self.away += 2;
         Ok(ends)
     }

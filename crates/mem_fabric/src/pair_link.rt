@@ -1,12 +1,12 @@
 // One end of a link in memory.
-ghost use Rattle.std.specs.Prelude.{◌≡◌, ◌≢◌, ◌<◌, ◌≤◌, ◌↔◌, ◌⊎◌, [], ◌∷◌, ◌++◌, Contains, IsPermutation, IsTrue, length, take, true, false};
+ghost use Rattle.std.specs.Prelude.{◌≡◌, ◌≢◌, ◌<◌, ◌≤◌, ◌↔◌, ◌⊎◌, [], ◌∷◌, ◌++◌, Contains, IsTrue, length, take, true, false};
 ghost use mathlib.Core.List.{IsPrefix};
 ghost use Rattle.one_way_queue.specs.Ends.{put_of, taken_of, told_of, free_of, producer_queue, consumer_queue};
 ghost use Rattle.mrpc_base.specs.Faults.{HasCause, raised};
 ghost use Rattle.mrpc_base.specs.Linking.{OnCame, OnNoneCame};
 ghost use Rattle.mem_fabric.specs.Pair.{ArePair, IsHandedOn, told_of_all};
 
-use crate::listed::ListedCalls;
+use crate::listed::{EndCalls, ListedCalls};
 use mrpc_base::{Came, Handed, Link};
 use mrpc_table::Bytes;
 use one_way_queue::{Consumer, Found, Piece, PieceReader, Producer};
@@ -27,7 +27,6 @@ pub(crate) struct EndMark;
 /// One end of a link in memory. Contracts see it as a `PairEnd`: the frames that it was handed, the bytes that it
 /// gave, and whether either side has finished; the numbers of the sends and receives that are to fail, and how many
 /// there were and failed; and which two queues it has.
-#[derive(Drop)]
 pub struct PairLink<'r, R> {
     rt: &'r R,
     alloc: Global,
@@ -39,6 +38,23 @@ pub struct PairLink<'r, R> {
     faults: u64,
     finished: bool,
     ended: bool,
+}
+
+// By hand, so that a drop is one call where it is needed, and not a drop of each part.
+impl<'r, R> Drop for PairLink<'r, R> {
+    fn drop(self) {
+        let PairLink {
+            rt: _,
+            alloc: _,
+            out: _out,
+            incoming: _incoming,
+            sends: _sends,
+            receives: _receives,
+            faults: _,
+            finished: _,
+            ended: _,
+        } = self;
+    }
 }
 
 impl<'r, R> Model for PairLink<'r, R> {
@@ -78,8 +94,7 @@ impl<'r, R: Wait> PairLink<'r, R> {
         alloc: Global,
         out: Producer<Piece<EndMark>>,
         incoming: Consumer<Piece<EndMark>>,
-        failing_sends: Vec<u64>,
-        failing_receives: Vec<u64>,
+        calls: EndCalls,
     ) -> PairLink<'r, R>
         requires put { put_of out ≡ [] }
         requires free { 0 < free_of out }
@@ -90,10 +105,10 @@ impl<'r, R: Wait> PairLink<'r, R> {
         ensures given { result.given ≡ [] }
         ensures ended { result.ended ≡ false }
         ensures told_nothing { result.told ≡ [] }
-        ensures failing_sends { IsPermutation failing_sends.items result.failing_sends }
-        ensures failing_receives { IsPermutation failing_receives.items result.failing_receives }
-        ensures sends { result.sends ≡ 0 }
-        ensures receives { result.receives ≡ 0 }
+        ensures failing_sends { result.failing_sends ≡ calls.sends.failing }
+        ensures failing_receives { result.failing_receives ≡ calls.receives.failing }
+        ensures sends { result.sends ≡ calls.sends.calls }
+        ensures receives { result.receives ≡ calls.receives.calls }
         ensures faults { result.faults ≡ 0 }
         ensures outward { result.outward ≡ producer_queue out }
         ensures inward { result.inward ≡ consumer_queue incoming }
@@ -103,8 +118,8 @@ impl<'r, R: Wait> PairLink<'r, R> {
             alloc,
             out,
             incoming: PieceReader::new(alloc, incoming),
-            sends: ListedCalls::new(failing_sends),
-            receives: ListedCalls::new(failing_receives),
+            sends: calls.sends,
+            receives: calls.receives,
             faults: 0,
             finished: false,
             ended: false,

@@ -9,7 +9,6 @@ use std::alloc::Global;
 use std::sync::{Arc, Wait};
 
 /// The end of a queue that takes items. It may go to another thread.
-#[derive(Drop)]
 pub struct Consumer<T> {
     pub(crate) queue: Arc<Line<T>, Global>,
     pub(crate) pass: LinePass<T>,
@@ -22,6 +21,19 @@ pub struct Consumer<T> {
     ghost of_back: { IsPassOf (arc_value back) telling },
     ghost tells: { view telling ≡ desk_of pass.table_id },
     ghost counted: { count ≤ length (view pass).taken },
+}
+
+// By hand, so that a drop is one call where it is needed, and not a drop of each part.
+impl<T: Drop> Drop for Consumer<T> {
+    fn drop(self) {
+        let Consumer {
+            queue: _queue,
+            pass: _pass,
+            back: _back,
+            telling: _telling,
+            count: _,
+        } = self;
+    }
 }
 
 impl<T> Consumer<T> {

@@ -1,7 +1,7 @@
 use mrpc_table::Bytes;
 
 /// What goes through a queue of bytes.
-#[derive(Debug, Drop)]
+#[derive(Drop)]
 pub enum Piece<M> {
     /// The next bytes. There may be none.
     Bytes(Bytes),
@@ -10,7 +10,7 @@ pub enum Piece<M> {
 }
 
 /// What a read of a queue of bytes found.
-#[derive(Debug, Drop)]
+#[derive(Drop)]
 pub enum Found<M> {
     /// So many bytes, from 1 to the buffer's length, stand at the buffer's start.
     Bytes(usize),

@@ -17,5 +17,5 @@ returns-clause-back g c =
     let e = c.swap_remove.ensures in
     let seen = ap (λ v. v.back) c.self.view_is in
     let within = subst (λ (xs : List (ℕ × PairEnd)). c.args.at < length xs) (sym seen) c.requires in
-    subst (λ (p : List (ℕ × PairEnd) × List (ℕ × PairEnd)). IsPermutation p.0 (c.swap_remove.result ∷ p.1)) (λ i. (seen i, sym e.items i))
+    subst (λ (p : List (ℕ × PairEnd) × List (ℕ × PairEnd)). IsPermutation p.0 (c.swap_remove.result ∷ p.1)) (λ i. (seen i, sym {A = List (ℕ × PairEnd)} e.items i))
     (IsPermutation-swap_remove c.self.inside.back.items c.args.at c.swap_remove.result within e.value)
