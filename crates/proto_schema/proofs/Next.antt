@@ -1,6 +1,6 @@
 -- The next token of a text, and what comes of the tokens behind it.
 use Rattle.std.proofs.Common.{subst, ◌≡◌, ℕ, suc, ◌+◌, ◌^◌, ◌≤◌, ◌<◌, Bool, true, false, List, [], ◌∷◌, ◌++◌, length, drop, length-append, refl, ap, sym, ◌∙◌, arith}
-use Rattle.std.specs.Prelude.{Ok, Result}
+use Rattle.std.specs.Prelude.{Ok, Result, ◌&&◌}
 use Rattle.proto_tokens.specs.Tokens.{literal_of, is_last, AreTokens, IsNext, IsHere, Stands, last, another, word, the_end, no_word, identifier, integer, number, string, mark}
 use Rattle.proto_tokens.specs.declared.token.Kind.{Kind}
 use Rattle.proto_tokens.specs.declared.token.Kind.TheVariants as kinds
@@ -8,7 +8,7 @@ use Rattle.proto_tokens.specs.declared.token.Token.{Token}
 use Rattle.proto_schema.specs.Lexemes.{Lexeme, lexeme, lexemes, meaning, says, equals}
 use Rattle.proto_schema.specs.Files.{Draft, nothing_said}
 use Rattle.proto_schema.specs.Reading.{Lies, Fails, is_mark, unexpected}
-use Rattle.proto_schema.specs.Running.{Begins, alone, with_others, Outcome, read, failed, Failed, run, behind, behind_step, is_over, statement_step, place_of, depth, behind_word, behind_equals}
+use Rattle.proto_schema.specs.Running.{Begins, alone, with_others, Outcome, read, failed, Failed, run, behind, behind_step, is_over, statement_step, place_of, depth, behind_word, behind_equals, added, is_too_deep, is_begin, is_end, is_file}
 use Rattle.proto_schema.specs.declared.fault.ProtoFault.{ProtoFault}
 use Rattle.proto_schema.specs.declared.fault.ProtoFault.TheVariants as fault
 use Rattle.proto_schema.proofs.Depths.{Within, statement_within}
@@ -17,6 +17,10 @@ use Rattle.proto_schema.specs.declared.statement.Step.TheVariants as steps
 use Rattle.proto_schema.specs.declared.statement.State.{State}
 use Rattle.proto_schema.specs.declared.statement.State.TheVariants as states
 use Rattle.proto_schema.specs.declared.statement.Step.{Step}
+use Rattle.proto_schema.specs.declared.statement.Opening.{Opening}
+use Rattle.proto_schema.specs.declared.statement.Said.{Said}
+use Rattle.proto_schema.specs.declared.statement.Said.TheVariants as said
+use Rattle.proto_file.specs.declared.file.Word.{Word}
 
 ordered : (text : List ℕ) (t : Token) → IsHere text t → t.start ≤ t.end
 ordered text t (word h s) = h
@@ -67,6 +71,16 @@ pub fails_step : (d : Draft) (x : Lexeme) (xs : List Lexeme) (r : Result Step Pr
 fails_step d x xs r fault.Memory h = tt
 fails_step d x xs r (fault.At q start end line) h = ap (behind_step d x xs) h
 
+not_deep : (d : Draft) (s : Said) → ((o : Opening) (w : Word) → s ≡ said.Open o w → ⊥) → is_too_deep true d s ≡ false
+not_deep d (said.Open o w) h = absurd (h o w refl)
+not_deep d _ h = refl
+
+-- a statement that opens no block is added
+pub added_shallow : (d e : Draft) (x : Lexeme) (xs : List Lexeme) (s : Said)
+    → ((o : Opening) (w : Word) → s ≡ said.Open o w → ⊥) → e ≡ added d s
+    → behind_step d x xs (Ok (steps.Done s)) ≡ run true e states.Begin xs
+added_shallow d e x xs s n h = rw (not_deep d s n) (rw h refl)
+
 -- what fails behind the next token fails in the list
 pub fails_list : (text : List ℕ) (d : Draft) (s : State) (t : Token) (ts : List Token) (e : ProtoFault)
     → Begins text t ts → is_over d s (lexeme text t) ≡ false
@@ -84,6 +98,20 @@ over_list text d s t ts (with_others others h b more) o = rw h (run_over true d 
 -- at most one more is open behind a token
 pub grows : (p : Place) (s t : State) (x : Lexeme) → statement_step p s x ≡ Ok (steps.More t) → depth t ≤ depth s + 1
 grows p s t x e = subst (λ (r : Result Step ProtoFault). Within (depth s + 1) r) e (statement_within p s x)
+
+-- ---- the end of the text
+
+not_begin : (s : State) → (s ≡ states.Begin → ⊥) → is_begin s ≡ false
+not_begin states.Begin n = absurd (n refl)
+not_begin _ n = refl
+
+both_false : (a b : Bool) → b ≡ false → (a && b) ≡ false
+both_false false b h = refl
+both_false true b h = h
+
+-- a text doesn't end in a statement
+pub goes_in : (d : Draft) (s : State) (x : Lexeme) → (s ≡ states.Begin → ⊥) → is_over d s x ≡ false
+goes_in d s x n = both_false (is_end x.means) (is_begin s && is_file (place_of d)) (rw (not_begin s n) refl)
 
 -- ---- the tokens from a place on, behind statements and a part of one
 

@@ -379,6 +379,11 @@ abbrev pub Comes : Result File ProtoFault → Outcome → Type 0
 Comes (Ok f) o = o ≡ read f
 Comes (Err e) o = Failed e o
 
+-- what came of a token whose statement is whole: the tokens behind go on with the draft, unless memory ran out
+abbrev pub Follows : {X : Type 0} → Result X ProtoFault → Draft → Outcome → List Lexeme → Type 0
+Follows (Ok u) d o xs = o ≡ run true d states.Begin xs
+Follows (Err e) d o xs = Failed e o
+
 -- what comes of the tokens behind one, by what it does to a statement
 abbrev pub behind_step : Draft → Lexeme → List Lexeme → Result Step ProtoFault → Outcome
 behind_step d x xs r = behind (λ c t. run true c t xs) true d x r

@@ -31,7 +31,6 @@ pub enum Block {
 }
 
 /// A file while it is read.
-#[derive(Drop)]
 pub struct Draft {
     package: Option<Word>,
     imports: Imports,
@@ -41,6 +40,20 @@ pub struct Draft {
     /// The places of the messages that are open, the outermost first.
     nested: Vec<usize>,
     block: Block,
+}
+
+impl Drop for Draft {
+    fn drop(self) {
+        let Draft {
+            package: _package,
+            imports: _imports,
+            messages: _messages,
+            enums: _enums,
+            services: _services,
+            nested: _nested,
+            block: _,
+        } = self;
+    }
 }
 
 // Items behind others.
@@ -214,7 +227,7 @@ impl Draft {
             messages,
             enums,
             services,
-            nested: _,
+            nested: _nested,
             block: _,
         } = self;
         File {
@@ -365,7 +378,8 @@ impl Draft {
         }
     }
 
-    fn open(&mut self, alloc: Global, opening: Opening, name: Word) -> Result<(), Memory>
+    /// Opens a block.
+    pub fn open(&mut self, alloc: Global, opening: Opening, name: Word) -> Result<(), Memory>
         ensures { OnOk result (draft_of self.new ≡ added (draft_of self.old) (said.Open opening name)) }
     {
         match opening {

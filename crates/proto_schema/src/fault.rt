@@ -5,39 +5,32 @@ ghost use Rattle.proto_schema.specs.declared.fault.ProtoFault.TheVariants.{Memor
 
 use mrpc_table::Memory;
 use std::alloc::{AllocError, AllocFailed};
+use std::fmt;
 use thiserror::Error;
 
 /// What is wrong with a token.
-#[derive(Clone, Copy, Debug, PartialEq, Eq, Error)]
+#[derive(Clone, Copy, Debug)]
 pub enum ProtoReason {
     /// No token stands there. `:` and `/` are tokens in the braces of an option's value alone.
-    #[error("Token")]
     Token,
     /// The token can't stand there.
-    #[error("Expected")]
     Expected,
     /// Behind `import` stands neither a string nor `public`.
-    #[error("Import")]
     Import,
     /// `stream` before the type of an rpc.
-    #[error("Stream")]
     Stream,
     /// `group` in a type's place.
-    #[error("Group")]
     Group,
     /// `extend` or `extensions`, where a statement of a file or of a message begins.
-    #[error("Extend")]
     Extend,
     /// The file doesn't begin with `syntax = "proto3";`.
-    #[error("Syntax2")]
     Syntax2,
     /// A 33rd level of messages in one another.
-    #[error("Nesting")]
     Nesting,
 }
 
 /// Why no file was read.
-#[derive(Clone, Copy, Debug, PartialEq, Eq, Error)]
+#[derive(Clone, Copy, Debug, Error)]
 pub enum ProtoFault {
     /// The first token at fault, with its place and its line.
     #[error("line {line}: {reason}")]
@@ -71,6 +64,14 @@ impl ProtoReason {
         }
     }
 }
+
+impl fmt::Display for ProtoReason {
+    fn fmt<W: fmt::Write>(&self, f: &mut fmt::Formatter<W>) -> fmt::Result {
+        f.write_str(self.word())
+    }
+}
+
+impl std::error::Error for ProtoReason {}
 
 impl From<Memory> for ProtoFault {
     ghost from_gives = { λ _ e. e ≡ NoMemory };

@@ -9,17 +9,18 @@ ghost use Rattle.proto_schema.specs.Reading.{of_inner_value as reading_of_inner_
 ghost use Rattle.proto_schema.specs.Reading.{map_step as map_reading, map_depth, named_step};
 ghost use Rattle.proto_schema.specs.Reading.{of_type as reading_of_type, of_map as reading_of_map};
 ghost use Rattle.proto_schema.specs.Reading.{of_tail as reading_of_tail, field_step as field_reading, field_depth};
+ghost use Rattle.proto_schema.specs.Reading.{field_of};
 ghost use Rattle.proto_schema.specs.Reading.{tail_step as tail_reading, tail_depth};
 ghost use Rattle.proto_schema.specs.declared.field.FieldState.TheVariants as states;
 ghost use Rattle.proto_schema.specs.declared.field.FieldStep.TheVariants as steps;
 ghost use Rattle.proto_schema.specs.declared.tail.TailState.TheVariants as tails;
 
 use crate::fault::{ProtoFault, ProtoReason};
-use crate::lexeme::{fault_at, is_mark, is_word, number_of, span_of, unexpected, word_of};
+use crate::lexeme::{fault_at, identifier_of, is_mark, is_word, number_of, span_of, unexpected};
 use crate::name::{NameState, NameStep, type_step};
 use crate::tail::{TailState, TailStep, tail_step};
 use proto_file::{FieldDecl, FieldLabel, FieldType, Number, Word};
-use proto_tokens::{Kind, Token};
+use proto_tokens::Token;
 use std::alloc::Global;
 
 /// How far a field is read.
@@ -40,11 +41,37 @@ pub enum FieldState {
 }
 
 /// What stands before a field's `=`.
-#[derive(Drop)]
 pub struct Head {
     pub label: FieldLabel,
     pub kind: FieldType,
     pub name: Word,
+}
+
+impl Drop for Head {
+    fn drop(self) {
+        let Head {
+            label: _,
+            kind: _kind,
+            name: _name,
+        } = self;
+    }
+}
+
+impl Head {
+    // The field, with what stands behind the `=`.
+    fn with(self, number: Number, packed: Option<bool>) -> FieldDecl
+        ensures { result ≡ field_of self number packed }
+    {
+        let Head { label, kind, name } = self;
+        FieldDecl {
+            name,
+            number,
+            kind,
+            label,
+            oneof: None,
+            packed,
+        }
+    }
 }
 
 /// How far a map type is read.
@@ -231,10 +258,7 @@ fn named(
     requires { Lies text.now token.now }
     ensures { Gives result (named_step label kind (lexeme text.now token.now)) }
 {
-    if token.kind != Kind::Identifier {
-        return Err(unexpected(token));
-    }
-    let name = word_of(alloc, text, token)?;
+    let name = identifier_of(alloc, text, token)?;
     Ok(FieldStep::More(FieldState::Named(Head { label, kind, name })))
 }
 
@@ -289,17 +313,7 @@ fn of_tail(
 {
     match tail_step(text, tail, token)? {
         TailStep::More(tail) => Ok(FieldStep::More(FieldState::Tail(head, number, tail))),
-        TailStep::Done(packed) => {
-            let Head { label, kind, name } = head;
-            Ok(FieldStep::Done(FieldDecl {
-                name,
-                number,
-                kind,
-                label,
-                oneof: None,
-                packed,
-            }))
-        }
+        TailStep::Done(packed) => Ok(FieldStep::Done(head.with(number, packed))),
     }
 }
 

@@ -6,7 +6,7 @@ ghost use Rattle.proto_tokens.specs.declared.token.Kind.TheVariants.{Identifier}
 ghost use Rattle.proto_schema.specs.Lexemes.{lexeme, says, span_of as span_of_token, span_to as joined_span, word_at};
 ghost use Rattle.proto_schema.specs.Lexemes.{number_at};
 ghost use Rattle.proto_schema.specs.Reading.{Lies, Gives, fault_at as fault_of, unexpected as unexpected_at};
-ghost use Rattle.proto_schema.specs.Reading.{is_mark as is_the_mark, if_number};
+ghost use Rattle.proto_schema.specs.Reading.{is_mark as is_the_mark, if_name, if_number};
 
 use crate::fault::{ProtoFault, ProtoReason};
 use mrpc_table::{Decimal, Memory, Name};
@@ -91,6 +91,17 @@ pub fn word_of(alloc: Global, text: &[u8], token: &Token) -> Result<Word, Memory
         name: Name::from_slice(alloc, bytes_of(text, token))?,
         span: span_of(token),
     })
+}
+
+/// The name that a token is.
+pub fn identifier_of(alloc: Global, text: &[u8], token: &Token) -> Result<Word, ProtoFault>
+    requires { Lies text.now token.now }
+    ensures { let x = lexeme text.now token.now in Gives result (if_name x (λ n. word_at n x.span)) }
+{
+    if token.kind != Kind::Identifier {
+        return Err(unexpected(token));
+    }
+    Ok(word_of(alloc, text, token)?)
 }
 
 /// The number without a sign that a token is.

@@ -7,7 +7,7 @@ ghost use Rattle.proto_schema.specs.Reading.{Lies, Gives, if_name, part, full_st
 ghost use Rattle.proto_schema.specs.Reading.{type_step as type_reading};
 
 use crate::fault::ProtoFault;
-use crate::lexeme::{bytes_of, is_mark, span_of, span_to, unexpected, word_of};
+use crate::lexeme::{bytes_of, identifier_of, is_mark, span_of, span_to, unexpected};
 use mrpc_table::Name;
 use proto_file::{Span, Word};
 use proto_tokens::{Kind, Token};
@@ -40,10 +40,7 @@ fn first_part(alloc: Global, text: &[u8], token: &Token) -> Result<NameStep, Pro
     requires { Lies text.now token.now }
     ensures { let x = lexeme text.now token.now in Gives result (if_name x (λ n. part n x.span)) }
 {
-    if token.kind != Kind::Identifier {
-        return Err(unexpected(token));
-    }
-    let word = word_of(alloc, text, token)?;
+    let word = identifier_of(alloc, text, token)?;
     Ok(NameStep::More(NameState::Part(word)))
 }
 

@@ -1,7 +1,7 @@
 //! Proto files from their text.
 
-ghost use Rattle.std.specs.Prelude.{◌≡◌, ◌↔◌, ◌<◌, ◌≤◌, ◌^◌, ◌+◌, IsTrue, ℕ, List, IfOk, IfErr, MatchResult, length};
-ghost use Rattle.std.specs.Prelude.{codes, true, false};
+ghost use Rattle.std.specs.Prelude.{◌≡◌, ◌↔◌, ◌<◌, ◌≤◌, ◌^◌, ◌+◌, IsTrue, ℕ, List, IfOk, IfErr, MatchOption, MatchResult};
+ghost use Rattle.std.specs.Prelude.{codes, length, true, false, Ok};
 ghost use Rattle.std.specs.Str.{bytes_eq};
 ghost use Rattle.proto_tokens.specs.Strings.{string_value as value_of};
 ghost use Rattle.proto_tokens.specs.Tokens.{IsNext, AreTokens, line_at, is_last, literal_of};
@@ -11,20 +11,23 @@ ghost use Rattle.proto_schema.specs.Lexemes.{lexeme, lexemes};
 ghost use Rattle.proto_schema.specs.Files.{nothing_said};
 ghost use Rattle.proto_schema.specs.Faults.{IsTextOf, IsFaultOf, is_no_token};
 ghost use Rattle.proto_file.specs.declared.file.File.{File};
+ghost use Rattle.proto_file.specs.declared.file.Word.{Word};
 ghost use Rattle.proto_schema.specs.declared.fault.ProtoFault.TheVariants as faults;
 ghost use Rattle.proto_schema.specs.Reading.{Lies};
-ghost use Rattle.proto_schema.specs.Running.{Comes, Failed, Begins, run, reading, behind_word, behind_step, draft_of};
+ghost use Rattle.proto_schema.specs.Running.{Comes, Failed, Follows, Begins, run, reading, behind_word, behind_step, draft_of};
 ghost use Rattle.proto_schema.specs.Running.{place_of, is_over, is_too_deep as too_deep, depth};
 ghost use Rattle.proto_schema.specs.Running.{statement_step as statement_reading};
 ghost use Rattle.proto_schema.specs.Lexemes.{Lexeme};
 ghost use Rattle.proto_schema.specs.declared.statement.State.TheVariants as states;
+ghost use Rattle.proto_schema.specs.declared.statement.Step.TheVariants as steps;
+ghost use Rattle.proto_schema.specs.declared.statement.Said.TheVariants as said;
 
 use crate::draft::Draft;
 use crate::fault::{ProtoFault, ProtoReason};
 use crate::lexeme::{bytes_of, fault_at, is_mark, is_word, span_of, unexpected};
 use crate::statement::{Opening, Place, Said, State, Step, statement_step};
 use mrpc_table::Memory;
-use proto_file::{File, Span};
+use proto_file::{File, Span, Word};
 use proto_tokens::{Kind, Token, next_token, one_list, one_token, string_value};
 use std::alloc::Global;
 
@@ -68,22 +71,65 @@ fn is_proto3(alloc: Global, text: &[u8], token: &Token) -> Result<bool, Memory>
     Ok(value.as_slice() == b"proto3".as_slice())
 }
 
-// Whether the text ends at this token, where nothing is open.
-fn is_end(draft: &Draft, state: &State, token: &Token) -> bool
-    ensures { (text : List ℕ) → result ≡ is_over (draft_of draft.now) state.now (lexeme text token.now) }
+// Whether the text ends at this token, where nothing is open and no statement is begun.
+fn is_end(draft: &Draft, token: &Token) -> bool
+    ensures { (text : List ℕ) → result ≡ is_over (draft_of draft.now) states.Begin (lexeme text token.now) }
 {
-    token.kind == Kind::End
-        && matches!(state, State::Begin)
-        && matches!(draft.place(), Place::File { .. })
+    token.kind == Kind::End && matches!(draft.place(), Place::File { .. })
 }
 
-// Whether a statement opens a message in as many others as may be open.
-fn is_too_deep(draft: &Draft, says: &Said) -> bool
-    ensures { result ≡ too_deep true (draft_of draft.now) says.now }
+// How far the statement is read that goes on at this token, unless the text ends there.
+#[tactic(auto, using(crate::proofs::Next::goes_in))]
+fn goes_on(draft: &Draft, state: State, token: &Token) -> Option<State>
+    ensures { (text : List ℕ) → MatchOption result
+        (is_over (draft_of draft.now) state (lexeme text token.now) ≡ true)
+        (λ s. (s ≡ state) × (is_over (draft_of draft.now) s (lexeme text token.now) ≡ false)) }
+{
+    match state {
+        State::Begin => {
+            if is_end(draft, token) {
+                None
+            } else {
+                Some(State::Begin)
+            }
+        }
+        other => Some(other),
+    }
+}
+
+// Whether this opens a message in as many others as may be open.
+fn is_too_deep(draft: &Draft, opening: Opening) -> bool
+    ensures { (w : Word) → result ≡ too_deep true (draft_of draft.now) (said.Open opening w) }
+{
+    matches!(opening, Opening::Message) && draft.is_deep()
+}
+
+// Opens a block with the last token of its statement.
+fn open(
+    alloc: Global,
+    draft: &mut Draft,
+    opening: Opening,
+    name: Word,
+    token: &Token,
+) -> Result<(), ProtoFault>
+    ensures { (text : List ℕ) (xs : List Lexeme) → Follows result (draft_of draft.new)
+        (behind_step (draft_of draft.old) (lexeme text token.now) xs (Ok (steps.Done (said.Open opening name)))) xs }
+{
+    if is_too_deep(draft, opening) {
+        return Err(fault_at(ProtoReason::Nesting, span_of(token)));
+    }
+    Ok(draft.open(alloc, opening, name)?)
+}
+
+// Adds what a statement says with its last token.
+#[tactic(auto, using(crate::proofs::Next::added_shallow))]
+fn add(alloc: Global, draft: &mut Draft, says: Said, token: &Token) -> Result<(), ProtoFault>
+    ensures { (text : List ℕ) (xs : List Lexeme) → Follows result (draft_of draft.new)
+        (behind_step (draft_of draft.old) (lexeme text token.now) xs (Ok (steps.Done says))) xs }
 {
     match says {
-        Said::Open(Opening::Message, _) => draft.is_deep(),
-        _ => false,
+        Said::Open(opening, name) => open(alloc, draft, opening, name, token),
+        says => Ok(draft.add(alloc, says)?),
     }
 }
 
@@ -108,10 +154,7 @@ fn take(
     match statement_step(alloc, text, draft.place(), state, token)? {
         Step::More(state) => Ok(state),
         Step::Done(says) => {
-            if is_too_deep(draft, &says) {
-                return Err(fault_at(ProtoReason::Nesting, span_of(token)));
-            }
-            draft.add(alloc, says)?;
+            add(alloc, draft, says, token)?;
             Ok(State::Begin)
         }
     }
@@ -130,10 +173,10 @@ fn read_statements(alloc: Global, text: &[u8], semicolon: Token) -> Result<File,
     let mut state = State::Begin;
     'tokens: loop {
         let token = next(text, last.end, last.line);
-        if is_end(&draft, &state, &token) {
+        let Some(begun) = goes_on(&draft, state, &token) else {
             return Ok(draft.into_file());
-        }
-        state = take(alloc, text, &mut draft, state, &token)?;
+        };
+        state = take(alloc, text, &mut draft, begun, &token)?;
         last = token;
     }
 }

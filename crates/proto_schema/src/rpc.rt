@@ -11,7 +11,7 @@ ghost use Rattle.proto_schema.specs.declared.rpc.RpcStep.TheVariants as steps;
 
 use crate::fault::{ProtoFault, ProtoReason};
 use crate::field::typed_step;
-use crate::lexeme::{fault_at, is_mark, is_word, span_of, unexpected, word_of};
+use crate::lexeme::{fault_at, identifier_of, is_mark, is_word, span_of, unexpected};
 use crate::name::{NameState, NameStep};
 use proto_file::{RpcDecl, Span, Word};
 use proto_tokens::{Kind, Token};
@@ -129,10 +129,7 @@ fn named(alloc: Global, text: &[u8], token: &Token) -> Result<RpcStep, ProtoFaul
     ensures { let x = lexeme text.now token.now in
         Gives result (if_name x (λ n. steps.More (states.Named (word_at n x.span)))) }
 {
-    if token.kind != Kind::Identifier {
-        return Err(unexpected(token));
-    }
-    let name = word_of(alloc, text, token)?;
+    let name = identifier_of(alloc, text, token)?;
     Ok(RpcStep::More(RpcState::Named(name)))
 }
 

@@ -1,10 +1,10 @@
 //! Statements, token by token.
 
-ghost use Rattle.std.specs.Prelude.{◌≡◌, ◌<◌, ◌^◌, ℕ, List, true, false, if◌then◌else◌};
+ghost use Rattle.std.specs.Prelude.{◌≡◌, ◌<◌, ◌^◌, ℕ, List, Ok, true, false, if◌then◌else◌};
 ghost use Rattle.std.specs.Str.{bytes_eq};
 ghost use Rattle.proto_tokens.specs.Tokens.{literal_of};
 ghost use Rattle.proto_tokens.specs.declared.token.Kind.TheVariants as kinds;
-ghost use Rattle.proto_schema.specs.Lexemes.{lexeme, word_at, opening_brace};
+ghost use Rattle.proto_schema.specs.Lexemes.{lexeme, word_at, opening_brace, semicolon};
 ghost use Rattle.proto_schema.specs.Reading.{Lies, Gives, wrong, if_name, is_mark as is_the_mark};
 ghost use Rattle.proto_schema.specs.Reading.{full_step as full_reading, option_step as option_reading, option_depth};
 ghost use Rattle.proto_schema.specs.Reading.{field_step as field_reading, field_depth, value_step as value_reading};
@@ -17,7 +17,9 @@ ghost use Rattle.proto_schema.specs.declared.statement.Step.TheVariants as steps
 
 use crate::fault::{ProtoFault, ProtoReason};
 use crate::field::{FieldState, FieldStep, field_step};
-use crate::lexeme::{bytes_of, fault_at, is_mark, is_word, span_of, unexpected, word_of};
+use crate::lexeme::{
+    bytes_of, fault_at, identifier_of, is_mark, is_word, span_of, unexpected, word_of,
+};
 use crate::name::{NameState, NameStep, full_step};
 use crate::option::{OptionState, OptionStep, option_step};
 use crate::reserved::{ReservedPart, ReservedState, ReservedStep, reserved_step};
@@ -320,12 +322,13 @@ fn begins(alloc: Global, text: &[u8], place: Place, token: &Token) -> Result<Ste
     }
 }
 
-// The `;` behind what a statement says.
-fn ended(says: Said, token: &Token) -> Result<Step, ProtoFault>
-    ensures { (text : List ℕ) → Gives result (Running.ended says (lexeme text token.now)) }
+// The `;` that ends a statement.
+fn end(token: &Token) -> Result<(), ProtoFault>
+    ensures { (text : List ℕ) → let x = lexeme text token.now in
+        Gives result (if is_the_mark x.means semicolon then Ok tt else wrong x) }
 {
     if is_mark(token, b';') {
-        Ok(Step::Done(says))
+        Ok(())
     } else {
         Err(unexpected(token))
     }
@@ -342,7 +345,10 @@ fn of_package(
 {
     match full_step(alloc, text, name, token)? {
         NameStep::More(name) => more(State::Package(name)),
-        NameStep::Whole(name) => ended(Said::Package(name), token),
+        NameStep::Whole(name) => {
+            end(token)?;
+            Ok(Step::Done(Said::Package(name)))
+        }
     }
 }
 
@@ -371,6 +377,14 @@ fn import_step(alloc: Global, text: &[u8], public: bool, token: &Token) -> Resul
     }
 }
 
+// The end of an import.
+fn import_ends(import: Import, token: &Token) -> Result<Step, ProtoFault>
+    ensures { (text : List ℕ) → Gives result (Running.ended (said.Import import) (lexeme text token.now)) }
+{
+    end(token)?;
+    Ok(Step::Done(Said::Import(import)))
+}
+
 fn of_option(text: &[u8], option: OptionState, token: &Token) -> Result<Step, ProtoFault>
     requires lies { Lies text.now token.now }
     requires depth { option_depth option < 2 ^ 63 }
@@ -378,7 +392,10 @@ fn of_option(text: &[u8], option: OptionState, token: &Token) -> Result<Step, Pr
 {
     match option_step(text, option, token)? {
         OptionStep::More(option) => more(State::Option(option)),
-        OptionStep::Whole(_) => ended(Said::Nothing, token),
+        OptionStep::Whole(_) => {
+            end(token)?;
+            Ok(Step::Done(Said::Nothing))
+        }
     }
 }
 
@@ -392,10 +409,7 @@ fn opening_step(
     ensures { let x = lexeme text.now token.now in
         Gives result (if_name x (λ n. steps.More (states.Opened opening (word_at n x.span)))) }
 {
-    if token.kind != Kind::Identifier {
-        return Err(unexpected(token));
-    }
-    let name = word_of(alloc, text, token)?;
+    let name = identifier_of(alloc, text, token)?;
     more(State::Opened(opening, name))
 }
 
@@ -464,7 +478,7 @@ pub fn statement_step(
         State::Begin => begins(alloc, text, place, token),
         State::Package(name) => of_package(alloc, text, name, token),
         State::Import(public) => import_step(alloc, text, public, token),
-        State::Imported(import) => ended(Said::Import(import), token),
+        State::Imported(import) => import_ends(import, token),
         State::Option(option) => of_option(text, option, token),
         State::Opening(opening) => opening_step(alloc, text, opening, token),
         State::Opened(opening, name) => opened_step(opening, name, token),
