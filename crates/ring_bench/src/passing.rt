@@ -28,7 +28,7 @@ pub(crate) const WORDS: u64 = 258;
 const LIMIT: u64 = 1;
 
 /// What came through a ring.
-#[derive(Drop)]
+#[derive(Clone, Copy)]
 pub struct Passed {
     /// How many descriptors were taken.
     pub taken: u64,
@@ -43,12 +43,12 @@ pub struct Passed {
 pub fn pass<R: Threads + Wait + Sync>(
     rt: &R,
     alloc: Global,
-    table: Table,
+    table: &Table,
     count: u32,
 ) -> Result<Passed, Memory>
     requires few { count < 4294967294 }
-    requires valid { IsValid table }
-    requires known { 0 < length table.messages }
+    requires valid { IsValid table.now }
+    requires known { 0 < length table.now.messages }
 
     // Each descriptor that was sent was taken, once.
     ensures taken { IfOk result (λ passed. passed.taken ≡ count) }
@@ -70,7 +70,7 @@ fn in_two_threads<R: Threads + Wait + Sync>(
     count: u64,
     writing: (Writer, Sender),
     reading: (Reader, Receiver),
-    copying: (Global, Table),
+    copying: (Global, &Table),
 ) -> Passed
     requires count { count < 4294967294 }
     requires words { writing.0.heap.words ≡ WORDS }
@@ -78,8 +78,8 @@ fn in_two_threads<R: Threads + Wait + Sync>(
     requires their_heap { reading.1.heap ≡ reading.0.heap }
     requires one_ring { reading.1.ring ≡ writing.1.ring }
     requires first { (writing.0.stores ≡ []) × (writing.1.sent ≡ []) × (reading.1.taken ≡ []) }
-    requires valid { IsValid copying.1 }
-    requires known { 0 < length copying.1.messages }
+    requires valid { IsValid copying.1.now }
+    requires known { 0 < length copying.1.now.messages }
     ensures taken { result.taken ≡ count }
     ensures copied { result.copied ≤ count }
 {
@@ -94,12 +94,12 @@ fn in_two_threads<R: Threads + Wait + Sync>(
             ensures { (result.ring ≡ sender.ring) × (length result.items ≡ count) }
         { write_all(rt, count, writer, sender) },
         move || -> (Receiver, Passed)
-            requires { IsSync R.row × IsValid table × (0 < length table.messages) × (reader.heap.words ≡ WORDS)
+            requires { IsSync R.row × IsValid table.now × (0 < length table.now.messages) × (reader.heap.words ≡ WORDS)
                 × (receiver.heap ≡ reader.heap) × (receiver.taken ≡ []) }
             ensures { (result.0.ring ≡ receiver.ring) × IsTrue result.0.closed
                 × (result.1.taken ≡ length result.0.taken) × (result.1.copied ≤ result.1.taken) }
         {
-            let passed = read_all(rt, alloc, &table, &mut reader, &mut receiver);
+            let passed = read_all(rt, alloc, table, &mut reader, &mut receiver);
             (receiver, passed)
         },
     );

@@ -6,11 +6,11 @@ use super::*;
 use crate::passing::{CAPACITY, WORDS, close, message, number_of, send};
 use descriptor_ring::{Receiver, Sender, Taken};
 use mrpc_base::Stores;
-use mrpc_table::{Memory, Table};
+use mrpc_table::Table;
 use shared_heap::{Reader, Writer};
 use std::alloc::Global;
+use std::process::Abort;
 use std::sync::Wait;
-use std::test::Fail;
 use std::thread;
 use std::thread::{Threads, join};
 
@@ -31,7 +31,7 @@ fn write_hundreds<R: Wait>(rt: &R, mut writer: Writer, mut sender: Sender)
 }
 
 // What a reader of descriptors found.
-#[derive(Drop)]
+#[derive(Clone, Copy)]
 struct Found {
     copies: u64,
     // Whether each number was one that its note knew or a later one, and none fell.
@@ -39,13 +39,13 @@ struct Found {
 }
 
 // Takes descriptors until the closing, and copies the message of each.
-fn read_hundreds<R: Wait>(
+fn read_hundreds<R: Abort + Wait>(
     rt: &R,
     alloc: Global,
     table: &Table,
     reader: &mut Reader,
     receiver: &mut Receiver,
-) -> Result<Found, Memory>
+) -> Found
     requires valid { IsValid table.now }
     requires known { 0 < length table.now.messages }
     requires words { reader.old.heap.words ≡ WORDS }
@@ -61,29 +61,29 @@ fn read_hundreds<R: Wait>(
         match receiver.take(rt) {
             Taken::Item(descriptor) => {
                 let least = descriptor.stores;
-                let number = number_of(alloc, table, reader, descriptor)?;
+                let number = number_of(alloc, table, reader, descriptor).expect(rt, "memory");
                 found.fresh &= least <= number && last <= number;
                 last = number;
                 found.copies += 1;
             }
-            Taken::Closed => return Ok(found),
+            Taken::Closed => return found,
             Taken::Empty(_) => thread::yield_now(),
         }
     }
     unreachable!()
 }
 
-fn copy_beside_stores<R: Threads + Wait + Sync>(
+fn copy_beside_stores<R: Abort + Threads + Wait + Sync>(
     rt: &R,
     writing: (Writer, Sender),
     reading: (Reader, Receiver),
-    copying: (Global, Table),
-) -> Result<Found, Memory>
+    copying: (Global, &Table),
+) -> Found
     requires words { (writing.0.heap.words ≡ WORDS) × (reading.0.heap.words ≡ WORDS) }
     requires heaps { (writing.1.heap ≡ writing.0.heap) × (reading.1.heap ≡ reading.0.heap) }
     requires first { (writing.0.stores ≡ []) × (writing.1.sent ≡ []) × (reading.1.taken ≡ []) }
-    requires valid { IsValid copying.1 }
-    requires known { 0 < length copying.1.messages }
+    requires valid { IsValid copying.1.now }
+    requires known { 0 < length copying.1.now.messages }
 {
     let (writer, sender) = writing;
     let (mut reader, mut receiver) = reading;
@@ -94,23 +94,32 @@ fn copy_beside_stores<R: Threads + Wait + Sync>(
             requires { IsSync R.row × (writer.heap.words ≡ WORDS) × (sender.heap ≡ writer.heap)
                 × (writer.stores ≡ []) × (sender.sent ≡ []) }
         { write_hundreds(rt, writer, sender) },
-        move || -> Result<Found, Memory>
-            requires { IsSync R.row × IsValid table × (0 < length table.messages) × (reader.heap.words ≡ WORDS)
+        move || -> Found
+            requires { IsSync R.row × IsValid table.now × (0 < length table.now.messages) × (reader.heap.words ≡ WORDS)
                 × (receiver.heap ≡ reader.heap) × (receiver.taken ≡ []) }
-        { read_hundreds(rt, alloc, &table, &mut reader, &mut receiver) },
+        { read_hundreds(rt, alloc, table, &mut reader, &mut receiver) },
     );
     found
 }
 
-#[test]
-fn a_reader_copies_what_a_note_knows(rt: HostRuntime) -> Result<(), Fail> {
-    let alloc = rt.alloc();
-    let table = read_table(alloc, TABLE)?;
+// What a reader finds that copies the messages of a table.
+fn found_in<R: Abort + Threads + Wait + Sync>(rt: &R, alloc: Global, table: &Table) -> Found
+    requires { IsValid table.now }
+{
     assert!(rt; !table.messages.is_empty());
-    let (writer, reader) = shared_heap::open(alloc, WORDS)?;
-    let (sender, receiver) = descriptor_ring::open(alloc, CAPACITY, &reader)?;
-    let found = copy_beside_stores(&rt, (writer, sender), (reader, receiver), (alloc, table))?;
+    let (writer, reader) = shared_heap::open(alloc, WORDS).expect(rt, "memory");
+    let (sender, receiver) = descriptor_ring::open(alloc, CAPACITY, &reader).expect(rt, "memory");
+    copy_beside_stores(rt, (writer, sender), (reader, receiver), (alloc, table))
+}
+
+fn reader_finds<R: Abort + Threads + Wait + Sync>(rt: &R, alloc: Global) -> Found {
+    let table = read_table(alloc, TABLE).expect(rt, "a table");
+    found_in(rt, alloc, &table)
+}
+
+#[test]
+fn a_reader_copies_what_a_note_knows(rt: HostRuntime) {
+    let found = reader_finds(&rt, rt.alloc());
     assert!(rt; found.copies == 10);
     assert!(rt; found.fresh);
-    Ok(())
 }
