@@ -4,7 +4,7 @@ use graph_form::Reason;
 use mrpc_table::Tree;
 
 /// What the service took of a call's arguments.
-#[derive(Debug, Drop)]
+#[derive(Drop)]
 pub enum TookCopy {
     /// A private copy.
     Copy {
@@ -19,14 +19,14 @@ pub enum TookCopy {
 }
 
 /// Why a call was refused.
-#[derive(Clone, Copy, Debug, PartialEq, Eq)]
+#[derive(Clone, Copy)]
 pub enum Cause {
     /// Its graph is malformed.
     Malformed,
 }
 
 /// One thing that happened on a connection.
-#[derive(Debug, Drop)]
+#[derive(Drop)]
 pub enum Happening {
     /// A call was accepted.
     Took {

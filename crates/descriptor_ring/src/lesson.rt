@@ -4,7 +4,7 @@ use std::marker::Model;
 
 /// What a call learnt of a full or an empty ring. Contracts see it as the number of items that the ring held at the
 /// call's own step.
-#[derive(Clone, Copy, Debug, PartialEq, Eq)]
+#[derive(Clone, Copy)]
 pub struct Lesson {
     held: u64,
 }

@@ -15,7 +15,7 @@ use std::marker::{Brand, Model};
 use std::sync::{Arc, Wait};
 
 /// The ring was full.
-#[derive(Debug, Drop)]
+#[derive(Drop)]
 pub struct NumberFull {
     /// The number that was to be sent.
     pub item: u64,
@@ -23,7 +23,7 @@ pub struct NumberFull {
 }
 
 /// What a receiver took.
-#[derive(Debug, Drop)]
+#[derive(Drop)]
 pub enum NumberTaken {
     /// The next number.
     Item(u64),

@@ -13,7 +13,7 @@ use arrayvec::ArrayVec;
 pub type Marks = ArrayVec<Mark, MAX_ENGINES>;
 
 /// A mark, for the engine of an attachment.
-#[derive(Clone, Copy, Debug)]
+#[derive(Clone, Copy)]
 pub struct Mark {
     /// The number of the attachment.
     pub attach: u32,
@@ -21,7 +21,7 @@ pub struct Mark {
 }
 
 /// What a mark says.
-#[derive(Clone, Copy, Debug)]
+#[derive(Clone, Copy)]
 pub enum Note {
     /// The access policy of this version allowed the call.
     Allowed { version: u32 },

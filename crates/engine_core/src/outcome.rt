@@ -1,7 +1,7 @@
 //! How a turn of an engine comes out.
 
 /// What came of a call that an engine worked on.
-#[derive(Clone, Copy, Debug, PartialEq, Eq)]
+#[derive(Clone, Copy, PartialEq, Eq)]
 pub enum Outcome {
     /// It goes on, and this was noted of it.
     Passed(Noted),
@@ -14,7 +14,7 @@ pub enum Outcome {
 }
 
 /// What was noted of a call in a turn.
-#[derive(Clone, Copy, Debug, PartialEq, Eq)]
+#[derive(Clone, Copy, PartialEq, Eq)]
 pub enum Noted {
     /// Nothing.
     Nothing,
@@ -27,7 +27,7 @@ pub enum Noted {
 }
 
 /// Why an engine refuses a call.
-#[derive(Clone, Copy, Debug, PartialEq, Eq)]
+#[derive(Clone, Copy, PartialEq, Eq)]
 pub enum Why {
     /// An access policy denied it, by the rule at this place; the number of rules stands for the default.
     Denied { rule: u32 },

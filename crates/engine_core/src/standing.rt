@@ -16,7 +16,7 @@ use policy_redact::Redact;
 use std::marker::Model;
 
 /// A call with its marks: at most one for each engine, and at most eight.
-#[derive(Debug, Drop)]
+#[derive(Drop)]
 pub struct Standing {
     call: Call,
     marks: Marks,

@@ -6,7 +6,7 @@ use mrpc_table::{Decimal, Kind, Label, Memory, Sequence};
 use std::alloc::Global;
 
 /// A way into a tree, and the field at its end.
-#[derive(Debug, Drop)]
+#[derive(Drop)]
 pub struct Path {
     /// The numbers of the messages on the way, the outermost first, 31 at most.
     pub way: Sequence<u32>,
@@ -19,7 +19,7 @@ pub struct Path {
 }
 
 /// Field numbers joined by dots, as a word spells them: 1 to 32 numbers of any size.
-#[derive(Debug, Drop)]
+#[derive(Drop)]
 pub struct PathWord {
     /// All numbers but the last, in order.
     pub way: Sequence<Decimal>,

@@ -7,7 +7,7 @@ use std::alloc::AllocFailed;
 use thiserror::Error;
 
 /// Why no set of files was read. Files are counted from 1. A `Bundle` fault counts before each `Path` fault.
-#[derive(Clone, Copy, Debug, PartialEq, Eq, Error)]
+#[derive(Clone, Copy, Debug, Error)]
 pub enum BundleFault {
     /// The first file that doesn't stand there: its header line isn't of its form, the bytes behind that are too few,
     /// no file is there at all (then `file` is 1), or it is the 65th, of which any byte is too much.

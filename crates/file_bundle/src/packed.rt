@@ -1,7 +1,7 @@
 //! A file where it stands in a set.
 
 /// A file as it stands in a set: its path and its bytes, borrowed from the input.
-#[derive(Clone, Copy, Debug)]
+#[derive(Clone, Copy)]
 pub struct Packed<'a> {
     /// The path. In a set that was read, [`is_path`](crate::is_path) holds of it.
     pub path: &'a [u8],

@@ -8,7 +8,7 @@ use thiserror::Error;
 
 /// The first field of a stream that no frame can have, or running out of memory. A place counts bytes of
 /// the whole stream from 0.
-#[derive(Clone, Copy, Debug, PartialEq, Eq, Error)]
+#[derive(Clone, Copy, Debug, Error)]
 pub enum FeedFault {
     /// A version other than 1, and in a hello other than 1 and 2, at the version's byte.
     #[error("version {value} at byte {place}")]

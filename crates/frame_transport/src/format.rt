@@ -27,7 +27,7 @@ pub const REPLY: u8 = 2;
 pub const HELLO: u8 = 3;
 
 /// A frame that came on a stream.
-#[derive(Debug, Drop)]
+#[derive(Drop)]
 pub struct Frame {
     /// 1 for a request, 2 for a reply, 3 for a hello.
     pub kind: u8,

@@ -9,7 +9,7 @@ use crate::format::HEADER_LEN;
 use crate::header::{fault_in, read_header};
 
 /// A frame whose payload is borrowed from the bytes of its stream.
-#[derive(Clone, Copy, Debug)]
+#[derive(Clone, Copy)]
 pub struct FrameRef<'a> {
     /// 1 for a request, 2 for a reply, 3 for a hello.
     pub kind: u8,

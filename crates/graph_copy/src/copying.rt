@@ -18,7 +18,7 @@ use mrpc_table::{Memory, Table, Tree};
 use std::alloc::Global;
 
 /// What a copy comes to.
-#[derive(Debug, Drop)]
+#[derive(Drop)]
 pub enum CopyResult {
     /// The tree of a sound graph, with the number of loads that it took.
     Copied {

@@ -7,7 +7,7 @@ pub type Loads = Sequence<(u64, u64)>;
 
 /// A message that stands in a heap: where its node begins, and all the words that are loaded of it. Its type, the
 /// address and these words determine the placed tree ([`crate::loads_determine_placed_tree`]), so nothing else is kept.
-#[derive(Debug, Drop)]
+#[derive(Drop)]
 pub struct Placed {
     /// The place of the node's first word.
     pub address: u64,

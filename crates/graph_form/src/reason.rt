@@ -1,7 +1,7 @@
 //! Why a graph is refused.
 
 /// What is wrong with the last word that was loaded of a graph.
-#[derive(Clone, Copy, Debug, PartialEq, Eq)]
+#[derive(Clone, Copy, PartialEq, Eq)]
 pub enum Reason {
     /// An address whose span doesn't lie in the heap.
     Address,

@@ -7,7 +7,7 @@ use std::env::Env;
 use std::io::ErrorKind;
 
 /// What a command line asks the program itself for.
-#[derive(Clone, Copy, PartialEq, Eq)]
+#[derive(Clone, Copy)]
 pub(crate) enum Asked {
     /// The usage text.
     Help,
@@ -16,7 +16,7 @@ pub(crate) enum Asked {
 }
 
 /// Why the words couldn't be read.
-#[derive(Clone, Copy, PartialEq, Eq)]
+#[derive(Clone, Copy)]
 pub(crate) enum WordsFault {
     /// A word isn't UTF-8.
     NotText,

@@ -4,7 +4,7 @@ ghost use Rattle.mrpc_base.specs.Faults.{raised};
 
 use std::marker::Model;
 
-#[derive(Debug, Drop)]
+#[derive(Drop)]
 pub(crate) struct Calls {
     // In ascending order, so that a call is looked up by a binary search.
     failing: Vec<u64>,

@@ -4,7 +4,7 @@ ghost use Rattle.mrpc_base.specs.Faults.{HasCause};
 use crate::Link;
 
 /// Why a pair of links was not opened.
-#[derive(Clone, Copy, Debug, PartialEq, Eq)]
+#[derive(Clone, Copy, Debug)]
 pub enum OpenFault {
     /// The fabric failed.
     Failed,

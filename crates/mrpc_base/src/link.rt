@@ -4,7 +4,7 @@ ghost use Rattle.mrpc_base.specs.Faults.{HasCause};
 ghost use Rattle.mrpc_base.specs.Linking.{OnCame, OnNoneCame};
 
 /// What a send answers.
-#[derive(Clone, Copy, Debug, PartialEq, Eq)]
+#[derive(Clone, Copy, PartialEq, Eq)]
 pub enum Handed {
     /// The frame was handed over, whole.
     Done,
@@ -15,7 +15,7 @@ pub enum Handed {
 }
 
 /// What a receive answers.
-#[derive(Clone, Copy, Debug, PartialEq, Eq)]
+#[derive(Clone, Copy, PartialEq, Eq)]
 pub enum Came {
     /// So many bytes, from 1 to the buffer's length, stand at the buffer's start.
     Bytes(usize),

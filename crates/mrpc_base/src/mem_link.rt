@@ -14,7 +14,7 @@ use std::marker::Model;
 /// A link in memory. Contracts see it as a `Linking`: the frames that were handed over, the bytes that came and
 /// those that are left, the lengths and the numbers of failing sends and receives that it was made with, how many
 /// sends and receives there were and failed, and whether either side has finished.
-#[derive(Debug, Drop)]
+#[derive(Drop)]
 pub struct MemLink {
     alloc: Global,
     handed: Vec<Vec<u8>>,

@@ -10,7 +10,7 @@ use std::marker::Model;
 
 /// A sink that keeps what is written in memory. Contracts see it as a `Writing`: the bytes that were written,
 /// the numbers of failing writes that it was made with, and how many writes there were and failed.
-#[derive(Debug, Drop)]
+#[derive(Drop)]
 pub struct MemSink {
     written: Vec<u8>,
     calls: Calls,

@@ -10,7 +10,7 @@ use std::marker::Model;
 
 /// A source over bytes in memory. Contracts see it as a `Reading`: the bytes that are left, the lengths and
 /// the numbers of failing reads that it was made with, and how many reads there were and failed.
-#[derive(Debug, Drop)]
+#[derive(Drop)]
 pub struct MemSource {
     supply: Supply,
     lengths: Vec<usize>,

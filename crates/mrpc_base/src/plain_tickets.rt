@@ -10,7 +10,7 @@ use std::marker::Model;
 
 /// Quotas with one counter for each tenant and window. Tenants are numbered from 0. Contracts see them as
 /// `Counters`: how many tenants there are, and how many tickets were drawn of each in each window.
-#[derive(Debug, Drop)]
+#[derive(Drop)]
 pub struct PlainTickets {
     counters: Vec<u64>,
     tenants: u32,

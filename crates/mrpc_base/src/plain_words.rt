@@ -14,7 +14,7 @@ use std::marker::Model;
 /// for how many loads and stores there is room.
 ///
 /// A *submission* is a run of loads that ends with `finish_submission`; the first begins when the heap is opened.
-#[derive(Debug, Drop)]
+#[derive(Drop)]
 pub struct PlainWords {
     words: StoredWords,
     loads: Vec<(u64, u64)>,

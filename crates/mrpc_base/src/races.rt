@@ -11,7 +11,7 @@ use std::marker::Model;
 // A store, and where it goes.
 type Store = (u64, u64);
 
-#[derive(Debug, Drop)]
+#[derive(Drop)]
 pub(crate) struct Races {
     // By the number of the load, then by the number of the listing.
     waiting: BTreeMap<(u64, u64), Store>,

@@ -11,7 +11,7 @@ pub trait ReadyOrder: Sync {
 }
 
 /// The order in which each connection gets one round at a time.
-#[derive(Clone, Copy, Debug, PartialEq, Eq)]
+#[derive(Clone, Copy)]
 pub struct PlainOrder;
 
 impl ReadyOrder for PlainOrder {

@@ -4,7 +4,7 @@ ghost use Rattle.mrpc_base.specs.Faults.{HasCause};
 ghost use Rattle.mrpc_base.specs.Writing.{OnTook};
 
 /// What a write answers.
-#[derive(Clone, Copy, Debug, PartialEq, Eq)]
+#[derive(Clone, Copy, PartialEq, Eq)]
 pub enum Put {
     /// So many bytes, from 1 to the piece's length, were taken from the piece's start.
     Took(usize),

@@ -4,7 +4,7 @@ ghost use Rattle.mrpc_base.specs.Faults.{HasCause};
 ghost use Rattle.mrpc_base.specs.Reading.{OnBytes, OnNoBytes};
 
 /// What a read answers.
-#[derive(Clone, Copy, Debug, PartialEq, Eq)]
+#[derive(Clone, Copy, PartialEq, Eq)]
 pub enum Got {
     /// So many bytes, from 1 to the buffer's length, stand at the buffer's start.
     Bytes(usize),

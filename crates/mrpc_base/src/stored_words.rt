@@ -6,7 +6,7 @@ use crate::Room;
 use std::alloc::{AllocError, Global};
 use std::marker::Model;
 
-#[derive(Debug, Drop)]
+#[derive(Drop)]
 pub(crate) struct StoredWords {
     words: Vec<u64>,
     stores: Vec<(u64, u64)>,

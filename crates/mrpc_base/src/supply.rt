@@ -3,7 +3,7 @@ ghost use Rattle.std.specs.Prelude.{◌≡◌, ◌≤◌, [], ◌++◌, length, 
 
 use std::marker::Model;
 
-#[derive(Debug, Drop)]
+#[derive(Drop)]
 pub(crate) struct Supply {
     bytes: Vec<u8>,
     // How many bytes were given: none is moved.

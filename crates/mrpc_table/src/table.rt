@@ -16,7 +16,7 @@ use crate::sequence::{Name, Sequence};
 use crate::words::is_word;
 
 /// The kind of a value. A `Message` or a `Choice` names a message or an enum of the table.
-#[derive(Clone, Copy, Debug, PartialEq, Eq)]
+#[derive(Clone, Copy, PartialEq, Eq)]
 pub enum Kind {
     /// `int32`: a varint, sign extended to 64 bits.
     Int32,
@@ -172,7 +172,7 @@ impl Kind {
 }
 
 /// How often a field stands, and how it is written.
-#[derive(Clone, Copy, Debug, PartialEq, Eq)]
+#[derive(Clone, Copy, PartialEq, Eq)]
 pub enum Label {
     /// Once, with implicit presence; a message is there or not.
     Plain,
@@ -201,7 +201,7 @@ impl Label {
 }
 
 /// A field of a message.
-#[derive(Debug, Drop)]
+#[derive(Drop)]
 pub struct Field {
     /// 1 to 536870911, and not 19000 to 19999.
     pub number: u32,
@@ -217,7 +217,7 @@ pub type Fields = Sequence<Field>;
 pub type Names = Sequence<Name>;
 
 /// A message of the schema. Its oneofs stand in the order of their least member numbers.
-#[derive(Debug, Drop)]
+#[derive(Drop)]
 pub struct Message {
     /// The full name.
     pub name: Name,
@@ -243,7 +243,7 @@ impl Message {
 pub type ChoiceValues = Sequence<(i32, Name)>;
 
 /// An enum of the schema.
-#[derive(Debug, Drop)]
+#[derive(Drop)]
 pub struct Choices {
     /// The full name.
     pub name: Name,
@@ -251,7 +251,7 @@ pub struct Choices {
 }
 
 /// A method of a service. Its input and output are places of messages in the table.
-#[derive(Debug, Drop)]
+#[derive(Drop)]
 pub struct Method {
     /// The full name of its service.
     pub service: Name,
@@ -271,7 +271,7 @@ pub type Methods = Sequence<Method>;
 
 /// What a schema says. `IsValid` of `specs/Valid.antt` says when it is one that a canonical text
 /// can write.
-#[derive(Debug, Drop)]
+#[derive(Drop)]
 pub struct Table {
     pub messages: Messages,
     pub enums: Enums,

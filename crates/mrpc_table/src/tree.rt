@@ -11,7 +11,7 @@ use std::marker::Model;
 
 /// A message: its fields, by ascending number where it is in normal form.
 #[cycle(tree)]
-#[derive(Debug, Drop)]
+#[derive(Drop)]
 pub struct Tree {
     pub fields: Numbered,
 }
@@ -21,7 +21,7 @@ pub type Numbered = Vec<(u32, FieldValue)>;
 
 /// What a field has.
 #[cycle(tree)]
-#[derive(Debug, Drop)]
+#[derive(Drop)]
 pub enum FieldValue {
     /// The value of a singular field.
     One(Value),
@@ -39,7 +39,7 @@ pub type Entries = Vec<(Value, Value)>;
 
 /// One value.
 #[cycle(tree)]
-#[derive(Debug, Drop)]
+#[derive(Drop)]
 pub enum Value {
     /// A number, a truth value or an enum's value, in the word form of its kind.
     Number(u64),

@@ -141,7 +141,7 @@ fn is_decimal(word: &[u8]) -> bool
 }
 
 /// A number as a word spells it.
-#[derive(Clone, Copy, Debug, PartialEq, Eq)]
+#[derive(Clone, Copy, PartialEq, Eq)]
 pub enum Decimal {
     /// A number of 64 bits.
     Small(u64),

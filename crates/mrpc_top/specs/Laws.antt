@@ -30,7 +30,8 @@ use Rattle.schema_resolve.specs.Tables.{IsTableOf}
 -- behind a head one table's text stands or no `end` line follows; a text is canonical or has one first fault, and never
 -- both
 pub record TextLaw : Type 0 where
-  pub some_behind : (head body : List ℕ) → ((table : List ℕ) × (rest : List ℕ) × HasTableBehind head (head ++ body) table rest)
+  pub some_behind : (head body : List ℕ)
+      → ((table : List ℕ) × (rest : List ℕ) × HasTableBehind head (head ++ body) table rest)
       ⊎ IsEndless head (head ++ body) body
   pub table_or_fault : (text : List ℕ) → ((t : Table) × IsValid t × (text ≡ table_text t))
       ⊎ ((line : ℕ) × (reason : TableReason) × IsTextFault text line reason)

@@ -136,7 +136,7 @@ pub fn one_decoding()
 }
 
 /// A command of the program.
-#[derive(Clone, Copy, PartialEq, Eq)]
+#[derive(Clone, Copy)]
 enum Command {
     Replay,
     Decode,

@@ -6,7 +6,7 @@ ghost use Rattle.policy_rate.specs.Level.{IsRate, full_level, level_after, conve
 use crate::rate::Rate;
 
 /// What an attachment of a rate policy may still spend. A call costs the `per` of the policy.
-#[derive(Clone, Copy, Debug, PartialEq, Eq)]
+#[derive(Clone, Copy)]
 pub struct Bucket {
     /// What it holds.
     pub level: u64,
@@ -15,7 +15,7 @@ pub struct Bucket {
 }
 
 /// What became of a call that was to be charged.
-#[derive(Clone, Copy, Debug, PartialEq, Eq)]
+#[derive(Clone, Copy, PartialEq, Eq)]
 pub enum Step {
     /// The call was charged, and this is the level after it.
     Pass { level: u64 },

@@ -1,7 +1,7 @@
 //! What an operator writes in a rate policy.
 
 /// A rate policy. `IsRate` of `specs/Level.antt` has the ranges of its numbers.
-#[derive(Clone, Copy, Debug, PartialEq, Eq)]
+#[derive(Clone, Copy)]
 pub struct Rate {
     /// How many calls may be charged in `per` milliseconds, in the long run: 1 to 1000000.
     pub amount: u64,

@@ -12,7 +12,7 @@ use std::alloc::Global;
 use std::marker::Model;
 
 /// A field that is cleared, of the requests or of the replies of a method.
-#[derive(Debug, Drop)]
+#[derive(Drop)]
 pub struct Clear {
     /// The index of the method in the table.
     pub method: u16,
@@ -60,7 +60,7 @@ impl Clear {
 }
 
 /// A redacting policy: 1 to 64 clears. Clauses see their list.
-#[derive(Debug, Drop)]
+#[derive(Drop)]
 pub struct Redact {
     clears: Sequence<Clear>,
 }

@@ -6,7 +6,7 @@
 use mrpc_table::{Decimal, Name, Sequence};
 
 /// Where something stands in a text.
-#[derive(Clone, Copy, Debug, PartialEq, Eq)]
+#[derive(Clone, Copy, Debug)]
 pub struct Span {
     /// The place of its first byte, from 0.
     pub start: usize,
@@ -17,7 +17,7 @@ pub struct Span {
 }
 
 /// A name as it is written, without what stands between its parts, and where it stands.
-#[derive(Debug, Drop)]
+#[derive(Drop)]
 pub struct Word {
     /// A name, or names joined by dots; a type's name may begin with a dot.
     pub name: Name,
@@ -28,7 +28,7 @@ pub struct Word {
 pub type Words = Sequence<Word>;
 
 /// A whole number as it is written, and where it stands.
-#[derive(Clone, Copy, Debug, PartialEq, Eq)]
+#[derive(Clone, Copy)]
 pub struct Number {
     /// Whether a `-` stands before it; the span begins there.
     pub negative: bool,
@@ -37,7 +37,7 @@ pub struct Number {
 }
 
 /// An import of another file.
-#[derive(Debug, Drop)]
+#[derive(Drop)]
 pub struct Import {
     /// What the path's string stands for.
     pub path: Name,
@@ -50,7 +50,7 @@ pub struct Import {
 pub type Imports = Sequence<Import>;
 
 /// The label of a field.
-#[derive(Clone, Copy, Debug, PartialEq, Eq)]
+#[derive(Clone, Copy, PartialEq, Eq)]
 pub enum FieldLabel {
     Plain,
     Optional,
@@ -58,7 +58,7 @@ pub enum FieldLabel {
 }
 
 /// The type of a field, as it is written.
-#[derive(Debug, Drop)]
+#[derive(Drop)]
 pub enum FieldType {
     /// A scalar, or the name of a message or an enum.
     Named(Word),
@@ -69,7 +69,7 @@ pub enum FieldType {
 }
 
 /// A field of a message.
-#[derive(Debug, Drop)]
+#[derive(Drop)]
 pub struct FieldDecl {
     pub name: Word,
     pub number: Number,
@@ -85,7 +85,7 @@ pub struct FieldDecl {
 pub type FieldDecls = Sequence<FieldDecl>;
 
 /// Reserved numbers, from the first to the last.
-#[derive(Clone, Copy, Debug, PartialEq, Eq)]
+#[derive(Clone, Copy)]
 pub struct Range {
     pub first: Number,
     /// The last one, none for `max`.
@@ -96,7 +96,7 @@ pub struct Range {
 pub type Ranges = Sequence<Range>;
 
 /// A message.
-#[derive(Debug, Drop)]
+#[derive(Drop)]
 pub struct MessageDecl {
     pub name: Word,
     /// The place of its file among those that are resolved together; 0 in a file by itself.
@@ -114,7 +114,7 @@ pub struct MessageDecl {
 pub type MessageDecls = Sequence<MessageDecl>;
 
 /// A value of an enum.
-#[derive(Debug, Drop)]
+#[derive(Drop)]
 pub struct ValueDecl {
     pub name: Word,
     pub number: Number,
@@ -124,7 +124,7 @@ pub struct ValueDecl {
 pub type ValueDecls = Sequence<ValueDecl>;
 
 /// An enum.
-#[derive(Debug, Drop)]
+#[derive(Drop)]
 pub struct EnumDecl {
     pub name: Word,
     /// The place of its file among those that are resolved together; 0 in a file by itself.
@@ -141,7 +141,7 @@ pub struct EnumDecl {
 pub type EnumDecls = Sequence<EnumDecl>;
 
 /// A method of a service.
-#[derive(Debug, Drop)]
+#[derive(Drop)]
 pub struct RpcDecl {
     pub name: Word,
     pub input: Word,
@@ -152,7 +152,7 @@ pub struct RpcDecl {
 pub type RpcDecls = Sequence<RpcDecl>;
 
 /// A service.
-#[derive(Debug, Drop)]
+#[derive(Drop)]
 pub struct ServiceDecl {
     pub name: Word,
     /// The place of its file among those that are resolved together; 0 in a file by itself.
@@ -164,7 +164,7 @@ pub struct ServiceDecl {
 pub type ServiceDecls = Sequence<ServiceDecl>;
 
 /// What a proto file says.
-#[derive(Debug, Drop)]
+#[derive(Drop)]
 pub struct File {
     pub package: Option<Word>,
     pub imports: Imports,

@@ -11,7 +11,7 @@ use std::marker::Model;
 pub type Places = Sequence<usize>;
 
 /// What stands at the head of a file among those that are resolved together.
-#[derive(Debug, Drop)]
+#[derive(Drop)]
 pub struct Head {
     pub package: Option<Word>,
     /// The files whose types and packages its references may name, itself among them.
@@ -22,7 +22,7 @@ pub struct Head {
 pub type Heads = Sequence<Head>;
 
 /// What a message or an enum stands in.
-#[derive(Clone, Copy, Debug, PartialEq, Eq)]
+#[derive(Clone, Copy)]
 pub enum Home {
     /// In the file at this place, and in no message.
     File(usize),

@@ -7,20 +7,18 @@ ghost use Rattle.proto_imports.specs.declared.fault.ImportFault.TheVariants.{Mem
 use mrpc_table::Memory;
 use proto_file::Span;
 use std::alloc::{AllocError, AllocFailed};
+use std::fmt;
 use thiserror::Error;
 
 /// What can be at fault with an import. All imports that are missing come before all that stand twice, and a cycle
 /// counts only where there is neither.
-#[derive(Clone, Copy, Debug, PartialEq, Eq, Error)]
+#[derive(Clone, Copy, Debug)]
 pub enum ImportReason {
     /// No file of the set has its path.
-    #[error("Missing")]
     Missing,
     /// An earlier import of the same file has its path.
-    #[error("Twice")]
     Twice,
     /// It leads back to a file from which it is reached.
-    #[error("Cycle")]
     Cycle,
 }
 
@@ -37,8 +35,16 @@ impl ImportReason {
     }
 }
 
+impl fmt::Display for ImportReason {
+    fn fmt<W: fmt::Write>(&self, f: &mut fmt::Formatter<W>) -> fmt::Result {
+        f.write_str(self.word())
+    }
+}
+
+impl std::error::Error for ImportReason {}
+
 /// Which import of which file is at fault.
-#[derive(Clone, Copy, Debug, PartialEq, Eq, Error)]
+#[derive(Clone, Copy, Debug, Error)]
 pub enum ImportFault {
     /// The first fault: its reason, the file's place in the set, from 0, and where the import's path stands in it.
     #[error("file {file}, line {}: {reason}", span.line)]

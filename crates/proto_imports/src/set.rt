@@ -4,7 +4,7 @@ use mrpc_table::{Name, Sequence};
 use proto_file::File;
 
 /// A file of a set: the path by which others import it, and what it says.
-#[derive(Debug, Drop)]
+#[derive(Drop)]
 pub struct Member {
     pub path: Name,
     pub file: File,
@@ -14,7 +14,7 @@ pub struct Member {
 pub type Places = Sequence<usize>;
 
 /// The files that the first one reaches, and what each of them sees.
-#[derive(Debug, Drop)]
+#[derive(Drop)]
 pub struct Reach {
     /// They themselves, in the order in which they are resolved: the first file, then the others by ascending path.
     pub order: Places,

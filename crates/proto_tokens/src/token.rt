@@ -3,7 +3,7 @@
 use mrpc_table::Decimal;
 
 /// The sort of a token.
-#[derive(Clone, Copy, Debug, PartialEq, Eq)]
+#[derive(Clone, Copy, PartialEq, Eq)]
 pub enum Kind {
     /// A letter or `_`, and then letters, digits and `_`.
     Identifier,
@@ -22,7 +22,7 @@ pub enum Kind {
 }
 
 /// A token, and where it stands.
-#[derive(Clone, Copy, Debug, PartialEq, Eq)]
+#[derive(Clone, Copy)]
 pub struct Token {
     pub kind: Kind,
     /// The place of its first byte, from 0; at the end of the text the number of bytes.

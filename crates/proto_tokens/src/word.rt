@@ -16,7 +16,7 @@ use crate::token::Kind;
 use mrpc_table::{decimal_of, digit_value, is_name_byte, is_name_start};
 
 /// A token at the front of bytes: its sort and how many bytes it has.
-#[derive(Clone, Copy, Debug)]
+#[derive(Clone, Copy)]
 pub struct Word {
     pub kind: Kind,
     pub len: usize,

@@ -4,7 +4,7 @@ ghost use Rattle.std.specs.Prelude.{◌≡◌, ◌≤◌, ℕ};
 ghost use Rattle.qos_order.specs.Account.{IsWeight, granted};
 
 /// How a visit of a connection ended.
-#[derive(Clone, Copy, Debug, PartialEq, Eq)]
+#[derive(Clone, Copy)]
 pub enum Ending {
     /// All rounds of the grant were given.
     Given,
@@ -15,7 +15,7 @@ pub enum Ending {
 }
 
 /// What the visits of one connection came to.
-#[derive(Clone, Copy, Debug, PartialEq, Eq)]
+#[derive(Clone, Copy, PartialEq, Eq)]
 pub struct Account {
     /// The visits, 0 to 2^40.
     pub visits: u64,

@@ -3,7 +3,7 @@
 use crate::account::Account;
 
 /// A connection that was listed, with its weight and its account.
-#[derive(Clone, Copy, Debug)]
+#[derive(Clone, Copy)]
 pub struct Seat {
     /// The connection's number.
     pub conn: u32,

@@ -11,7 +11,7 @@ use std::marker::Model;
 
 /// The weighted order: it answers how many rounds in a row a connection gets. A connection that isn't
 /// listed has the weight 1.
-#[derive(Drop, Debug)]
+#[derive(Drop)]
 pub struct Weighted {
     weights: Vec<Weight>,
 }

@@ -9,7 +9,7 @@ use std::marker::Model;
 use thiserror::Error;
 
 /// The weight of a connection.
-#[derive(Clone, Copy, Debug, PartialEq, Eq)]
+#[derive(Clone, Copy)]
 pub struct Weight {
     /// The connection's number.
     pub conn: u32,
@@ -39,7 +39,7 @@ pub enum WeightFault {
 }
 
 /// A list of weights, over a vector.
-#[derive(Drop, Debug)]
+#[derive(Drop)]
 pub struct Weights {
     items: Vec<Weight>,
 }

@@ -11,7 +11,7 @@ use std::collections::VecDeque;
 use std::marker::Model;
 
 /// A list of connections with accounts. Each visit is of the first, which then goes last or leaves.
-#[derive(Drop, Debug)]
+#[derive(Drop)]
 pub struct Wheel {
     // The listed connections, by number.
     seats: Vec<Seat>,

@@ -5,7 +5,7 @@ use receive_heap::Block;
 use wire_decode::DecodeReason;
 
 /// Why a frame is dropped. The first cause that holds is the one, in this order.
-#[derive(Clone, Copy, Debug, PartialEq, Eq)]
+#[derive(Clone, Copy, PartialEq, Eq)]
 pub enum DropCause {
     /// It is a hello, which says nothing once a connection is open.
     Hello,
@@ -31,7 +31,7 @@ pub enum DropCause {
 }
 
 /// What became of the first frame of a stream.
-#[derive(Debug, Drop)]
+#[derive(Drop)]
 pub enum Arrival {
     /// No whole frame waits.
     None,

@@ -13,7 +13,7 @@ use std::marker::Model;
 use thiserror::Error;
 
 /// A block of words that is held.
-#[derive(Clone, Copy, Debug, PartialEq, Eq)]
+#[derive(Clone, Copy, PartialEq, Eq)]
 pub struct Block {
     /// Its number: the first block that is taken has 1, and each later one the next.
     pub number: u64,
@@ -49,7 +49,7 @@ pub struct NotHeld {
 
 /// The places of a heap, as held blocks and holes. A clause sees it as the data of
 /// `specs/Layout.antt`.
-#[derive(Debug, Drop)]
+#[derive(Drop)]
 pub struct Extents {
     words: u64,
     // By place. There is room for one more for each block that is held.

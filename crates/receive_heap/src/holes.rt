@@ -9,7 +9,7 @@ ghost use Rattle.receive_heap.specs.Parts.{AreHoles, FitsAt, Stands, IsClearBehi
 use std::alloc::Global;
 
 /// A row of places that are all free or all one block's.
-#[derive(Clone, Copy, Debug, PartialEq, Eq)]
+#[derive(Clone, Copy)]
 pub struct Span {
     /// The first place.
     pub at: u64,

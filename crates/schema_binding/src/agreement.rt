@@ -18,7 +18,7 @@ use std::alloc::Global;
 use table_text::table_text;
 
 /// What two tables agree on.
-#[derive(Clone, Copy, Debug, PartialEq, Eq)]
+#[derive(Clone, Copy)]
 pub struct Agreed {
     /// How many methods the service has.
     pub methods: u32,

@@ -8,7 +8,7 @@ use mrpc_table::{Memory, Name};
 use thiserror::Error;
 
 /// Why a payload isn't that of a hello.
-#[derive(Clone, Copy, Debug, PartialEq, Eq, Error)]
+#[derive(Clone, Copy, Debug, Error)]
 pub enum HelloFault {
     /// The first line at fault, from 1, which is the service's.
     #[error("line {line}")]

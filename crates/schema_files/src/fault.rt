@@ -9,20 +9,18 @@ use proto_imports::ImportReason;
 use proto_schema::ProtoReason;
 use schema_offences::ResolveReason;
 use std::alloc::{AllocError, AllocFailed};
+use std::fmt;
 use thiserror::Error;
 
 /// Why a set of files has no table. What stands against a text counts before all that stands against an import,
 /// and that before all that stands against a name or a number.
-#[derive(Clone, Copy, Debug, PartialEq, Eq, Error)]
+#[derive(Clone, Copy, Debug)]
 pub enum FilesReason {
     /// A text is no proto file.
-    #[error("{0}")]
     Proto(ProtoReason),
     /// An import is at fault.
-    #[error("{0}")]
     Import(ImportReason),
     /// Something stands against a name or a number.
-    #[error("{0}")]
     Resolve(ResolveReason),
 }
 
@@ -39,8 +37,16 @@ impl FilesReason {
     }
 }
 
+impl fmt::Display for FilesReason {
+    fn fmt<W: fmt::Write>(&self, f: &mut fmt::Formatter<W>) -> fmt::Result {
+        f.write_str(self.word())
+    }
+}
+
+impl std::error::Error for FilesReason {}
+
 /// Where a set of files is at fault.
-#[derive(Clone, Copy, Debug, PartialEq, Eq, Error)]
+#[derive(Clone, Copy, Debug, Error)]
 pub enum FilesFault {
     /// The first fault: the file's place in the set, from 0, the line in which it stands there, and its reason.
     #[error("file {file}, line {line}: {reason}")]

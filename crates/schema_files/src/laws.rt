@@ -63,8 +63,8 @@ pub fn one_files_fault()
 
 /// Files that have paths of their own, at least one, have a table or a first fault, and never both.
 pub fn table_or_files_fault()
-    ensures never_both { (files : List PackedFile) (t : Table) (i l : ℕ) (q : FilesReason) → AreDistinct (paths_of files)
-        → FilesResolve files t → HasFilesFault files i l q → ⊥ }
+    ensures never_both { (files : List PackedFile) (t : Table) (i l : ℕ) (q : FilesReason)
+        → AreDistinct (paths_of files) → FilesResolve files t → HasFilesFault files i l q → ⊥ }
     ensures never_neither { (files : List PackedFile) → 0 < length files → AreDistinct (paths_of files)
         → ((t : Table) → FilesResolve files t → ⊥)
         → ((i l : ℕ) (q : FilesReason) → HasFilesFault files i l q → ⊥) → ⊥ }

@@ -1,7 +1,7 @@
 //! Messages and enums, by their places.
 
 /// A message or an enum, by its place among those of the files that are resolved together.
-#[derive(Clone, Copy, Debug, PartialEq, Eq)]
+#[derive(Clone, Copy)]
 pub enum Named {
     /// A message.
     Message(usize),

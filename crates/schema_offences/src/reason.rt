@@ -2,41 +2,32 @@
 
 ghost use Rattle.std.specs.Prelude.{◌≡◌};
 
-use thiserror::Error;
+use std::error::Error;
+use std::fmt;
 
 /// What stands against a name or a number of a file. Of several reasons at one place the first of this list counts.
-#[derive(Clone, Copy, Debug, PartialEq, Eq, Error)]
+#[derive(Clone, Copy, Debug, PartialEq, Eq)]
 pub enum ResolveReason {
     /// No message or enum has this name, or, as the type of an rpc, no message.
-    #[error("UnknownName")]
     UnknownName,
     /// A field number out of 1 to 536870911 or in 19000 to 19999, or an enum's number out of 32 signed bits.
-    #[error("NumberRange")]
     NumberRange,
     /// A field number that an earlier field of the message has.
-    #[error("DuplicateNumber")]
     DuplicateNumber,
     /// A name that an earlier thing of the scope has. The values of an enum stand in the scope of the enum.
-    #[error("DuplicateName")]
     DuplicateName,
     /// A number or a name of a field or of an enum's value that is reserved there.
-    #[error("Reserved")]
     Reserved,
     /// The first value of an enum isn't 0.
-    #[error("FirstEnum")]
     FirstEnum,
     /// A map's key that is neither integral, nor a bool, nor a string.
-    #[error("MapKey")]
     MapKey,
     /// A map under a label, in a oneof, or as the value of a map.
-    #[error("MapPlace")]
     MapPlace,
     /// More than 256 messages, enums or methods, 128 fields of a message, 1024 values of an enum, 64 bytes of a name,
     /// 255 bytes of a full name, or 65536 bytes of the table's text.
-    #[error("Limit")]
     Limit,
     /// An import: a file alone has no other.
-    #[error("Import")]
     Import,
 }
 
@@ -61,3 +52,11 @@ impl ResolveReason {
         }
     }
 }
+
+impl fmt::Display for ResolveReason {
+    fn fmt<W: fmt::Write>(&self, f: &mut fmt::Formatter<W>) -> fmt::Result {
+        f.write_str(self.word())
+    }
+}
+
+impl Error for ResolveReason {}

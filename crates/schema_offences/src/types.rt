@@ -15,7 +15,7 @@ use proto_file::{FieldDecl, FieldLabel, FieldType, Home, Word};
 use schema_names::{Named, Scopes};
 
 /// The type of a field, or of a map's value.
-#[derive(Clone, Copy, Debug, PartialEq, Eq)]
+#[derive(Clone, Copy)]
 pub enum TypeOf {
     Scalar(Kind),
     Named(Named),

@@ -4,46 +4,37 @@ ghost use Rattle.std.specs.Prelude.{◌≡◌};
 ghost use Rattle.script_lang.specs.declared.fault.ScriptFault.TheVariants.{Memory as OutOfMemory};
 
 use mrpc_table::Memory;
+use std::fmt;
 use table_text::TableReason;
 use thiserror::Error;
 
 /// What is wrong with a line of a script. Of several reasons at one line, the first of this list counts.
-#[derive(Clone, Copy, Debug, PartialEq, Eq, Error)]
+#[derive(Clone, Copy, Debug)]
 pub enum ScriptReason {
     /// The first line isn't `mrpc-replay 1`.
-    #[error("Header")]
     Header,
     /// The lines between `table` and `end` are no canonical text of a table.
-    #[error("{}", .0.word())]
     Table(TableReason),
     /// An unknown word, a wrong number of words, a word that is no number, or a last line without its line feed.
-    #[error("Word")]
     Word,
     /// A number out of its range.
-    #[error("Number")]
     Number,
     /// The connection that a `conn` line names is open.
-    #[error("Known")]
     Known,
     /// The connection that a line uses isn't open.
-    #[error("Unknown")]
     Unknown,
     /// A place that isn't in 1 to below the words of the connection's heap, or a race before load 0.
-    #[error("Place")]
     Place,
     /// A form that isn't built yet, a second connection, or a 65th `submit` line.
-    #[error("NotYet")]
     NotYet,
     /// The text ends here, and its `close` line is missing.
-    #[error("Close")]
     Close,
     /// A line behind `close`.
-    #[error("After")]
     After,
 }
 
 /// Why no script was read.
-#[derive(Clone, Copy, Debug, PartialEq, Eq, Error)]
+#[derive(Clone, Copy, Debug, Error)]
 pub enum ScriptFault {
     /// The first line at fault, from 1, with its first reason.
     #[error("fault {line} {reason}")]
@@ -74,6 +65,14 @@ impl ScriptReason {
         }
     }
 }
+
+impl fmt::Display for ScriptReason {
+    fn fmt<W: fmt::Write>(&self, f: &mut fmt::Formatter<W>) -> fmt::Result {
+        f.write_str(self.word())
+    }
+}
+
+impl std::error::Error for ScriptReason {}
 
 impl From<Memory> for ScriptFault {
     ghost from_gives = { λ _ e. e ≡ OutOfMemory };

@@ -3,7 +3,7 @@
 use mrpc_table::{Sequence, Table};
 
 /// A line that does something, on the connection of a number from 1 to 16.
-#[derive(Clone, Copy, Debug, PartialEq, Eq)]
+#[derive(Clone, Copy)]
 pub enum Line {
     /// A connection is opened, with a heap of so many words, 4 to 65536, which are all 0.
     Conn {
@@ -42,7 +42,7 @@ pub enum Line {
 pub type Lines = Sequence<Line>;
 
 /// What a script says.
-#[derive(Debug, Drop)]
+#[derive(Drop)]
 pub struct Script {
     /// The most words that are loaded for a call, 1 to 16384.
     pub loads: u32,

@@ -6,7 +6,7 @@ use mrpc_table::Memory;
 use std::alloc::AllocFailed;
 
 /// Why a run stops before its end.
-#[derive(Clone, Copy, Debug, PartialEq, Eq)]
+#[derive(Clone, Copy)]
 pub enum Stop {
     /// No memory was found.
     Memory,

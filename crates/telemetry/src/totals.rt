@@ -16,7 +16,7 @@ use std::collections::BTreeMap;
 use std::marker::Model;
 
 /// Counts of what happened to calls, by method.
-#[derive(Drop, Debug)]
+#[derive(Drop)]
 pub struct Totals {
     counts: BTreeMap<u16, Counts>,
 }

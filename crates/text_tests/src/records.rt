@@ -38,7 +38,7 @@ fn a_record_is_read_whole(rt: HostRuntime) {
 
 #[test]
 fn a_short_record_is_refused(rt: HostRuntime) {
-    let fault = read_record(b"\x0a\x02A", 0).expect_err(&rt, "a fault");
+    let fault = read_record(b"\x0a\x02A", 0).err().expect(&rt, "a fault");
     assert!(rt; fault.reason == WireReason::Short);
     assert!(rt; fault.place == 1);
 }

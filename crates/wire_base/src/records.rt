@@ -14,7 +14,7 @@ use crate::fixed::{read_fixed32, read_fixed64};
 use crate::varint::read_varint;
 
 /// What a record has behind its tag.
-#[derive(Clone, Copy, Debug, PartialEq, Eq)]
+#[derive(Clone, Copy)]
 pub enum Payload {
     /// Wire type 0: the value of a varint.
     Varint(u64),
@@ -27,7 +27,7 @@ pub enum Payload {
 }
 
 /// A record of a byte string.
-#[derive(Clone, Copy, Debug, PartialEq, Eq)]
+#[derive(Clone, Copy)]
 pub struct Record {
     /// The field number, 1 to 536870911.
     pub number: u32,

@@ -15,7 +15,7 @@ use std::marker::Model;
 pub const MAX_VARINT: usize = 10;
 
 /// The shortest varint of a number. Clauses see its bytes.
-#[derive(Debug, Drop)]
+#[derive(Drop)]
 pub struct Spelling {
     bytes: [u8; MAX_VARINT],
     len: usize,

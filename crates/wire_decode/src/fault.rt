@@ -7,35 +7,28 @@ ghost use Rattle.wire_decode.specs.declared.fault.DecodeFault.TheVariants.{Memor
 
 use mrpc_table::Memory;
 use std::alloc::{AllocError, AllocFailed};
+use std::fmt;
 use thiserror::Error;
 use wire_base::{WireFault, WireReason};
 
 /// Why bytes aren't a message of a table. The first five are those of a record.
-#[derive(Clone, Copy, Debug, PartialEq, Eq, Error)]
+#[derive(Clone, Copy, Debug, PartialEq, Eq)]
 pub enum DecodeReason {
     /// Ten bytes with the top bit set stand where a varint should.
-    #[error("a varint is longer than ten bytes")]
     Varint = 1,
     /// The value of a tag is 2^32 or more.
-    #[error("a tag is out of range")]
     TagRange = 2,
     /// The field number of a tag is 0.
-    #[error("a field number is 0")]
     NumberZero = 3,
     /// The wire type of a tag is none of 0, 1, 2 and 5.
-    #[error("a wire type is unknown")]
     WireType = 4,
     /// The bytes end inside a tag or a payload.
-    #[error("the bytes end inside a record")]
     Short = 5,
     /// The payload of a string isn't UTF-8.
-    #[error("a string isn't UTF-8")]
     Utf8 = 6,
     /// The payload of packed numbers isn't a join of whole elements.
-    #[error("packed numbers aren't whole")]
     PackedLength = 7,
     /// The payload would be the 33rd message inside one another.
-    #[error("messages are nested too deep")]
     Depth = 8,
 }
 
@@ -59,8 +52,16 @@ impl DecodeReason {
     }
 }
 
+impl fmt::Display for DecodeReason {
+    fn fmt<W: fmt::Write>(&self, f: &mut fmt::Formatter<W>) -> fmt::Result {
+        f.write_str(self.word())
+    }
+}
+
+impl std::error::Error for DecodeReason {}
+
 /// Why no message was read.
-#[derive(Clone, Copy, Debug, PartialEq, Eq, Error)]
+#[derive(Clone, Copy, Debug, Error)]
 pub enum DecodeFault {
     /// The first fault of the bytes, and its place, counted from 0.
     #[error("byte {place}: {reason}")]
