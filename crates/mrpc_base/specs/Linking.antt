@@ -1,5 +1,5 @@
 -- What a send and a receive answer, and what a link in memory was handed and has left.
-use Rattle.std.specs.Prelude.{ℕ, Bool, List, ⊤}
+use Rattle.std.specs.Prelude.{◌≡◌, ℕ, Bool, List, [], ⊤, Option, IfSome}
 use Rattle.mrpc_base.specs.declared.link.Came.{Came}
 use Rattle.mrpc_base.specs.declared.link.Came.TheVariants.{Bytes, Idle, End, Failed, Memory}
 
@@ -18,6 +18,10 @@ OnNoneCame Idle P = P
 OnNoneCame End P = P
 OnNoneCame Failed P = P
 OnNoneCame Memory P = P
+
+-- no byte has come, where the bytes are told
+abbrev pub TellsNone : Option (List ℕ) → Type 0
+TellsNone given = IfSome given (λ bytes. bytes ≡ [])
 
 -- a link in memory
 pub record Linking : Type 0 where

@@ -1,5 +1,6 @@
 ghost use Rattle.std.specs.Prelude.{◌≡◌, ◌<◌, ◌+◌, ℕ, List, [], ◌∷◌, false, IfOk, OnErr, IsErrOf, IsPermutation};
 ghost use Rattle.mrpc_base.specs.Faults.{HasCause};
+ghost use Rattle.mrpc_base.specs.Linking.{TellsNone};
 
 use crate::Link;
 
@@ -26,10 +27,15 @@ pub trait Fabric {
     /// How many openings have failed; it stands still at 2^64 - 1.
     ghost faults: { Self → ℕ };
 
+    /// That two ends are those of one link, whatever they have done since.
+    ghost pair: { Self.L → Self.L → Type 0 };
+
     /// Opens the link between connections `a` and `b`, and gives the end of each. It makes the room that `keep` of
     /// both ends needs.
     fn open_pair(&mut self, a: u32, b: u32) -> Result<(Self::L, Self::L), OpenFault>
+        ensures pair { IfOk result (λ ends. pair ends.0 ends.1) }
         ensures handed { IfOk result (λ ends. (Self.L.handed ends.0 ≡ []) × (Self.L.handed ends.1 ≡ [])) }
+        ensures given { IfOk result (λ ends. TellsNone (Self.L.given ends.0) × TellsNone (Self.L.given ends.1)) }
         ensures not_ended { IfOk result (λ ends. (Self.L.ended ends.0 ≡ false) × (Self.L.ended ends.1 ≡ false)) }
         ensures no_faults { IfOk result (λ ends. (Self.L.faults ends.0 ≡ 0) × (Self.L.faults ends.1 ≡ 0)) }
         ensures away { IfOk result (λ ends. away self.new ≡ away self.old + 2) }
@@ -44,4 +50,7 @@ pub trait Fabric {
         ensures back { IsPermutation (back self.new) ((conn, link) ∷ back self.old) }
         ensures away { away self.new + 1 ≡ away self.old }
         ensures same_faults { faults self.new ≡ faults self.old };
+
+    /// Two ends of one link stay so, whatever each does.
+    ghost stays_pair: { (a b c d : Self.L) → pair a b → Self.L.since a c → Self.L.since b d → pair c d };
 }

@@ -1,4 +1,4 @@
-ghost use Rattle.std.specs.Prelude.{◌≡◌, ◌≢◌, ◌<◌, ◌≤◌, List, [], ◌∷◌, ◌++◌, ℕ, Bool, Option, IsTrue, length, take};
+ghost use Rattle.std.specs.Prelude.{◌≡◌, ◌≢◌, ◌<◌, ◌≤◌, List, [], ◌∷◌, ◌++◌, ℕ, Bool, Option, None, IsTrue, length, take};
 ghost use Rattle.std.specs.Io.KnownBytes.{Appends, Keeps};
 ghost use Rattle.mrpc_base.specs.Faults.{HasCause};
 ghost use Rattle.mrpc_base.specs.Linking.{OnCame, OnNoneCame};
@@ -69,6 +69,8 @@ pub trait Link {
         ensures count { OnCame result (λ n. (0 < n) × (n ≤ length buf.old)) }
         ensures appended { OnCame result (λ n. Appends (given self.old) (given self.new) (take n buf.new)) }
         ensures kept { OnNoneCame result (Keeps (given self.old) (given self.new)) }
+        // A link that doesn't tell its bytes doesn't begin to later.
+        ensures silent { given self.old ≡ None → given self.new ≡ None }
         ensures ends { result ≡ Came.End → IsTrue (ended self.new) }
         ensures same_ended { result ≢ Came.End → ended self.new ≡ ended self.old }
         ensures same_handed { handed self.new ≡ handed self.old }

@@ -58,12 +58,14 @@ impl PlainTickets {
 }
 
 impl Tickets for PlainTickets {
-    ghost use Rattle.std.specs.Prelude.{◌<◌};
+    ghost use Rattle.std.specs.Prelude.{◌≡◌, ◌<◌};
     ghost use Rattle.mrpc_base.specs.Quota.{drawn_in, tickets_of};
 
     ghost knows = { λ quotas tenant. tenant < quotas.tenants };
 
     ghost drawn = { λ quotas tenant window. tickets_of (drawn_in quotas tenant window) };
+
+    ghost since = { λ old new. new.tenants ≡ old.tenants };
 
     #[tactic(auto, using(crate::proofs::Drawn::tickets_drawn))]
     fn draw(&mut self, tenant: u32, window: u64) -> u64

@@ -276,11 +276,17 @@ impl Words for PlainWords {
 }
 
 impl Stores for PlainWords {
+    ghost use Rattle.std.specs.Prelude.{◌≡◌};
+
     ghost words = { λ h. h.size };
 
     ghost stores = { λ h. h.stores };
 
     ghost room = { λ h. h.store_room };
+
+    // What its reader has done stays, and so do the races that are to come.
+    ghost since = { λ old new. (new.size ≡ old.size) × (new.loads ≡ old.loads) × (new.begun ≡ old.begun)
+        × (new.races ≡ old.races) × (new.load_room ≡ old.load_room) };
 
     fn size(&self) -> u64
         ensures { result ≡ self.now.size }

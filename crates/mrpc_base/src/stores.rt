@@ -13,6 +13,9 @@ pub trait Stores {
     /// For how many stores there is room.
     ghost room: { Self → ℕ };
 
+    /// That the second is the first, later on: whatever a heap was once, each call leaves it so.
+    ghost since: { Self → Self → Type 0 };
+
     /// How many words the heap has.
     fn size(&self) -> u64
         ensures { result ≡ words self.now };
@@ -28,7 +31,8 @@ pub trait Stores {
         ensures never_falls { room self.old ≤ room self.new }
 
         ensures words { words self.new ≡ words self.old }
-        ensures stores { stores self.new ≡ stores self.old };
+        ensures stores { stores self.new ≡ stores self.old }
+        ensures same_heap { (first : Self) → since first self.old → since first self.new };
 
     /// Stores `value` at `place`, which is counted from 0. Place 0 is never stored. It takes no memory.
     fn store(&mut self, place: u64, value: u64)
@@ -39,5 +43,6 @@ pub trait Stores {
 
         ensures stored { stores self.new ≡ stores self.old ++ (place, value) ∷ [] }
         ensures lowered { room self.old ≤ room self.new + 1 }
-        ensures words { words self.new ≡ words self.old };
+        ensures words { words self.new ≡ words self.old }
+        ensures same_heap { (first : Self) → since first self.old → since first self.new };
 }
