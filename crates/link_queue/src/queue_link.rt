@@ -18,7 +18,7 @@ pub(crate) const MARK_PLACES: usize = 2;
 
 /// A link whose frames a [`QueueWriter`](crate::QueueWriter) passes on. Contracts see it as a `Queueing`. A frame was
 /// handed over once it is in the queue.
-pub struct QueueLink<'r, R> {
+pub struct QueueLink<'r, R: Wait> {
     rt: &'r R,
     alloc: Global,
     // How many frames wait at most. The queue has more places, for the marks.
@@ -32,24 +32,14 @@ pub struct QueueLink<'r, R> {
     ended: bool,
 }
 
-// By hand, so that a drop is one call where it is needed, and not a drop of each part.
-impl<'r, R> Drop for QueueLink<'r, R> {
+// A link that is dropped is closed, so that its writer ends.
+impl<'r, R: Wait> Drop for QueueLink<'r, R> {
     fn drop(self) {
-        let QueueLink {
-            rt: _,
-            alloc: _,
-            most: _,
-            out: _out,
-            incoming: _incoming,
-            health: _,
-            faults: _,
-            finished: _,
-            ended: _,
-        } = self;
+        let _passed = self.close();
     }
 }
 
-impl<'r, R> Model for QueueLink<'r, R> {
+impl<'r, R: Wait> Model for QueueLink<'r, R> {
     ghost use Rattle.one_way_queue.specs.Ends.{put_of, capacity_of, free_of, producer_queue};
     ghost use Rattle.one_way_queue.specs.Pieces.{bytes_of};
     ghost use Rattle.one_way_queue.specs.Readers.{given_by, taken_by, told_by, reader_queue};

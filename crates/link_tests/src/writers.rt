@@ -119,6 +119,17 @@ fn written_late<R: Abort + Wait>(rt: &R, alloc: Global, finishes: u32) -> Writer
     writer.run()
 }
 
+// The same, but the link is dropped and not closed.
+fn written_for_nobody<R: Abort + Wait>(rt: &R, alloc: Global) -> WriterEnd<MemLink> {
+    let inner = three_bytes(rt, alloc, &[], &[]);
+    let (mut link, writer) = open(rt, alloc, 1, inner).expect(rt, "memory");
+    send_and_finish(rt, &mut link, 0);
+    discard(link);
+    writer.run()
+}
+
+fn discard<R: Wait>(_link: QueueLink<R>) {}
+
 fn send_and_finish<R: Abort + Wait>(rt: &R, link: &mut QueueLink<R>, finishes: u32) {
     assert!(rt; link.send(&[5, 6]) == Handed::Done);
     for _ in 0..finishes {
@@ -132,6 +143,12 @@ fn has_the_frame(link: &MemLink) -> bool {
         [frame] => frame.as_slice() == [5, 6].as_slice(),
         _ => false,
     }
+}
+
+#[test]
+fn a_dropped_link_ends_its_writer(rt: HostRuntime) {
+    let end = written_for_nobody(&rt, rt.alloc());
+    assert_works(&rt, &end);
 }
 
 #[test]

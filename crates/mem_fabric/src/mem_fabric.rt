@@ -177,11 +177,20 @@ impl<'r, R: Wait + Sync> Fabric for MemFabric<'r, R> {
 
     ghost faults = { λ f. f.faults };
 
+    // Each puts into the queue that the other takes from.
+    ghost pair = { ArePair };
+
+    ghost use mathlib.Core.Path.{sym, ◌∙◌};
+
+    ghost stays_pair = { λ _ _ _ _ pair first second.
+        (first.0 ∙ (pair.0 ∙ sym second.1.0), second.0 ∙ (pair.1 ∙ sym first.1.0)) };
+
     fn open_pair(&mut self, a: u32, b: u32) -> Result<(PairLink<'r, R>, PairLink<'r, R>), OpenFault>
         // An opening fails exactly where its number is listed.
         ensures fails { IsErrOf result OpenFault.Failed ↔ Contains self.old.failing_openings self.new.openings }
         ensures pair { IfOk result (λ ends. ArePair ends.0 ends.1) }
         ensures handed { IfOk result (λ ends. (ends.0.handed ≡ []) × (ends.1.handed ≡ [])) }
+        ensures given { IfOk result (λ ends. (ends.0.given ≡ []) × (ends.1.given ≡ [])) }
         ensures not_ended { IfOk result (λ ends. (ends.0.ended ≡ false) × (ends.1.ended ≡ false)) }
         ensures no_faults { IfOk result (λ ends. (ends.0.faults ≡ 0) × (ends.1.faults ≡ 0)) }
         ensures first { IfOk result (λ ends.
