@@ -183,7 +183,7 @@ impl<'r, R: Wait + Sync> Fabric for MemFabric<'r, R> {
     ghost use mathlib.Core.Path.{sym, ◌∙◌};
 
     ghost stays_pair = { λ _ _ _ _ pair first second.
-        (first.0 ∙ (pair.0 ∙ sym second.1.0), second.0 ∙ (pair.1 ∙ sym first.1.0)) };
+        (first.0 ∙ (pair.0 ∙ sym second.1), second.0 ∙ (pair.1 ∙ sym first.1)) };
 
     fn open_pair(&mut self, a: u32, b: u32) -> Result<(PairLink<'r, R>, PairLink<'r, R>), OpenFault>
         // An opening fails exactly where its number is listed.

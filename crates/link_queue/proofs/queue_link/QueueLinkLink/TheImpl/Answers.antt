@@ -19,6 +19,7 @@ receive-tells g c =
       count = c.ensures.count;
       appended = c.ensures.appended;
       kept = c.ensures.kept;
+      silent = λ is_none. cc;
       ends = c.ensures.ends;
       same_ended = c.ensures.same_ended;
       same_handed = ap (λ l. l.handed) same;
