@@ -6,7 +6,7 @@ use Rattle.mrpc_table.specs.declared.table.Kind.TheVariants.{Int32, Uint64, Bool
 use Rattle.mrpc_table.specs.declared.table.Label.TheVariants.{Plain}
 use Rattle.mrpc_table.specs.declared.table.Table.{Table}
 use Rattle.policy_access.specs.Faults.{is_rule_name, IsAgainstAt, at_line, no_default, known_name}
-use Rattle.field_path.specs.Words.{path_of}
+use Rattle.mrpc_table.specs.PathWords.{path_of}
 use Rattle.policy_access.specs.Lines.{line_of}
 use Rattle.policy_access.specs.Texts.{said_rule, IsTextOf}
 use Rattle.policy_access.specs.Values.{operand_of}

@@ -14,7 +14,7 @@ use Rattle.policy_access.specs.declared.rule.About.TheVariants.{Every, Calls as 
 use Rattle.policy_access.specs.declared.rule.Operand.TheVariants.{Number, Run}
 use Rattle.policy_access.specs.declared.rule.Condition.TheVariants.{Present, Compares}
 use Rattle.policy_access.specs.declared.rule.Comparison.TheVariants.{Equal, NotEqual, Less, Greater, Starts}
-use Rattle.field_path.specs.declared.path.Path.{Path}
+use Rattle.mrpc_table.specs.declared.path.Path.{Path}
 
 abbrev pub to : Kind → Label → Path
 to k l = record { way = []; number = 1; kind = k; label = l }

@@ -4,8 +4,8 @@ use Rattle.std.specs.List.{join_with_byte}
 use Rattle.std.specs.Str.{bytes_eq}
 use Rattle.mrpc_table.specs.Lines.{words_of}
 use Rattle.mrpc_table.specs.declared.words.Decimal.{Decimal}
-use Rattle.field_path.specs.Words.{decimal_of, path_of}
-use Rattle.field_path.specs.declared.path.PathWord.{PathWord}
+use Rattle.mrpc_table.specs.PathWords.{decimal_of, path_of}
+use Rattle.mrpc_table.specs.declared.path.PathWord.{PathWord}
 use Rattle.policy_access.specs.declared.rule.Comparison.{Comparison}
 use Rattle.policy_access.specs.declared.rule.Comparison.TheVariants.{Equal, NotEqual, Less, Greater, Starts}
 use Rattle.policy_access.specs.declared.line.Line.{Line}

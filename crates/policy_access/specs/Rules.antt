@@ -14,8 +14,8 @@ use Rattle.policy_access.specs.declared.rule.Comparison.{Comparison}
 use Rattle.policy_access.specs.declared.rule.Comparison.TheVariants.{Equal, NotEqual, Less, Greater, Starts}
 use Rattle.policy_access.specs.declared.rule.Condition.{Condition}
 use Rattle.policy_access.specs.declared.rule.Condition.TheVariants as conditions
-use Rattle.field_path.specs.Fields.{path_in}
-use Rattle.field_path.specs.declared.path.Path.{Path}
+use Rattle.mrpc_table.specs.PathFields.{path_in}
+use Rattle.mrpc_table.specs.declared.path.Path.{Path}
 use Rattle.policy_access.specs.declared.rule.Test.{Test}
 use Rattle.policy_access.specs.declared.rule.Calls.{Calls}
 use Rattle.policy_access.specs.declared.rule.About.{About}

@@ -4,15 +4,15 @@ ghost use Rattle.std.specs.Prelude.{◌≡◌, false, option_map, position};
 ghost use Rattle.std.specs.Option.{option_copied, option_map_or};
 ghost use Rattle.mrpc_table.specs.Node.{number, run};
 ghost use Rattle.mrpc_table.specs.View.{content_of};
-ghost use Rattle.field_path.specs.Trees.{IsAscending};
+ghost use Rattle.mrpc_table.specs.PathTrees.{IsAscending};
 ghost use Rattle.policy_access.specs.Paths.{unset_item, item_of_field};
 ghost use Rattle.policy_access.specs.Conditions.{compares, meets};
 ghost use Rattle.policy_access.specs.Verdict.{is_among, matches};
 
-use crate::call::{Call, is_reply};
 use crate::rule::{About, Calls, Comparison, Condition, Operand, Rule, Test};
-use field_path::{Path, message_behind, numbers_ascend};
-use mrpc_table::{FieldValue, Kind, Label, Tree, Value};
+use mrpc_table::{
+    Call, FieldValue, Kind, Label, Path, Tree, Value, message_behind, numbers_ascend,
+};
 
 fn number_compares(comparison: Comparison, kind: Kind, wanted: &Operand, word: u64) -> bool
     ensures { result ≡ compares comparison kind wanted.now (number word) }
@@ -103,7 +103,7 @@ fn is_among(calls: &Calls, call: &Call) -> bool
     requires { IsAscending call.now.tree }
     ensures { result ≡ is_among calls.now call.now }
 {
-    if call.method != calls.method || is_reply(call) != calls.reply {
+    if call.method != calls.method || !call.is_of(calls.sort) {
         return false;
     }
     match &calls.test {

@@ -4,7 +4,7 @@ use Rattle.mrpc_table.specs.Node.{Node, no_fields, field, one, many, number, nod
 use Rattle.mrpc_table.specs.declared.table.Kind.TheVariants.{Uint64, Message}
 use Rattle.mrpc_table.specs.declared.table.Label.TheVariants.{Plain, Optional, Member}
 use Rattle.mrpc_table.specs.declared.table.Table.{Table}
-use Rattle.field_path.specs.declared.path.Path.{Path}
+use Rattle.mrpc_table.specs.declared.path.Path.{Path}
 use Rattle.policy_access.specs.declared.call.Call.{Call}
 use Rattle.policy_access.specs.declared.fault.RuleReason.TheVariants as reason
 use Rattle.policy_redact.specs.Faults.{IsAgainstAt, at_line, no_line, out_of_form, large_index, no_method, no_field}

@@ -2,7 +2,7 @@
 -- (this project's own format).
 use Rattle.std.specs.Prelude.{◌≡◌, ℕ, ◌-◌, ◌+◌, ◌<◌, ◌≤◌, List, [], length, Some, None, slice_get}
 use Rattle.mrpc_table.specs.declared.table.Table.{Table}
-use Rattle.field_path.specs.Fields.{path_in}
+use Rattle.mrpc_table.specs.PathFields.{path_in}
 use Rattle.policy_access.specs.Faults.{order_of}
 use Rattle.policy_access.specs.Rules.{index_of, message_of}
 use Rattle.policy_access.specs.declared.fault.RuleReason.{RuleReason}

@@ -3,7 +3,7 @@ use Rattle.std.specs.Prelude.{ℕ, Bool, true, false, ◌&&◌, if◌then◌else
 use Rattle.std.specs.Str.{bytes_eq}
 use Rattle.mrpc_table.specs.Lines.{words_of}
 use Rattle.mrpc_table.specs.declared.words.Decimal.{Decimal}
-use Rattle.field_path.specs.Words.{decimal_of, path_of}
+use Rattle.mrpc_table.specs.PathWords.{decimal_of, path_of}
 use Rattle.policy_redact.specs.declared.line.ClearLine.{ClearLine}
 
 abbrev pub with_path : Decimal → Bool → List ℕ → Option ClearLine

@@ -4,7 +4,7 @@ use Rattle.std.specs.List.{list_any}
 use Rattle.std.specs.Str.{bytes_eq}
 use Rattle.mrpc_table.specs.Node.{Node}
 use Rattle.mrpc_table.specs.declared.table.Table.{Table}
-use Rattle.field_path.specs.declared.path.Path.{Path}
+use Rattle.mrpc_table.specs.declared.path.Path.{Path}
 use Rattle.policy_access.specs.Call.{IsCallOf}
 use Rattle.policy_access.specs.Verdict.{is_of_sort}
 use Rattle.policy_access.specs.declared.call.Call.{Call}

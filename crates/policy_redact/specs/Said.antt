@@ -1,7 +1,7 @@
 -- What a line says, or the reason that stands against it.
 use Rattle.std.specs.Prelude.{ℕ, Option, Some, None, Result, Ok, Err}
 use Rattle.mrpc_table.specs.declared.table.Table.{Table}
-use Rattle.field_path.specs.declared.path.Path.{Path}
+use Rattle.mrpc_table.specs.declared.path.Path.{Path}
 use Rattle.policy_access.specs.Rules.{index_of}
 use Rattle.policy_access.specs.declared.fault.RuleReason.{RuleReason}
 use Rattle.policy_access.specs.declared.fault.RuleReason.TheVariants as reason

@@ -1,9 +1,9 @@
 -- Which lines are the text of a redacting policy (this project's own format).
 use Rattle.std.specs.Prelude.{◌≡◌, ℕ, ◌<◌, ◌≤◌, nat_lt, Bool, if◌then◌else◌, List, [], ◌∷◌, length, Option, Some, None, option_map, option_and_then}
 use Rattle.mrpc_table.specs.declared.table.Table.{Table}
-use Rattle.field_path.specs.Fields.{path_in}
-use Rattle.field_path.specs.declared.path.Path.{Path}
-use Rattle.field_path.specs.declared.path.PathWord.{PathWord}
+use Rattle.mrpc_table.specs.PathFields.{path_in}
+use Rattle.mrpc_table.specs.declared.path.Path.{Path}
+use Rattle.mrpc_table.specs.declared.path.PathWord.{PathWord}
 use Rattle.policy_access.specs.Rules.{index_of, message_of}
 use Rattle.policy_redact.specs.Lines.{line_of}
 use Rattle.policy_redact.specs.declared.limits.TheConstants.{MAX_CLEARS}

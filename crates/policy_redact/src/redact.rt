@@ -24,7 +24,7 @@ pub struct Clear {
 
 impl Clear {
     ghost use Rattle.std.specs.Prelude.{◌&&◌};
-    ghost use Rattle.field_path.specs.Trees.{IsAscending};
+    ghost use Rattle.mrpc_table.specs.PathTrees.{IsAscending};
     ghost use Rattle.policy_redact.specs.Leaving.{without};
     ghost use Rattle.policy_redact.specs.Redacting.{is_for, is_at};
 

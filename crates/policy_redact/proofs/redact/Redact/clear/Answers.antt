@@ -1,7 +1,7 @@
 use Rattle.std.proofs.Common.{◌≡◌, ◌<◌, ◌+◌, List, length, get_or, take, ap, sym, ◌∙◌, subst, refl}
 use Rattle.mrpc_table.specs.Node.{Node}
 use Rattle.mrpc_table.specs.Calls.{message_at}
-use Rattle.field_path.specs.Trees.{IsAscending}
+use Rattle.mrpc_table.specs.PathTrees.{IsAscending}
 use Rattle.policy_access.specs.declared.call.Call.{Call}
 use Rattle.policy_access.specs.Call.{IsCallOf}
 use Rattle.policy_redact.specs.Redacting.{cleared_call}
