@@ -11,9 +11,9 @@ use Rattle.mrpc_table.specs.declared.table.Table.{Table}
 abbrev pub sort_of : ℕ → Sort
 sort_of number = if number == 0 then Request else Reply
 
-abbrev pub is_of_sort : Sort → Call → Bool
-is_of_sort Request call = call.number == 0
-is_of_sort Reply call = not (call.number == 0)
+abbrev pub is_of_sort : Sort → ℕ → Bool
+is_of_sort Request number = number == 0
+is_of_sort Reply number = not (number == 0)
 
 -- the message of a method's requests is its input, and that of its replies its output
 abbrev pub message_of_method : Sort → Method → ℕ

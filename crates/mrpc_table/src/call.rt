@@ -45,7 +45,7 @@ pub struct Call {
 impl Call {
     /// Whether the call is of a sort.
     pub fn is_of(&self, sort: Sort) -> bool
-        ensures { result ≡ is_of_sort sort self.now }
+        ensures { result ≡ is_of_sort sort self.now.number }
     {
         Sort::of_number(self.number) == sort
     }

@@ -13,8 +13,8 @@ use Rattle.policy_access.specs.declared.rule.About.{About}
 use Rattle.policy_access.specs.declared.rule.Rule.{Rule as TheRule}
 use Rattle.policy_access.specs.declared.fault.PartReason.{PartReason}
 use Rattle.policy_access.specs.declared.fault.PartReason.TheVariants as part
-use Rattle.policy_access.specs.declared.fault.RuleReason.{RuleReason}
-use Rattle.policy_access.specs.declared.fault.RuleReason.TheVariants as reason
+use Rattle.mrpc_table.specs.declared.policy_lines.RuleReason.{RuleReason}
+use Rattle.mrpc_table.specs.declared.policy_lines.RuleReason.TheVariants as reason
 use Rattle.policy_access.specs.declared.read.Said.{Said}
 use Rattle.policy_access.specs.declared.read.Said.TheVariants.{Rule, Default}
 

@@ -152,7 +152,12 @@ fn calls_line(alloc: Global, index: Decimal, line: &[u8]) -> Result<Option<Calls
     ensures { IfOk result (λ c. c ≡ calls_of index (words_of line.now)) }
 {
     match next_word(line) {
-        Some((first, rest)) if is_word(first, b"reply") => tested_calls(alloc, index, Sort::Reply, rest),
+        Some((first, rest)) if is_word(first, b"reply") => tested_calls(
+            alloc,
+            index,
+            Sort::Reply,
+            rest,
+        ),
         None if is_word(line, b"reply") => Ok(Some(all_calls(index, Sort::Reply))),
         _ => tested_calls(alloc, index, Sort::Request, line),
     }

@@ -124,10 +124,12 @@ fn of_unknown_method(
     ensures { IfOk result (λ q. q ≡ of_unknown_method reason test.now) }
 {
     match test {
-        Some(TestLine {
-            path: _,
-            condition: ConditionLine::Compares(_, value),
-        }) if has_no_form(alloc, value.as_slice())? => Ok(PartReason::Word),
+        Some(
+            TestLine {
+                path: _,
+                condition: ConditionLine::Compares(_, value),
+            },
+        ) if has_no_form(alloc, value.as_slice())? => Ok(PartReason::Word),
         _ => Ok(reason),
     }
 }
@@ -142,21 +144,13 @@ fn calls_of_method(
     ensures { IfOk result (λ c. c ≡ calls_of_method table.now method calls.now.sort calls.now.test) }
 {
     if method as usize >= table.methods.len() {
-        return Ok(Err(of_unknown_method(
-            alloc,
-            PartReason::Path,
-            &calls.test,
-        )?));
+        return Ok(Err(of_unknown_method(alloc, PartReason::Path, &calls.test)?));
     }
     let sort = calls.sort;
     let msg = table.message_of(method, sort);
     match tests_in(alloc, table, msg, &calls.test)? {
         Err(reason) => Ok(Err(reason)),
-        Ok(test) => Ok(Ok(Calls {
-            method,
-            sort,
-            test,
-        })),
+        Ok(test) => Ok(Ok(Calls { method, sort, test })),
     }
 }
 

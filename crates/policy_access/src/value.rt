@@ -201,7 +201,9 @@ fn is_out_of_form(alloc: Global, kind: Kind, word: &[u8]) -> Result<bool, Memory
 pub fn has_no_form(alloc: Global, word: &[u8]) -> Result<bool, Memory>
     ensures { IfOk result (λ none. none ≡ has_no_form word.now) }
 {
-    Ok(is_out_of_form(alloc, Kind::Uint64, word)?
-        && is_out_of_form(alloc, Kind::Text, word)?
-        && is_out_of_form(alloc, Kind::Octets, word)?)
+    Ok(
+        is_out_of_form(alloc, Kind::Uint64, word)?
+            && is_out_of_form(alloc, Kind::Text, word)?
+            && is_out_of_form(alloc, Kind::Octets, word)?,
+    )
 }

@@ -8,8 +8,7 @@ ghost use Rattle.mrpc_table.specs.Weight.{weight, content_weight};
 ghost use Rattle.mrpc_table.specs.PathTrees.{IsAscending, HoldsAscending};
 ghost use Rattle.policy_redact.specs.Leaving.{without, content_without};
 
-use field_path::numbers_ascend;
-use mrpc_table::{FieldValue, Tree, Value, find_content};
+use mrpc_table::{FieldValue, Tree, Value, find_content, numbers_ascend};
 
 fn remove_field(tree: &mut Tree, number: u32) -> bool
     requires { IsAscending tree.old }
