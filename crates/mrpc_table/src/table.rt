@@ -325,7 +325,7 @@ pub struct Table {
 }
 
 impl Table {
-    ghost use Rattle.mrpc_table.specs.Calls.{message_of};
+    ghost use Rattle.mrpc_table.specs.Calls.{message_of, message_at};
 
     /// The fields of the message at a place; none where there is no such message.
     pub fn fields(&self, message: u32) -> &[Field]
@@ -362,5 +362,15 @@ impl Table {
             Sort::Request => method.input,
             Sort::Reply => method.output,
         }
+    }
+
+    /// The message that a call of a method has, by the call's number, which tells its sort.
+    pub fn message_at(&self, method: u16, number: u32) -> u32
+        requires valid { IsValid self.now }
+        requires known { method < length self.now.methods }
+        ensures place { result ≡ message_at self.now method number }
+        ensures within { result < length self.now.messages }
+    {
+        self.message_of(method, Sort::of_number(number))
     }
 }

@@ -1,4 +1,4 @@
--- Lines while they are read.
+-- The code's own: lines while they are read.
 use Rattle.std.specs.Prelude.{◌≡◌, ℕ, ◌<◌, ◌≤◌, Bool, List, length, map, take, All, IsTrue, Some, Ok, slice_get}
 use Rattle.mrpc_table.specs.PolicyLines.{SayEach}
 use Rattle.mrpc_table.specs.Valid.{AreDistinct}

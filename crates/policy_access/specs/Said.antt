@@ -1,4 +1,4 @@
--- What a line says behind rules of some names, or the first reason against it.
+-- The code's own: what a line says behind rules of some names, or the first reason against it.
 use Rattle.std.specs.Prelude.{ℕ, nat_le, Bool, true, false, List, length, Option, Some, None, Result, Ok, Err}
 use Rattle.std.specs.Result.{result_map_both}
 use Rattle.mrpc_table.specs.declared.table.Table.{Table}

@@ -1,4 +1,4 @@
--- Lines while they are read.
+-- The code's own: lines while they are read.
 use Rattle.std.specs.Prelude.{ℕ, ◌<◌, ◌≤◌, List, length, take}
 use Rattle.mrpc_table.specs.PolicyLines.{SayEach}
 use Rattle.mrpc_table.specs.declared.table.Table.{Table}
