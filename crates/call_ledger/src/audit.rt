@@ -109,7 +109,7 @@ fn put_copy(
 {
     match copy {
         TookCopy::Copy { tree } => {
-            let message = table.message_of(method, number);
+            let message = table.message_at(method, number);
             let payload = encode(alloc, tree, table, message)?;
             out.append(b" copy")?;
             put_hex(alloc, out, payload.as_slice())

@@ -2,13 +2,13 @@
 
 ghost use Rattle.std.specs.Prelude.{◌≡◌, ◌<◌, ℕ};
 ghost use Rattle.mrpc_table.specs.Valid.{IsValid};
-ghost use Rattle.policy_access.specs.Call.{IsCallOf};
+ghost use Rattle.mrpc_table.specs.Calls.{IsCallOf};
 ghost use Rattle.engine_core.specs.Policies.{IsPolicy, KnowsTenantOf};
 
 use engine_core::{Engine, Noted, Outcome, Policy, Standing, Why};
 use mrpc_base::PlainTickets;
-use mrpc_table::{Bytes, FieldValue, Table, Tree, Value, fits};
-use policy_access::{Call, Lines, read_access};
+use mrpc_table::{Bytes, Call, FieldValue, Lines, Table, Tree, Value, fits};
+use policy_access::read_access;
 use policy_rate::Rate;
 use policy_redact::read_redact;
 use std::alloc::Global;
@@ -74,7 +74,7 @@ fn assert_is_of(rt: &impl Abort, call: &Standing, table: &Table)
 {
     let call = call.call();
     assert!(rt; (call.method as usize) < table.methods.len());
-    let message = table.message_of(call.method, call.number);
+    let message = table.message_at(call.method, call.number);
     assert!(rt; fits(&call.tree, table, message));
 }
 

@@ -4,4 +4,5 @@ pub mod Frames
 pub mod Kept
 pub mod Links
 pub mod Parts
+pub mod Sorts
 pub mod Standing

@@ -1,6 +1,9 @@
 //! The parts of a frame.
 
-use mrpc_table::Bytes;
+ghost use Rattle.std.specs.Prelude.{◌≡◌, ◌≤◌};
+ghost use Rattle.frame_transport.specs.Sorts.{kind_of, sort_of_kind};
+
+use mrpc_table::{Bytes, Sort};
 
 /// The bytes of a frame in front of its payload.
 pub const HEADER_LEN: usize = 16;
@@ -26,6 +29,31 @@ pub const REPLY: u8 = 2;
 /// The kind of a hello, which opens a connection. There is no greater one.
 pub const HELLO: u8 = 3;
 
+/// The kind of the frames of requests, or of replies.
+pub fn kind_of(sort: Sort) -> u8
+    ensures value { result ≡ kind_of sort }
+    ensures least { REQUEST ≤ result }
+    ensures greatest { result ≤ REPLY }
+{
+    match sort {
+        Sort::Request => REQUEST,
+        Sort::Reply => REPLY,
+    }
+}
+
+/// Whether the frames of a kind are those of requests or of replies; None for a hello.
+pub(crate) fn sort_of_kind(kind: u8) -> Option<Sort>
+    ensures { result ≡ sort_of_kind kind }
+{
+    if kind == REQUEST {
+        Some(Sort::Request)
+    } else if kind == REPLY {
+        Some(Sort::Reply)
+    } else {
+        None
+    }
+}
+
 /// A frame that came on a stream.
 #[derive(Drop)]
 pub struct Frame {
@@ -43,4 +71,13 @@ pub struct Frame {
     pub payload: Bytes,
     /// The place of the frame's first byte in its stream, from 0.
     pub place: u64,
+}
+
+impl Frame {
+    /// Whether it is the frame of a request or of a reply; None for a hello.
+    pub fn sort(&self) -> Option<Sort>
+        ensures { result ≡ sort_of_kind self.now.kind }
+    {
+        sort_of_kind(self.kind)
+    }
 }

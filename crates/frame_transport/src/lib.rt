@@ -30,6 +30,7 @@ pub use fault::FeedFault;
 pub use feed::Feed;
 pub use format::{
     Frame, HEADER_LEN, HELLO, HELLO_VERSION, MAX_PAYLOAD, METHOD_PLACE, REPLY, REQUEST, VERSION,
+    kind_of,
 };
 pub use laws::{frames_join, one_frame, one_split};
 pub use standing::{FrameRef, frame_at};

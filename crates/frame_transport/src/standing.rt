@@ -1,12 +1,14 @@
 //! A frame where it stands in the bytes of a stream.
 
-ghost use Rattle.std.specs.Prelude.{◌<◌, ◌^◌, IfOk, IfErr, IfSome, IfNone, Some, None};
+ghost use Rattle.std.specs.Prelude.{◌≡◌, ◌<◌, ◌^◌, IfOk, IfErr, IfSome, IfNone, Some, None};
 ghost use Rattle.frame_transport.specs.Parts.{HasNoFrame};
+ghost use Rattle.frame_transport.specs.Sorts.{sort_of_kind};
 ghost use Rattle.frame_transport.specs.Standing.{StandsAt, frame_of};
 
 use crate::fault::FeedFault;
-use crate::format::HEADER_LEN;
+use crate::format::{HEADER_LEN, sort_of_kind};
 use crate::header::{fault_in, read_header};
+use mrpc_table::Sort;
 
 /// A frame whose payload is borrowed from the bytes of its stream.
 #[derive(Clone, Copy)]
@@ -25,6 +27,15 @@ pub struct FrameRef<'a> {
     pub payload: &'a [u8],
     /// The place of the frame's first byte in its stream, from 0.
     pub place: u64,
+}
+
+impl<'a> FrameRef<'a> {
+    /// Whether it is the frame of a request or of a reply; None for a hello.
+    pub fn sort(&self) -> Option<Sort>
+        ensures { result ≡ sort_of_kind self.now.kind }
+    {
+        sort_of_kind(self.kind)
+    }
 }
 
 /// The frame at the front of the bytes of a stream from this place on, or None where they end inside a frame that has

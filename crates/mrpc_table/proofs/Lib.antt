@@ -3,4 +3,8 @@ mod ContentLemmas
 mod Cuts
 mod FieldLemmas
 mod FitLemmas
+mod PathFinding
+mod PathRows
+mod PathWays
+mod PathWordLemmas
 mod Views

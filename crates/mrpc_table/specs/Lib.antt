@@ -1,5 +1,6 @@
 pub mod Ascending
 pub mod Calls
+pub mod FirstFault
 pub mod Falls
 pub mod Fits
 pub mod Lines
@@ -7,6 +8,10 @@ pub mod Names
 pub mod Node
 pub mod NodeCode
 pub mod Normal
+pub mod PathFields
+pub mod PathTrees
+pub mod PathWords
+pub mod PolicyLines
 pub mod Scalars
 pub mod Text
 pub mod Valid

@@ -4,10 +4,17 @@
 //! fields by ascending number. A clause sees a list type of this crate as a plain list, and a
 //! `Tree` as the data of `specs/Node.antt`. It stands on no crate of the project. The layers above
 //! use one contract: `IsValid` says which tables there are and `table_text` what their canonical
-//! text is, and `IsNormal` says which trees a message has. Beside these stands the one vocabulary
-//! of lines and words that all texts of the project are read with.
+//! text is, and `IsNormal` says which trees a message has.
+//!
+//! Beside these stands what the layers above have in common. [`Call`] is a request or a reply with its message, and
+//! [`Sort`] says which of the two (`specs/Calls.antt`). A [`Path`] leads to a field of a message: field numbers joined
+//! by dots, of which each but the last is a message ([`PathWord::read`], [`PathWord::resolve`], [`message_behind`];
+//! `specs/PathWords.antt`, `PathFields.antt`, `PathTrees.antt`). [`Lines`] are the lines of a policy and [`RuleFault`]
+//! says why they are no text of one (`specs/PolicyLines.antt`, over `FirstFault.antt`). All texts of the project are
+//! read with one vocabulary of lines and words (`specs/Lines.antt`).
 #![tactic(auto)]
 
+mod call;
 mod copied;
 mod digits;
 mod field_number;
@@ -16,21 +23,32 @@ mod hexadecimal;
 mod limits;
 mod memory;
 mod normal;
+mod path;
+mod path_find;
+mod path_laws;
+mod path_read;
+mod path_resolve;
+mod policy_lines;
 mod sequence;
 mod table;
 mod tree;
 mod words;
 
+pub use call::{Call, Sort};
 pub use digits::{capped, decimal_of, digit_value};
 pub use field_number::is_field_number;
 pub use field_search::find_field;
 pub use limits::{
     FIRST_RESERVED_NUMBER, LAST_RESERVED_NUMBER, MAX_DEPTH, MAX_ENUMS, MAX_FIELD_NUMBER,
     MAX_FIELDS, MAX_FILES, MAX_FULL_NAME, MAX_HEAP, MAX_LOADS, MAX_MESSAGES, MAX_METHODS, MAX_NAME,
-    MAX_TEXT, MAX_VALUES, MIN_HEAP,
+    MAX_PATH, MAX_TEXT, MAX_VALUES, MIN_HEAP,
 };
 pub use memory::Memory;
 pub use normal::fits;
+pub use path::{Path, PathWord};
+pub use path_find::message_behind;
+pub use path_laws::{content_ascends, normal_ascends, numbers_ascend};
+pub use policy_lines::{Lines, RuleFault, RuleReason};
 pub use sequence::{Bytes, Name, Sequence};
 pub use table::{
     ChoiceValues, Choices, Enums, Field, Fields, Kind, Label, Message, Messages, Method, Methods,

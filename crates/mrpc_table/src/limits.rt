@@ -1,4 +1,4 @@
-//! The limits of tables, names, sets of files, trees and heaps, which the definitions share.
+//! The limits of tables, names, sets of files, trees, paths and heaps, which the definitions share.
 
 /// How many messages a table has at most.
 pub const MAX_MESSAGES: usize = 256;
@@ -38,6 +38,9 @@ pub const LAST_RESERVED_NUMBER: u64 = 19_999;
 
 /// How deep messages nest at most in a tree in normal form, the root counting 1.
 pub const MAX_DEPTH: u32 = 32;
+
+/// How many numbers a path has at most.
+pub const MAX_PATH: usize = 32;
 
 /// How many words a heap has at least: word 0 belongs to nobody.
 pub const MIN_HEAP: u64 = 4;

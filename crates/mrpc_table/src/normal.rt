@@ -152,7 +152,7 @@ fn take_member(taken: &mut [bool], label: Label) -> bool
             taken[oneof as usize] = true;
             free
         }
-        _ => true,
+        Label::Plain | Label::Optional | Label::Repeated | Label::Packed | Label::Map(_) => true,
     }
 }
 
@@ -162,7 +162,21 @@ fn is_run(kind: Kind, bytes: &[u8]) -> bool
     match kind {
         Kind::Text => std::str::from_utf8(bytes).is_ok(),
         Kind::Octets => true,
-        _ => false,
+        Kind::Message(_) => false,
+        Kind::Int32
+        | Kind::Int64
+        | Kind::Uint32
+        | Kind::Uint64
+        | Kind::Sint32
+        | Kind::Sint64
+        | Kind::Bool
+        | Kind::Fixed32
+        | Kind::Fixed64
+        | Kind::Sfixed32
+        | Kind::Sfixed64
+        | Kind::Float
+        | Kind::Double
+        | Kind::Choice(_) => false,
     }
 }
 

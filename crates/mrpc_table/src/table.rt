@@ -7,10 +7,10 @@ ghost use Rattle.mrpc_table.specs.Ascending.{AllAscend, FieldsAscend};
 ghost use Rattle.mrpc_table.specs.Normal.{fields_of, field_at};
 ghost use Rattle.mrpc_table.specs.Scalars.{scalar_of};
 ghost use Rattle.mrpc_table.specs.Valid.{IsValid};
-ghost use Rattle.mrpc_table.specs.Calls.{message_at};
-ghost use Rattle.mrpc_table.specs.Words.{IsWordForm, is_numeric, is_key, key_kind, message_of, rank};
+ghost use Rattle.mrpc_table.specs.Words.{IsWordForm, is_numeric, is_key, key_kind, rank};
 ghost use Rattle.mrpc_table.specs.WireTypes.{wire_type_of};
 
+use crate::call::Sort;
 use crate::field_search::search;
 use crate::sequence::{Name, Sequence};
 use crate::words::is_word;
@@ -55,6 +55,8 @@ pub enum Kind {
 }
 
 impl Kind {
+    ghost use Rattle.mrpc_table.specs.Words.{message_of};
+
     /// The scalar kind of a name of proto3.
     pub fn of_name(name: &[u8]) -> Option<Kind>
         ensures { result ≡ scalar_of name.now }
@@ -98,17 +100,44 @@ impl Kind {
     pub fn is_numeric(self) -> bool
         ensures { result ≡ is_numeric self }
     {
-        !matches!(self, Kind::Text | Kind::Octets | Kind::Message(_))
+        match self {
+            Kind::Text | Kind::Octets | Kind::Message(_) => false,
+            Kind::Int32
+            | Kind::Int64
+            | Kind::Uint32
+            | Kind::Uint64
+            | Kind::Sint32
+            | Kind::Sint64
+            | Kind::Bool
+            | Kind::Fixed32
+            | Kind::Fixed64
+            | Kind::Sfixed32
+            | Kind::Sfixed64
+            | Kind::Float
+            | Kind::Double
+            | Kind::Choice(_) => true,
+        }
     }
 
     /// Whether a map's keys may have it: integral, bool or string.
     pub fn is_key(self) -> bool
         ensures { result ≡ is_key self }
     {
-        !matches!(
-            self,
-            Kind::Float | Kind::Double | Kind::Octets | Kind::Message(_) | Kind::Choice(_)
-        )
+        match self {
+            Kind::Float | Kind::Double | Kind::Octets | Kind::Message(_) | Kind::Choice(_) => false,
+            Kind::Int32
+            | Kind::Int64
+            | Kind::Uint32
+            | Kind::Uint64
+            | Kind::Sint32
+            | Kind::Sint64
+            | Kind::Bool
+            | Kind::Fixed32
+            | Kind::Fixed64
+            | Kind::Sfixed32
+            | Kind::Sfixed64
+            | Kind::Text => true,
+        }
     }
 
     /// Where the word form of a number stands in the order of the numbers of this kind.
@@ -123,7 +152,16 @@ impl Kind {
             | Kind::Sfixed32
             | Kind::Sfixed64
             | Kind::Choice(_) => word.wrapping_add(0x8000_0000_0000_0000),
-            _ => word,
+            Kind::Uint32
+            | Kind::Uint64
+            | Kind::Bool
+            | Kind::Fixed32
+            | Kind::Fixed64
+            | Kind::Float
+            | Kind::Double
+            | Kind::Text
+            | Kind::Octets
+            | Kind::Message(_) => word,
         }
     }
 
@@ -166,7 +204,14 @@ impl Kind {
             Kind::Fixed64 | Kind::Sfixed64 | Kind::Double => 1,
             Kind::Text | Kind::Octets | Kind::Message(_) => 2,
             Kind::Fixed32 | Kind::Sfixed32 | Kind::Float => 5,
-            _ => 0,
+            Kind::Int32
+            | Kind::Int64
+            | Kind::Uint32
+            | Kind::Uint64
+            | Kind::Sint32
+            | Kind::Sint64
+            | Kind::Bool
+            | Kind::Choice(_) => 0,
         }
     }
 }
@@ -195,7 +240,8 @@ impl Label {
     {
         match self {
             Label::Map(key) => key,
-            _ => Kind::Uint64,
+            Label::Plain | Label::Optional | Label::Repeated | Label::Packed | Label::Member(_) =>
+                Kind::Uint64,
         }
     }
 }
@@ -279,6 +325,8 @@ pub struct Table {
 }
 
 impl Table {
+    ghost use Rattle.mrpc_table.specs.Calls.{message_of, message_at};
+
     /// The fields of the message at a place; none where there is no such message.
     pub fn fields(&self, message: u32) -> &[Field]
         ensures value { result.now ≡ fields_of self.now message }
@@ -301,19 +349,28 @@ impl Table {
         }
     }
 
-    /// The message that a call of a method has, by its place in the table: the method's input for a
-    /// request, whose number is 0, and its output for a reply.
-    pub fn message_of(&self, method: u16, number: u32) -> u32
+    /// The message that the requests, or the replies, of a method have, by its place in the table: the method's
+    /// input or its output.
+    pub fn message_of(&self, method: u16, sort: Sort) -> u32
+        requires valid { IsValid self.now }
+        requires known { method < length self.now.methods }
+        ensures place { result ≡ message_of self.now method sort }
+        ensures within { result < length self.now.messages }
+    {
+        let method = &self.methods.as_slice()[method as usize];
+        match sort {
+            Sort::Request => method.input,
+            Sort::Reply => method.output,
+        }
+    }
+
+    /// The message that a call of a method has, by the call's number, which tells its sort.
+    pub fn message_at(&self, method: u16, number: u32) -> u32
         requires valid { IsValid self.now }
         requires known { method < length self.now.methods }
         ensures place { result ≡ message_at self.now method number }
         ensures within { result < length self.now.messages }
     {
-        let method = &self.methods.as_slice()[method as usize];
-        if number == 0 {
-            method.input
-        } else {
-            method.output
-        }
+        self.message_of(method, Sort::of_number(number))
     }
 }

@@ -12,9 +12,9 @@ ghost use Rattle.mrpc_top.specs.Telling.{Tells};
 
 use crate::laws::frame_law;
 use call_ledger::put_hex;
-use frame_transport::{FeedFault, FrameRef, HEADER_LEN, HELLO, METHOD_PLACE, REQUEST, frame_at};
+use frame_transport::{FeedFault, FrameRef, HEADER_LEN, HELLO, METHOD_PLACE, frame_at};
 use mrpc_base::{Sink, write_all};
-use mrpc_table::{Bytes, Memory, Table};
+use mrpc_table::{Bytes, Memory, Sort, Table};
 use std::alloc::Global;
 use wire_decode::{DecodeFault, Spare, decode_with};
 use wire_encode::{Output, encode_into};
@@ -230,8 +230,7 @@ fn tell_call(
         × (lines.new ≡ lines.old))) }
     ensures not_out { result ≢ Err Cut.Out }
 {
-    let number = if frame.kind == REQUEST { 0 } else { 1 };
-    let message = table.message_of(frame.method, number);
+    let message = message_in(table, frame);
     match decode_with(alloc, &mut room.spare, frame.payload, table, message) {
         Ok(tree) => {
             encode_into(&mut room.encoded, &tree, table, message)?;
@@ -245,6 +244,17 @@ fn tell_call(
         }),
         Err(DecodeFault::Memory) => Err(Cut::Memory),
     }
+}
+
+// The message that the payload of a request or a reply is of.
+fn message_in(table: &Table, frame: &FrameRef) -> u32
+    requires valid { IsValid table.now }
+    requires known { frame.now.method < length table.now.methods }
+    ensures place { result ≡ message_in table.now (frame_of frame.now) }
+    ensures within { result < length table.now.messages }
+{
+    let sort = frame.sort().unwrap_or(Sort::Reply);
+    table.message_of(frame.method, sort)
 }
 
 // Appends the line of a hello.

@@ -4,12 +4,14 @@ use Rattle.std.specs.Prelude.{nat_le, option_and_then, option_map}
 use Rattle.std.specs.Result.{result_map_both, result_ok}
 use Rattle.std.proofs.lemmas.Grind.{common_steps}
 use Rattle.mrpc_table.specs.declared.table.Table.{Table}
-use Rattle.policy_access.specs.Faults.{is_rule_name, is_among, reason_of, order_of, names_of, has_default, IsAgainst, out_of_form, too_many, of_part, no_name, known_name, behind_default}
+use Rattle.mrpc_table.specs.PolicyLines.{order_of}
+use Rattle.policy_access.specs.Faults.{is_rule_name, is_among, reason_of, names_of, has_default, IsAgainst, out_of_form, too_many, of_part, no_name, known_name, behind_default}
 use Rattle.policy_access.specs.Lines.{line_of}
 use Rattle.policy_access.specs.Reading.{names_in}
 use Rattle.policy_access.specs.Rules.{about_in}
 use Rattle.policy_access.specs.Said.{judged_rule, said_in}
-use Rattle.policy_access.specs.Texts.{said_rule, rule_in, with_about, SayEach}
+use Rattle.mrpc_table.specs.PolicyLines.{SayEach}
+use Rattle.policy_access.specs.Texts.{said_rule, rule_in, with_about}
 use Rattle.policy_access.specs.declared.line.Line.{Line}
 use Rattle.policy_access.specs.declared.line.Line.TheVariants as lines
 use Rattle.policy_access.specs.declared.line.RuleLine.{RuleLine}
@@ -17,8 +19,8 @@ use Rattle.policy_access.specs.declared.rule.About.{About}
 use Rattle.policy_access.specs.declared.rule.Rule.{Rule}
 use Rattle.policy_access.specs.declared.fault.PartReason.{PartReason}
 use Rattle.policy_access.specs.declared.fault.PartReason.TheVariants as part
-use Rattle.policy_access.specs.declared.fault.RuleReason.{RuleReason}
-use Rattle.policy_access.specs.declared.fault.RuleReason.TheVariants as reason
+use Rattle.mrpc_table.specs.declared.policy_lines.RuleReason.{RuleReason}
+use Rattle.mrpc_table.specs.declared.policy_lines.RuleReason.TheVariants as reason
 use Rattle.policy_access.specs.declared.read.Said.{Said}
 use Rattle.policy_access.specs.declared.read.Said.TheVariants as said
 
@@ -242,7 +244,7 @@ pub taken_says : (T : Table) (names : List (List ℕ)) (line : List ℕ) (rule :
 taken_says T names line rule t = rw (t.is, t.good.resolved) (ap Some (sym t.good.is))
 
 -- such lines name their rules, and no default is among them
-pub names_of-said : (T : Table) (ls : List (List ℕ)) (rs : List Rule) → SayEach T ls rs → names_of ls ≡ names_in rs
+pub names_of-said : (T : Table) (ls : List (List ℕ)) (rs : List Rule) → SayEach (said_rule T) ls rs → names_of ls ≡ names_in rs
 names_of-said T [] [] s = refl
 names_of-said T [] (r ∷ rs) s = absurd s
 names_of-said T (l ∷ ls) [] s = absurd s
@@ -251,25 +253,25 @@ names_of-said T (l ∷ ls) (r ∷ rs) s =
     let name : here.0.name ≡ r.name = ap (λ (x : Rule). x.name) (sym here.4) in
     rw (here.2) (ap (λ (n : List ℕ). n ∷ names_of ls) name ∙ ap (λ (ns : List (List ℕ)). r.name ∷ ns) (names_of-said T ls rs s.1))
 
-pub has_default-said : (T : Table) (ls : List (List ℕ)) (rs : List Rule) → SayEach T ls rs → has_default ls ≡ false
+pub has_default-said : (T : Table) (ls : List (List ℕ)) (rs : List Rule) → SayEach (said_rule T) ls rs → has_default ls ≡ false
 has_default-said T [] [] s = refl
 has_default-said T [] (r ∷ rs) s = absurd s
 has_default-said T (l ∷ ls) [] s = absurd s
 has_default-said T (l ∷ ls) (r ∷ rs) s = let here = says T l r (line_of l) refl s.0 in rw (here.2) (has_default-said T ls rs s.1)
 
-pub length-said : (T : Table) (ls : List (List ℕ)) (rs : List Rule) → SayEach T ls rs → length rs ≡ length ls
+pub length-said : (T : Table) (ls : List (List ℕ)) (rs : List Rule) → SayEach (said_rule T) ls rs → length rs ≡ length ls
 length-said T [] [] s = refl
 length-said T [] (r ∷ rs) s = absurd s
 length-said T (l ∷ ls) [] s = absurd s
 length-said T (l ∷ ls) (r ∷ rs) s = ap (λ n. suc n) (length-said T ls rs s.1)
 
-pub said-push : (T : Table) (ls : List (List ℕ)) (rs : List Rule) (l : List ℕ) (r : Rule) → SayEach T ls rs → said_rule T l ≡ Some r → SayEach T (ls ++ l ∷ []) (rs ++ r ∷ [])
+pub said-push : (T : Table) (ls : List (List ℕ)) (rs : List Rule) (l : List ℕ) (r : Rule) → SayEach (said_rule T) ls rs → said_rule T l ≡ Some r → SayEach (said_rule T) (ls ++ l ∷ []) (rs ++ r ∷ [])
 said-push T [] [] l r s e = (e, tt)
 said-push T [] (q ∷ rs) l r s e = absurd s
 said-push T (k ∷ ls) [] l r s e = absurd s
 said-push T (k ∷ ls) (q ∷ rs) l r s e = (s.0, said-push T ls rs l r s.1 e)
 
-pub said-same : (T : Table) (ls : List (List ℕ)) (rs qs : List Rule) → SayEach T ls rs → SayEach T ls qs → rs ≡ qs
+pub said-same : (T : Table) (ls : List (List ℕ)) (rs qs : List Rule) → SayEach (said_rule T) ls rs → SayEach (said_rule T) ls qs → rs ≡ qs
 said-same T [] [] [] s t = refl
 said-same T [] [] (q ∷ qs) s t = absurd t
 said-same T [] (r ∷ rs) qs s t = absurd s

@@ -8,21 +8,23 @@ use Rattle.std.proofs.lemmas.Option.{slice_get_within, slice_get_read, get_or_fr
 use Rattle.std.proofs.lemmas.Bool.{cases_lt}
 use Rattle.mrpc_table.specs.Valid.{AreDistinct}
 use Rattle.mrpc_table.specs.declared.table.Table.{Table}
-use Rattle.policy_access.specs.Faults.{is_rule_name, is_among, order_of, names_of, has_default, named, is_default, IsAgainst, IsAgainstAt, at_line, no_default, behind_default, IsFirstFault, IsFaultOf}
+use Rattle.mrpc_table.specs.PolicyLines.{order_of}
+use Rattle.policy_access.specs.Faults.{is_rule_name, is_among, names_of, has_default, named, is_default, IsAgainst, IsAgainstAt, at_line, no_default, behind_default, IsFirstFault, IsFaultOf}
 use Rattle.policy_access.specs.Lines.{line_of}
 use Rattle.policy_access.specs.Reading.{names_in, AreRead, DefaultAt}
 use Rattle.policy_access.specs.Said.{said_in, reason_behind}
-use Rattle.policy_access.specs.Texts.{SayEach, IsTextOf}
+use Rattle.mrpc_table.specs.PolicyLines.{SayEach}
+use Rattle.policy_access.specs.Texts.{said_rule, IsTextOf}
 use Rattle.policy_access.specs.Verdict.{AccessPolicy}
 use Rattle.policy_access.specs.declared.line.Line.{Line}
 use Rattle.policy_access.specs.declared.line.Line.TheVariants as forms
 use Rattle.policy_access.specs.declared.rule.Rule.{Rule}
 use Rattle.policy_access.specs.Names.{Holds}
 use Rattle.policy_access.specs.declared.names.SeenNames.{SeenNames}
-use Rattle.policy_access.specs.declared.fault.RuleFault.{RuleFault}
-use Rattle.policy_access.specs.declared.fault.RuleFault.TheVariants as fault
-use Rattle.policy_access.specs.declared.fault.RuleReason.{RuleReason}
-use Rattle.policy_access.specs.declared.fault.RuleReason.TheVariants as reason
+use Rattle.mrpc_table.specs.declared.policy_lines.RuleFault.{RuleFault}
+use Rattle.mrpc_table.specs.declared.policy_lines.RuleFault.TheVariants as fault
+use Rattle.mrpc_table.specs.declared.policy_lines.RuleReason.{RuleReason}
+use Rattle.mrpc_table.specs.declared.policy_lines.RuleReason.TheVariants as reason
 use Rattle.policy_access.specs.declared.read.Said.{Said}
 use Rattle.policy_access.specs.declared.read.Said.TheVariants as said
 use Rattle.policy_access.proofs.NameLemmas.{bytes_same}
@@ -97,7 +99,7 @@ read-push T lines i rules line rule read at e =
       within = omega (arith, slice_get_within lines i line at);
       count = omega (arith, length-append rules (rule ∷ []), read.count);
       few = omega (arith, taken.good.few, length-map rules (λ (r : Rule). r.name), read.count);
-      said = subst (λ (ls : List (List ℕ)). SayEach T ls (rules ++ rule ∷ [])) (sym next) (said-push T (take i lines) rules line rule read.said (taken_says T (names_in rules) line rule taken));
+      said = subst (λ (ls : List (List ℕ)). SayEach (said_rule T) ls (rules ++ rule ∷ [])) (sym next) (said-push T (take i lines) rules line rule read.said (taken_says T (names_in rules) line rule taken));
       named = All-push (λ (r : Rule). IsTrue (is_rule_name r.name)) rules rule read.named good_name;
       distinct = subst (λ (ns : List (List ℕ)). AreDistinct ns) (sym (map_push (λ (r : Rule). r.name) rules rule)) (AreDistinct-push (names_in rules) rule.name read.distinct (absent (names_in rules) rule.name fresh));
       clean = λ j q lt. below_or_at i (λ k. IsAgainstAt T lines k q → ⊥) (λ k less. read.clean k q less)

@@ -1,20 +1,25 @@
 -- Lines that were read by hand.
-use Rattle.std.proofs.Common.{◌≡◌, ℕ, ◌^◌, true, List, [], ◌∷◌, codes, Some, None, Ok, Err, refl, arith}
-use Rattle.std.specs.Prelude.{IsTrue}
+use Rattle.std.proofs.Common.{◌≡◌, ℕ, ◌^◌, true, false, Option, List, [], ◌∷◌, codes, Some, None, Ok, Err, refl, arith}
+use Rattle.std.specs.Prelude.{IsTrue, option_and_then}
+use Rattle.std.specs.Result.{result_err}
 use Rattle.std.proofs.lemmas.List.Elements.{All-nil, All-cons}
 use Rattle.mrpc_table.specs.declared.table.Kind.TheVariants.{Int32, Uint64, Bool as TheBool, Text}
 use Rattle.mrpc_table.specs.declared.table.Label.TheVariants.{Plain}
 use Rattle.mrpc_table.specs.declared.table.Table.{Table}
 use Rattle.policy_access.specs.Faults.{is_rule_name, IsAgainstAt, at_line, no_default, known_name}
-use Rattle.field_path.specs.Words.{path_of}
+use Rattle.mrpc_table.specs.PathWords.{path_of}
 use Rattle.policy_access.specs.Lines.{line_of}
 use Rattle.policy_access.specs.Texts.{said_rule, IsTextOf}
-use Rattle.policy_access.specs.Values.{operand_of}
+use Rattle.policy_access.specs.Rules.{about_in}
+use Rattle.policy_access.specs.Values.{operand_of, has_no_form}
 use Rattle.policy_access.specs.declared.rule.Rule.{Rule}
 use Rattle.policy_access.specs.declared.rule.Operand.TheVariants.{Number, Run}
 use Rattle.policy_access.specs.declared.line.AboutLine.TheVariants.{Every}
+use Rattle.policy_access.specs.declared.line.Line.{Line}
+use Rattle.policy_access.specs.declared.line.Line.TheVariants.{Rule as TheRule, Default}
+use Rattle.policy_access.specs.declared.fault.PartReason.{PartReason}
 use Rattle.policy_access.specs.declared.fault.PartReason.TheVariants as part
-use Rattle.policy_access.specs.declared.fault.RuleReason.TheVariants as reason
+use Rattle.mrpc_table.specs.declared.policy_lines.RuleReason.TheVariants as reason
 use Rattle.policy_access.proofs.Rows.{no150, acl, minus}
 
 abbrev small : Table
@@ -96,3 +101,49 @@ a_quote_inside = refl
 
 no_text : operand_of Text (codes "abc") ≡ Err part.Word
 no_text = refl
+
+-- ---- a value before a method that isn't known
+
+number_has_a_form : has_no_form (codes "18446744073709551616") ≡ false
+number_has_a_form = refl
+
+text_has_a_form : has_no_form (34 ∷ 34 ∷ []) ≡ false
+text_has_a_form = refl
+
+half_a_byte_has_none : has_no_form (codes "x0") ≡ true
+half_a_byte_has_none = refl
+
+two_signs_have_none : has_no_form (codes "$$") ≡ true
+two_signs_have_none = refl
+
+abbrev reason_in : Table → Line → Option PartReason
+reason_in T (TheRule r) = result_err (about_in T r.about)
+reason_in T (Default allow) = None
+
+abbrev against : List ℕ → Option PartReason
+against line = option_and_then (reason_in small) (line_of line)
+
+no_form_before_a_large_index : against (codes "rule a deny method 65536 where 1 eq $$") ≡ Some part.Word
+unfolding line_of
+no_form_before_a_large_index = refl
+
+no_form_before_a_missing_method : against (codes "rule a deny method 1 where 1 eq $$") ≡ Some part.Word
+unfolding line_of
+no_form_before_a_missing_method = refl
+
+a_large_index_with_a_form : against (codes "rule a deny method 65536 where 1 eq 7") ≡ Some part.Number
+unfolding line_of
+a_large_index_with_a_form = refl
+
+a_missing_method_with_a_form : against (codes "rule a deny method 1 where 9 eq 1") ≡ Some part.Path
+unfolding line_of
+a_missing_method_with_a_form = refl
+
+-- a path, or an operation, at fault takes the judgement of the value away
+a_path_at_fault : against (codes "rule a deny method 0 where 9 eq $$") ≡ Some part.Path
+unfolding line_of
+a_path_at_fault = refl
+
+an_operation_at_fault : against (codes "rule a deny method 0 where 1 starts $$") ≡ Some part.Path
+unfolding line_of
+an_operation_at_fault = refl

@@ -7,14 +7,15 @@ use Rattle.mrpc_table.specs.declared.table.Label.{Label}
 use Rattle.mrpc_table.specs.declared.table.Label.TheVariants.{Plain, Optional, Member, Repeated}
 use Rattle.policy_access.specs.Conditions.{is_met}
 use Rattle.policy_access.specs.Verdict.{AccessPolicy, verdict, rule_name}
-use Rattle.policy_access.specs.declared.call.Call.{Call}
-use Rattle.policy_access.specs.declared.call.Verdict.{Verdict}
+use Rattle.mrpc_table.specs.declared.call.Call.{Call}
+use Rattle.mrpc_table.specs.declared.call.Sort.TheVariants.{Request}
+use Rattle.policy_access.specs.declared.verdict.Verdict.{Verdict}
 use Rattle.policy_access.specs.declared.rule.Rule.{Rule}
 use Rattle.policy_access.specs.declared.rule.About.TheVariants.{Every, Calls as OfCalls}
 use Rattle.policy_access.specs.declared.rule.Operand.TheVariants.{Number, Run}
 use Rattle.policy_access.specs.declared.rule.Condition.TheVariants.{Present, Compares}
 use Rattle.policy_access.specs.declared.rule.Comparison.TheVariants.{Equal, NotEqual, Less, Greater, Starts}
-use Rattle.field_path.specs.declared.path.Path.{Path}
+use Rattle.mrpc_table.specs.declared.path.Path.{Path}
 
 abbrev pub to : Kind → Label → Path
 to k l = record { way = []; number = 1; kind = k; label = l }
@@ -32,7 +33,7 @@ minus n = 2 ^ 64 - n
 -- ---- verdicts
 
 abbrev pub no150 : Rule
-no150 = record { name = codes "no150"; allow = false; about = OfCalls (record { method = 0; reply = false; test = Some (record { path = to Uint64 Plain; condition = Compares Equal (Number 150) }) }) }
+no150 = record { name = codes "no150"; allow = false; about = OfCalls (record { method = 0; sort = Request; test = Some (record { path = to Uint64 Plain; condition = Compares Equal (Number 150) }) }) }
 
 abbrev pub acl : AccessPolicy
 acl = record { rules = no150 ∷ []; allow = true }

@@ -10,12 +10,14 @@ use Rattle.std.proofs.lemmas.Grind.{common_steps}
 use Rattle.std.specs.Str.{bytes_eq}
 use Rattle.mrpc_table.specs.Valid.{AreDistinct}
 use Rattle.mrpc_table.specs.declared.table.Table.{Table}
-use Rattle.policy_access.specs.Faults.{is_rule_name, is_among, order_of, has_default, IsAgainstAt, at_line, no_default, IsFirstFault, IsFaultOf}
+use Rattle.mrpc_table.specs.PolicyLines.{order_of}
+use Rattle.policy_access.specs.Faults.{is_rule_name, is_among, has_default, IsAgainstAt, at_line, no_default, IsFirstFault, IsFaultOf}
 use Rattle.policy_access.specs.Lines.{line_of}
 use Rattle.policy_access.specs.Reading.{names_in, AreRead}
 use Rattle.policy_access.specs.Rules.{about_in}
 use Rattle.policy_access.specs.Said.{said_in, judged_rule, reason_behind}
-use Rattle.policy_access.specs.Texts.{said_rule, with_about, SayEach, IsTextOf}
+use Rattle.mrpc_table.specs.PolicyLines.{SayEach}
+use Rattle.policy_access.specs.Texts.{said_rule, with_about, IsTextOf}
 use Rattle.policy_access.specs.Verdict.{AccessPolicy}
 use Rattle.policy_access.specs.declared.line.Line.{Line}
 use Rattle.policy_access.specs.declared.line.Line.TheVariants as forms
@@ -23,10 +25,10 @@ use Rattle.policy_access.specs.declared.line.RuleLine.{RuleLine}
 use Rattle.policy_access.specs.declared.rule.About.{About}
 use Rattle.policy_access.specs.declared.rule.Rule.{Rule}
 use Rattle.policy_access.specs.declared.fault.PartReason.{PartReason}
-use Rattle.policy_access.specs.declared.fault.RuleFault.{RuleFault}
-use Rattle.policy_access.specs.declared.fault.RuleFault.TheVariants as fault
-use Rattle.policy_access.specs.declared.fault.RuleReason.{RuleReason}
-use Rattle.policy_access.specs.declared.fault.RuleReason.TheVariants as reason
+use Rattle.mrpc_table.specs.declared.policy_lines.RuleFault.{RuleFault}
+use Rattle.mrpc_table.specs.declared.policy_lines.RuleFault.TheVariants as fault
+use Rattle.mrpc_table.specs.declared.policy_lines.RuleReason.{RuleReason}
+use Rattle.mrpc_table.specs.declared.policy_lines.RuleReason.TheVariants as reason
 use Rattle.policy_access.specs.declared.read.Said.{Said}
 use Rattle.policy_access.specs.declared.read.Said.TheVariants as saids
 use Rattle.policy_access.proofs.NameLemmas.{same_bytes}
@@ -88,7 +90,7 @@ policy_with rules allow = record { rules = rules; allow = allow }
 pub one-policy : (T : Table) (lines : List (List ℕ)) (p q : AccessPolicy) → IsTextOf T lines p → IsTextOf T lines q → p ≡ q
 one-policy T lines p q t u =
     let cut = snoc_same t.rule_lines u.rule_lines t.default_line u.default_line (sym t.whole ∙ u.whole) in
-    let rules : p.rules ≡ q.rules = said-same T t.rule_lines p.rules q.rules t.rules (subst (λ (ls : List (List ℕ)). SayEach T ls q.rules) (sym cut.0) u.rules) in
+    let rules : p.rules ≡ q.rules = said-same T t.rule_lines p.rules q.rules t.rules (subst (λ (ls : List (List ℕ)). SayEach (said_rule T) ls q.rules) (sym cut.0) u.rules) in
     let allow : p.allow ≡ q.allow = same_default (line_of t.default_line) p.allow q.allow t.default (subst (λ (l : List ℕ). line_of l ≡ Some (forms.Default q.allow)) (sym cut.1) u.default) in
     ap (λ (rs : List Rule). policy_with rs p.allow) rules ∙ ap (λ (a : Bool). policy_with q.rules a) allow
 
@@ -143,7 +145,7 @@ next_drop [] (suc i) x ys e = absurd cc
 next_drop (a ∷ xs) zero x ys e = cc
 next_drop (a ∷ xs) (suc i) x ys e = next_drop xs i x ys e
 
-rest-read : (T : Table) (lines rest : List (List ℕ)) (last : List ℕ) (i : ℕ) (front rs : List Rule) → AreRead T lines i front → drop i lines ≡ rest ++ last ∷ [] → SayEach T rest rs → i + length rs ≤ 64
+rest-read : (T : Table) (lines rest : List (List ℕ)) (last : List ℕ) (i : ℕ) (front rs : List Rule) → AreRead T lines i front → drop i lines ≡ rest ++ last ∷ [] → SayEach (said_rule T) rest rs → i + length rs ≤ 64
     → All (λ (r : Rule). IsTrue (is_rule_name r.name)) rs → AreDistinct (names_in front ++ names_in rs) → AreRead T lines (i + length rest) (front ++ rs)
 rest-read T lines [] last i front [] read here said few good fresh =
     let z : i ≡ i + 0 = omega arith in

@@ -6,8 +6,8 @@ use Rattle.std.specs.Str.{bytes_eq}
 use Rattle.mrpc_table.specs.Node.{Node, Item, number, run}
 use Rattle.mrpc_table.specs.Words.{rank}
 use Rattle.mrpc_table.specs.declared.table.Kind.{Kind}
-use Rattle.field_path.specs.Trees.{content_behind}
-use Rattle.field_path.specs.declared.path.Path.{Path}
+use Rattle.mrpc_table.specs.PathTrees.{content_behind}
+use Rattle.mrpc_table.specs.declared.path.Path.{Path}
 use Rattle.policy_access.specs.Paths.{item_behind}
 use Rattle.policy_access.specs.declared.rule.Operand.{Operand}
 use Rattle.policy_access.specs.declared.rule.Operand.TheVariants.{Number, Run}

@@ -1,10 +1,13 @@
 -- What stands against the lines of an access policy, and which line is at fault first, for which reason
 -- (this project's own format).
-use Rattle.std.specs.Prelude.{◌≡◌, ℕ, ◌-◌, ◌+◌, ◌<◌, ◌≤◌, Bool, true, false, not, ◌&&◌, List, codes, length, take, Option, Some, None, option_and_then, Err, slice_get}
+use Rattle.std.specs.Prelude.{◌≡◌, ℕ, ◌≤◌, Bool, true, false, not, ◌&&◌, List, codes, length, take, Option, Some, None, option_and_then, Err, slice_get}
 use Rattle.std.specs.List.{list_any, filter_map}
 use Rattle.std.specs.Option.{option_map_or}
 use Rattle.std.specs.Str.{bytes_eq}
+use Rattle.mrpc_table.specs.FirstFault as first
 use Rattle.mrpc_table.specs.Names.{is_name_form, is_short}
+use Rattle.mrpc_table.specs.PolicyLines as policy
+use Rattle.mrpc_table.specs.PolicyLines.{order_of}
 use Rattle.mrpc_table.specs.declared.table.Table.{Table}
 use Rattle.policy_access.specs.Lines.{line_of}
 use Rattle.policy_access.specs.Rules.{about_in}
@@ -14,10 +17,9 @@ use Rattle.policy_access.specs.declared.line.Line.TheVariants.{Rule, Default}
 use Rattle.policy_access.specs.declared.line.RuleLine.{RuleLine}
 use Rattle.policy_access.specs.declared.fault.PartReason.{PartReason}
 use Rattle.policy_access.specs.declared.fault.PartReason.TheVariants as part
-use Rattle.policy_access.specs.declared.fault.RuleReason.{RuleReason}
-use Rattle.policy_access.specs.declared.fault.RuleReason.TheVariants as reason
-use Rattle.policy_access.specs.declared.fault.RuleFault.{RuleFault}
-use Rattle.policy_access.specs.declared.fault.RuleFault.TheVariants as fault
+use Rattle.mrpc_table.specs.declared.policy_lines.RuleReason.{RuleReason}
+use Rattle.mrpc_table.specs.declared.policy_lines.RuleReason.TheVariants as reason
+use Rattle.mrpc_table.specs.declared.policy_lines.RuleFault.{RuleFault}
 
 -- ---- names
 
@@ -58,15 +60,6 @@ reason_of part.Word = reason.Word
 reason_of part.Number = reason.Number
 reason_of part.Path = reason.Path
 
--- the order of the reasons: at one line the first counts
-abbrev pub order_of : RuleReason → ℕ
-order_of reason.Word = 0
-order_of reason.Number = 1
-order_of reason.Name = 2
-order_of reason.Known = 3
-order_of reason.Path = 4
-order_of reason.Default = 5
-
 -- a reason stands against a line, behind lines with rules of these names, and with a default or not
 pub data IsAgainst (T : Table) (names : List (List ℕ)) (ended : Bool) (line : List ℕ) (q : RuleReason) : Type 0 where
   -- the line is out of form
@@ -74,7 +67,7 @@ pub data IsAgainst (T : Table) (names : List (List ℕ)) (ended : Bool) (line : 
   -- it is a rule behind the most that a policy has
   too_many : (r : RuleLine) → line_of line ≡ Some (Rule r) → MAX_RULES ≤ length names → q ≡ reason.Word
       → IsAgainst T names ended line q
-  -- what the rule is about is at fault
+  -- what the rule is about is at fault (a value of no form counts before a method that isn't known)
   of_part : (r : RuleLine) (p : PartReason) → line_of line ≡ Some (Rule r) → about_in T r.about ≡ Err p
       → q ≡ reason_of p → IsAgainst T names ended line q
   -- the rule's name is none
@@ -95,13 +88,9 @@ pub data IsAgainstAt (T : Table) (lines : List (List ℕ)) (i : ℕ) (q : RuleRe
   no_default : i ≡ length lines → has_default lines ≡ false → q ≡ reason.Default → IsAgainstAt T lines i q
 
 -- the line is the first at fault, counted from 1, and this is its first reason
-pub record IsFirstFault (T : Table) (lines : List (List ℕ)) (line : ℕ) (q : RuleReason) : Type 0 where
-  pub counted : 0 < line
-  pub here : IsAgainstAt T lines (line - 1) q
-  pub first_reason : (p : RuleReason) → order_of p < order_of q → IsAgainstAt T lines (line - 1) p → ⊥
-  pub none_before : (i : ℕ) (p : RuleReason) → i + 1 < line → IsAgainstAt T lines i p → ⊥
+abbrev pub IsFirstFault : Table → List (List ℕ) → ℕ → RuleReason → Type 0
+IsFirstFault T lines line q = first.IsFirstFault (IsAgainstAt T lines) order_of line q
 
--- what a fault says of lines; running out of memory says nothing
+-- what a fault says of lines
 abbrev pub IsFaultOf : Table → List (List ℕ) → RuleFault → Type 0
-IsFaultOf T lines (fault.At line q) = IsFirstFault T lines line q
-IsFaultOf T lines fault.Memory = Unit {0}
+IsFaultOf T lines fault = policy.IsFaultOf (IsAgainstAt T lines) fault

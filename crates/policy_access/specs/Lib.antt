@@ -1,4 +1,3 @@
-pub mod Call
 pub mod Conditions
 pub mod Faults
 pub mod Lines

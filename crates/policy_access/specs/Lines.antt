@@ -3,9 +3,11 @@ use Rattle.std.specs.Prelude.{ℕ, ◌==◌, Bool, true, false, ◌||◌, if◌t
 use Rattle.std.specs.List.{join_with_byte}
 use Rattle.std.specs.Str.{bytes_eq}
 use Rattle.mrpc_table.specs.Lines.{words_of}
+use Rattle.mrpc_table.specs.declared.call.Sort.{Sort}
+use Rattle.mrpc_table.specs.declared.call.Sort.TheVariants.{Request, Reply}
 use Rattle.mrpc_table.specs.declared.words.Decimal.{Decimal}
-use Rattle.field_path.specs.Words.{decimal_of, path_of}
-use Rattle.field_path.specs.declared.path.PathWord.{PathWord}
+use Rattle.mrpc_table.specs.PathWords.{decimal_of, path_of}
+use Rattle.mrpc_table.specs.declared.path.PathWord.{PathWord}
 use Rattle.policy_access.specs.declared.rule.Comparison.{Comparison}
 use Rattle.policy_access.specs.declared.rule.Comparison.TheVariants.{Equal, NotEqual, Less, Greater, Starts}
 use Rattle.policy_access.specs.declared.line.Line.{Line}
@@ -72,15 +74,15 @@ abbrev pub optional_test : List (List ℕ) → Option (Option TestLine)
 optional_test [] = Some None
 optional_test (word ∷ words) = option_map Some (test_of (word ∷ words))
 
-abbrev pub calls_with : Decimal → Bool → List (List ℕ) → Option CallsLine
-calls_with index reply words = option_map (λ t. record { index = index; reply = reply; test = t }) (optional_test words)
+abbrev pub calls_with : Decimal → Sort → List (List ℕ) → Option CallsLine
+calls_with index sort words = option_map (λ t. record { index = index; sort = sort; test = t }) (optional_test words)
 
 -- behind the index: `reply` or not, and then nothing or a test
 abbrev pub calls_of : Decimal → List (List ℕ) → Option CallsLine
-calls_of index [] = calls_with index false []
+calls_of index [] = calls_with index Request []
 calls_of index (word ∷ words) =
-    if bytes_eq word (codes "reply") then calls_with index true words
-    else calls_with index false (word ∷ words)
+    if bytes_eq word (codes "reply") then calls_with index Reply words
+    else calls_with index Request (word ∷ words)
 
 -- nothing, or `method INDEX` and what stands behind it
 abbrev pub about_of : List (List ℕ) → Option AboutLine

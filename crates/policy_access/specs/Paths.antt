@@ -6,8 +6,8 @@ use Rattle.mrpc_table.specs.declared.table.Kind.{Kind}
 use Rattle.mrpc_table.specs.declared.table.Kind.TheVariants.{Text, Octets, Message}
 use Rattle.mrpc_table.specs.declared.table.Label.{Label}
 use Rattle.mrpc_table.specs.declared.table.Label.TheVariants.{Plain}
-use Rattle.field_path.specs.Trees.{item_in, message_behind}
-use Rattle.field_path.specs.declared.path.Path.{Path}
+use Rattle.mrpc_table.specs.PathTrees.{item_in, message_behind}
+use Rattle.mrpc_table.specs.declared.path.Path.{Path}
 
 -- the default of a kind: 0, the empty text or no bytes; a message has none
 abbrev pub default_item : Kind → Option Item

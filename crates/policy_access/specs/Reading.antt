@@ -1,15 +1,16 @@
--- Lines while they are read.
+-- The code's own: lines while they are read.
 use Rattle.std.specs.Prelude.{◌≡◌, ℕ, ◌<◌, ◌≤◌, Bool, List, length, map, take, All, IsTrue, Some, Ok, slice_get}
+use Rattle.mrpc_table.specs.PolicyLines.{SayEach}
 use Rattle.mrpc_table.specs.Valid.{AreDistinct}
 use Rattle.mrpc_table.specs.declared.table.Table.{Table}
 use Rattle.policy_access.specs.Faults.{is_rule_name, IsAgainstAt}
 use Rattle.policy_access.specs.Lines.{line_of}
 use Rattle.policy_access.specs.Said.{said_in}
-use Rattle.policy_access.specs.Texts.{SayEach}
+use Rattle.policy_access.specs.Texts.{said_rule}
 use Rattle.policy_access.specs.declared.limits.TheConstants.{MAX_RULES}
 use Rattle.policy_access.specs.declared.read.Said.TheVariants.{Default}
 use Rattle.policy_access.specs.declared.rule.Rule.{Rule}
-use Rattle.policy_access.specs.declared.fault.RuleReason.{RuleReason}
+use Rattle.mrpc_table.specs.declared.policy_lines.RuleReason.{RuleReason}
 
 abbrev pub names_in : List Rule → List (List ℕ)
 names_in rules = map (λ (r : Rule). r.name) rules
@@ -19,7 +20,7 @@ pub record AreRead (T : Table) (lines : List (List ℕ)) (i : ℕ) (rules : List
   pub within : i ≤ length lines
   pub count : length rules ≡ i
   pub few : i ≤ MAX_RULES
-  pub said : SayEach T (take i lines) rules
+  pub said : SayEach (said_rule T) (take i lines) rules
   pub named : All (λ r. IsTrue (is_rule_name r.name)) rules
   pub distinct : AreDistinct (names_in rules)
   pub clean : (j : ℕ) (q : RuleReason) → j < i → IsAgainstAt T lines j q → ⊥

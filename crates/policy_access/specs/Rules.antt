@@ -1,21 +1,22 @@
 -- What a rule is about in a table, or the reason that stands against it (this project's own rule language).
-use Rattle.std.specs.Prelude.{ℕ, ◌^◌, nat_lt, Bool, true, false, not, ◌&&◌, if◌then◌else◌, length, Option, Some, None, Result, Ok, Err}
+use Rattle.std.specs.Prelude.{ℕ, nat_lt, Bool, true, false, not, ◌&&◌, if◌then◌else◌, List, length, Option, Some, None, option_and_then, Result, Ok, Err}
+use Rattle.std.specs.Option.{option_map_or}
 use Rattle.std.specs.Result.{result_map_both}
-use Rattle.mrpc_table.specs.Calls.{message_at}
-use Rattle.mrpc_table.specs.declared.words.Decimal.{Decimal}
-use Rattle.mrpc_table.specs.declared.words.Decimal.TheVariants.{Small, Large}
+use Rattle.mrpc_table.specs.Calls.{message_of}
+use Rattle.mrpc_table.specs.PolicyLines.{index_of}
+use Rattle.mrpc_table.specs.declared.call.Sort.{Sort}
 use Rattle.mrpc_table.specs.declared.table.Table.{Table}
 use Rattle.mrpc_table.specs.declared.table.Kind.{Kind}
 use Rattle.mrpc_table.specs.declared.table.Kind.TheVariants.{Text, Octets, Float, Double, Message}
 use Rattle.mrpc_table.specs.declared.table.Label.{Label}
 use Rattle.mrpc_table.specs.declared.table.Label.TheVariants.{Plain, Optional, Member}
-use Rattle.policy_access.specs.Values.{operand_of}
+use Rattle.policy_access.specs.Values.{operand_of, has_no_form}
 use Rattle.policy_access.specs.declared.rule.Comparison.{Comparison}
 use Rattle.policy_access.specs.declared.rule.Comparison.TheVariants.{Equal, NotEqual, Less, Greater, Starts}
 use Rattle.policy_access.specs.declared.rule.Condition.{Condition}
 use Rattle.policy_access.specs.declared.rule.Condition.TheVariants as conditions
-use Rattle.field_path.specs.Fields.{path_in}
-use Rattle.field_path.specs.declared.path.Path.{Path}
+use Rattle.mrpc_table.specs.PathFields.{path_in}
+use Rattle.mrpc_table.specs.declared.path.Path.{Path}
 use Rattle.policy_access.specs.declared.rule.Test.{Test}
 use Rattle.policy_access.specs.declared.rule.Calls.{Calls}
 use Rattle.policy_access.specs.declared.rule.About.{About}
@@ -84,32 +85,37 @@ tests_in T msg (Some t) = result_map Some (test_in T msg t)
 
 -- ---- calls
 
--- an index has 16 bits
-abbrev pub index_of : Decimal → Option ℕ
-index_of (Small n) = if nat_lt n (2 ^ 16) then Some n else None
-index_of Large = None
-
--- the message of a method's replies, or of its requests
-abbrev pub message_of : Table → ℕ → Bool → ℕ
-message_of T method reply = message_at T method (if reply then 1 else 0)
-
 -- the requests, or the replies, of a method, with a test or without one
-abbrev pub with_test : ℕ → Bool → Option Test → Calls
-with_test method reply test = record { method = method; reply = reply; test = test }
+abbrev pub with_test : ℕ → Sort → Option Test → Calls
+with_test method sort test = record { method = method; sort = sort; test = test }
+
+-- what a test compares with, if it does
+abbrev pub value_of_condition : ConditionLine → Option (List ℕ)
+value_of_condition Present = None
+value_of_condition (Compares c value) = Some value
+
+abbrev pub value_of_test : Option TestLine → Option (List ℕ)
+value_of_test t = option_and_then (λ test. value_of_condition test.condition) t
+
+-- what stands against the calls of a method that isn't known. No path of such a method can be judged, and so of a
+-- value only whether it has a form at all: where it has none, Word counts before the reason against the method.
+abbrev pub of_unknown_method : PartReason → Option TestLine → PartReason
+of_unknown_method q t = if option_map_or has_no_form (value_of_test t) false then reason.Word else q
 
 -- the calls of a method: Path where the table lacks it
-abbrev pub calls_of_method : Table → ℕ → Bool → Option TestLine → Result Calls PartReason
-calls_of_method T method reply t =
+abbrev pub calls_of_method : Table → ℕ → Sort → Option TestLine → Result Calls PartReason
+calls_of_method T method sort t =
     if nat_lt method (length T.methods)
-    then result_map (with_test method reply) (tests_in T (message_of T method reply) t)
-    else Err reason.Path
+    then result_map (with_test method sort) (tests_in T (message_of T method sort) t)
+    else Err (of_unknown_method reason.Path t)
 
-abbrev pub calls_of_index : Table → Bool → Option TestLine → Option ℕ → Result Calls PartReason
-calls_of_index T reply t None = Err reason.Number
-calls_of_index T reply t (Some method) = calls_of_method T method reply t
+-- Number where the index has more than 16 bits
+abbrev pub calls_of_index : Table → Sort → Option TestLine → Option ℕ → Result Calls PartReason
+calls_of_index T sort t None = Err (of_unknown_method reason.Number t)
+calls_of_index T sort t (Some method) = calls_of_method T method sort t
 
 abbrev pub calls_in : Table → CallsLine → Result Calls PartReason
-calls_in T c = calls_of_index T c.reply c.test (index_of c.index)
+calls_in T c = calls_of_index T c.sort c.test (index_of c.index)
 
 abbrev pub about_in : Table → AboutLine → Result About PartReason
 about_in T lines.Every = Ok abouts.Every

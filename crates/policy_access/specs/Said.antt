@@ -1,4 +1,4 @@
--- What a line says behind rules of some names, or the first reason against it.
+-- The code's own: what a line says behind rules of some names, or the first reason against it.
 use Rattle.std.specs.Prelude.{ℕ, nat_le, Bool, true, false, List, length, Option, Some, None, Result, Ok, Err}
 use Rattle.std.specs.Result.{result_map_both}
 use Rattle.mrpc_table.specs.declared.table.Table.{Table}
@@ -13,8 +13,8 @@ use Rattle.policy_access.specs.declared.rule.About.{About}
 use Rattle.policy_access.specs.declared.rule.Rule.{Rule as TheRule}
 use Rattle.policy_access.specs.declared.fault.PartReason.{PartReason}
 use Rattle.policy_access.specs.declared.fault.PartReason.TheVariants as part
-use Rattle.policy_access.specs.declared.fault.RuleReason.{RuleReason}
-use Rattle.policy_access.specs.declared.fault.RuleReason.TheVariants as reason
+use Rattle.mrpc_table.specs.declared.policy_lines.RuleReason.{RuleReason}
+use Rattle.mrpc_table.specs.declared.policy_lines.RuleReason.TheVariants as reason
 use Rattle.policy_access.specs.declared.read.Said.{Said}
 use Rattle.policy_access.specs.declared.read.Said.TheVariants.{Rule, Default}
 

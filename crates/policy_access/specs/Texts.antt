@@ -1,6 +1,7 @@
 -- Which lines are the text of an access policy (this project's own format).
 use Rattle.std.specs.Prelude.{◌≡◌, ℕ, ◌≤◌, List, [], ◌∷◌, ◌++◌, length, map, All, IsTrue, Option, Some, None, option_map, option_and_then}
 use Rattle.std.specs.Result.{result_ok}
+use Rattle.mrpc_table.specs.PolicyLines.{SayEach}
 use Rattle.mrpc_table.specs.Valid.{AreDistinct}
 use Rattle.mrpc_table.specs.declared.table.Table.{Table}
 use Rattle.policy_access.specs.Faults.{is_rule_name}
@@ -26,19 +27,13 @@ rule_in T (Default allow) = None
 abbrev pub said_rule : Table → List ℕ → Option Rule
 said_rule T line = option_and_then (rule_in T) (line_of line)
 
--- each line says the rule at its place
-abbrev pub SayEach : Table → List (List ℕ) → List Rule → Type 0
-SayEach T [] [] = Unit {0}
-SayEach T (line ∷ lines) (rule ∷ rules) = (said_rule T line ≡ Some rule) × SayEach T lines rules
-SayEach T _ _ = ⊥
-
 -- lines are the text of a policy: a line for each rule, of which there are not too many and whose names are
 -- distinct, and then the default's line
 pub record IsTextOf (T : Table) (lines : List (List ℕ)) (policy : AccessPolicy) : Type 0 where
   pub rule_lines : List (List ℕ)
   pub default_line : List ℕ
   pub whole : lines ≡ rule_lines ++ default_line ∷ []
-  pub rules : SayEach T rule_lines policy.rules
+  pub rules : SayEach (said_rule T) rule_lines policy.rules
   pub default : line_of default_line ≡ Some (Default policy.allow)
   pub few : length policy.rules ≤ MAX_RULES
   pub named : All (λ r. IsTrue (is_rule_name r.name)) policy.rules

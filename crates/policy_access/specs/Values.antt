@@ -1,5 +1,5 @@
 -- What VALUE says of a field of a kind, or why it says nothing (this project's own format).
-use Rattle.std.specs.Prelude.{ℕ, ◌-◌, ◌%◌, ◌^◌, ◌==◌, nat_lt, nat_le, Bool, not, ◌&&◌, ◌||◌, if◌then◌else◌, List, [], ◌∷◌, length, Option, Some, None, Result, Ok, Err}
+use Rattle.std.specs.Prelude.{ℕ, ◌-◌, ◌%◌, ◌^◌, ◌==◌, nat_lt, nat_le, Bool, true, false, not, ◌&&◌, ◌||◌, if◌then◌else◌, List, [], ◌∷◌, length, Option, Some, None, Result, Ok, Err}
 use Rattle.std.specs.List.{slice_split, list_all}
 use Rattle.std.specs.Result.{result_ok}
 use Rattle.hex.specs.Hex.{decode_of}
@@ -7,7 +7,7 @@ use Rattle.mrpc_table.specs.Lines.{number_of, in_64_bits}
 use Rattle.mrpc_table.specs.declared.words.Decimal.{Decimal}
 use Rattle.mrpc_table.specs.declared.words.Decimal.TheVariants.{Small, Large}
 use Rattle.mrpc_table.specs.declared.table.Kind.{Kind}
-use Rattle.mrpc_table.specs.declared.table.Kind.TheVariants.{Int32, Int64, Uint32, Sint32, Sint64, Bool as TheBool, Fixed32, Sfixed32, Sfixed64, Text, Octets, Message, Choice}
+use Rattle.mrpc_table.specs.declared.table.Kind.TheVariants.{Int32, Int64, Uint32, Uint64, Sint32, Sint64, Bool as TheBool, Fixed32, Sfixed32, Sfixed64, Text, Octets, Message, Choice}
 use Rattle.policy_access.specs.declared.limits.TheConstants.{MAX_TEXT_VALUE}
 use Rattle.policy_access.specs.declared.rule.Operand.{Operand}
 use Rattle.policy_access.specs.declared.rule.Operand.TheVariants.{Number, Run}
@@ -106,3 +106,15 @@ operand_of Text word = text_value word
 operand_of Octets word = bytes_value word
 operand_of (Message i) word = Err reason.Word
 operand_of k word = number_value k word
+
+-- the value is out of form for a field of the kind
+abbrev pub is_word_fault : Result Operand PartReason → Bool
+is_word_fault (Err reason.Word) = true
+is_word_fault _ = false
+
+abbrev pub is_out_of_form : Kind → List ℕ → Bool
+is_out_of_form k word = is_word_fault (operand_of k word)
+
+-- the value has none of the three forms: it is neither a number, nor a text, nor bytes
+abbrev pub has_no_form : List ℕ → Bool
+has_no_form word = (is_out_of_form Uint64 word && is_out_of_form Text word) && is_out_of_form Octets word

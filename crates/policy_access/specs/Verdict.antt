@@ -1,10 +1,10 @@
 -- What an access policy says of a call (this project's own rule language).
-use Rattle.std.specs.Prelude.{ℕ, ◌==◌, Bool, true, not, ◌&&◌, if◌then◌else◌, List, length, option_map, position, slice_get, unwrap_or, codes}
+use Rattle.std.specs.Prelude.{ℕ, ◌==◌, Bool, true, ◌&&◌, List, length, option_map, position, slice_get, unwrap_or, codes}
 use Rattle.std.specs.Option.{option_map_or}
-use Rattle.policy_access.specs.Call.{is_reply}
+use Rattle.mrpc_table.specs.Calls.{is_of_sort}
 use Rattle.policy_access.specs.Conditions.{meets}
-use Rattle.policy_access.specs.declared.call.Call.{Call}
-use Rattle.policy_access.specs.declared.call.Verdict.{Verdict}
+use Rattle.mrpc_table.specs.declared.call.Call.{Call}
+use Rattle.policy_access.specs.declared.verdict.Verdict.{Verdict}
 use Rattle.policy_access.specs.declared.rule.Rule.{Rule}
 use Rattle.policy_access.specs.declared.rule.About.{About}
 use Rattle.policy_access.specs.declared.rule.About.TheVariants.{Every, Calls as OfCalls}
@@ -15,14 +15,10 @@ pub record AccessPolicy : Type 0 where
   pub rules : List Rule
   pub allow : Bool
 
--- a reply where replies are meant, else a request
-abbrev pub is_of_sort : Bool → Call → Bool
-is_of_sort reply call = if reply then is_reply call else not (is_reply call)
-
 -- the call is of the method and the sort, and its tree meets the test, if there is one
 abbrev pub is_among : Calls → Call → Bool
 is_among calls call =
-    ((call.method == calls.method) && is_of_sort calls.reply call) && option_map_or (meets call.tree) calls.test true
+    ((call.method == calls.method) && is_of_sort calls.sort call.number) && option_map_or (meets call.tree) calls.test true
 
 -- the rule is about the call
 abbrev pub is_about : About → Call → Bool

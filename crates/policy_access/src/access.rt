@@ -3,12 +3,11 @@
 ghost use Rattle.std.specs.Prelude.{◌≡◌, ◌≤◌, length, IfOk};
 ghost use Rattle.policy_access.specs.declared.limits.TheConstants.{MAX_RULES};
 
-use crate::call::{Call, Verdict};
 use crate::condition::first_match;
 use crate::copied::copied_rules;
 use crate::rule::Rule;
-use field_path::normal_ascends;
-use mrpc_table::{Bytes, Memory, Name, Sequence, Table};
+use crate::verdict::Verdict;
+use mrpc_table::{Bytes, Call, Memory, Name, Sequence, Table, normal_ascends};
 use std::alloc::Global;
 use std::marker::Model;
 
@@ -43,7 +42,7 @@ impl Model for Access {
 }
 
 impl Access {
-    ghost use Rattle.policy_access.specs.Call.{IsCallOf};
+    ghost use Rattle.mrpc_table.specs.Calls.{IsCallOf};
     ghost use Rattle.policy_access.specs.Verdict.{verdict, rule_name};
 
     // The policy of these rules, with this default.

@@ -4,15 +4,15 @@ ghost use Rattle.std.specs.Prelude.{◌≡◌, false, option_map, position};
 ghost use Rattle.std.specs.Option.{option_copied, option_map_or};
 ghost use Rattle.mrpc_table.specs.Node.{number, run};
 ghost use Rattle.mrpc_table.specs.View.{content_of};
-ghost use Rattle.field_path.specs.Trees.{IsAscending};
-ghost use Rattle.policy_access.specs.Paths.{unset_item, item_of_field};
+ghost use Rattle.mrpc_table.specs.PathTrees.{IsAscending};
+ghost use Rattle.policy_access.specs.Paths.{default_item, unset_item, item_of_field};
 ghost use Rattle.policy_access.specs.Conditions.{compares, meets};
 ghost use Rattle.policy_access.specs.Verdict.{is_among, matches};
 
-use crate::call::{Call, is_reply};
 use crate::rule::{About, Calls, Comparison, Condition, Operand, Rule, Test};
-use field_path::{Path, message_behind, numbers_ascend};
-use mrpc_table::{FieldValue, Kind, Label, Tree, Value};
+use mrpc_table::{
+    Call, FieldValue, Kind, Label, Path, Tree, Value, message_behind, numbers_ascend,
+};
 
 fn number_compares(comparison: Comparison, kind: Kind, wanted: &Operand, word: u64) -> bool
     ensures { result ≡ compares comparison kind wanted.now (number word) }
@@ -43,18 +43,39 @@ fn run_compares(comparison: Comparison, kind: Kind, wanted: &Operand, bytes: &[u
     }
 }
 
+// Whether the default of a kind compares so.
+fn default_compares(comparison: Comparison, kind: Kind, wanted: &Operand) -> bool
+    ensures { result ≡ option_map_or (compares comparison kind wanted.now) (default_item kind) false }
+{
+    match kind {
+        Kind::Message(_) => false,
+        Kind::Text | Kind::Octets => run_compares(comparison, kind, wanted, &[]),
+        Kind::Int32
+        | Kind::Int64
+        | Kind::Uint32
+        | Kind::Uint64
+        | Kind::Sint32
+        | Kind::Sint64
+        | Kind::Bool
+        | Kind::Fixed32
+        | Kind::Fixed64
+        | Kind::Sfixed32
+        | Kind::Sfixed64
+        | Kind::Float
+        | Kind::Double
+        | Kind::Choice(_) => number_compares(comparison, kind, wanted, 0),
+    }
+}
+
 // Whether the value of a field that is unset compares so.
 fn unset_compares(comparison: Comparison, path: &Path, wanted: &Operand) -> bool
     ensures { result ≡ option_map_or (compares comparison path.now.kind wanted.now)
         (unset_item path.now.kind path.now.label) false }
 {
-    match (path.label, path.kind) {
-        (Label::Plain, Kind::Message(_)) => false,
-        (Label::Plain, Kind::Text | Kind::Octets) => {
-            run_compares(comparison, path.kind, wanted, &[])
-        }
-        (Label::Plain, _) => number_compares(comparison, path.kind, wanted, 0),
-        _ => false,
+    match path.label {
+        Label::Plain => default_compares(comparison, path.kind, wanted),
+        Label::Optional | Label::Member(_) => false,
+        Label::Repeated | Label::Packed | Label::Map(_) => false,
     }
 }
 
@@ -103,7 +124,7 @@ fn is_among(calls: &Calls, call: &Call) -> bool
     requires { IsAscending call.now.tree }
     ensures { result ≡ is_among calls.now call.now }
 {
-    if call.method != calls.method || is_reply(call) != calls.reply {
+    if call.method != calls.method || !call.is_of(calls.sort) {
         return false;
     }
     match &calls.test {

@@ -40,7 +40,7 @@ impl Calls {
         };
         Ok(Calls {
             method: self.method,
-            reply: self.reply,
+            sort: self.sort,
             test,
         })
     }

@@ -6,8 +6,7 @@ ghost use Rattle.policy_access.specs.Lines.{allow_of, comparison_of, value_of, c
 
 use crate::line::{AboutLine, CallsLine, ConditionLine, Line, RuleLine, TestLine};
 use crate::rule::Comparison;
-use field_path::PathWord;
-use mrpc_table::{Bytes, Decimal, Memory, cut, is_word, number_of};
+use mrpc_table::{Bytes, Decimal, Memory, PathWord, Sort, cut, is_word, number_of};
 use std::alloc::Global;
 
 // The first of at least two words, and the line of the others.
@@ -123,27 +122,27 @@ fn test_line(alloc: Global, line: &[u8]) -> Result<Option<TestLine>, Memory>
 fn tested_calls(
     alloc: Global,
     index: Decimal,
-    reply: bool,
+    sort: Sort,
     line: &[u8],
 ) -> Result<Option<CallsLine>, Memory>
-    ensures { IfOk result (λ c. c ≡ calls_with index reply (words_of line.now)) }
+    ensures { IfOk result (λ c. c ≡ calls_with index sort (words_of line.now)) }
 {
     match test_line(alloc, line)? {
         None => Ok(None),
         Some(test) => Ok(Some(CallsLine {
             index,
-            reply,
+            sort,
             test: Some(test),
         })),
     }
 }
 
-fn all_calls(index: Decimal, reply: bool) -> CallsLine
-    ensures { Some result ≡ calls_with index reply [] }
+fn all_calls(index: Decimal, sort: Sort) -> CallsLine
+    ensures { Some result ≡ calls_with index sort [] }
 {
     CallsLine {
         index,
-        reply,
+        sort,
         test: None,
     }
 }
@@ -153,9 +152,14 @@ fn calls_line(alloc: Global, index: Decimal, line: &[u8]) -> Result<Option<Calls
     ensures { IfOk result (λ c. c ≡ calls_of index (words_of line.now)) }
 {
     match next_word(line) {
-        Some((first, rest)) if is_word(first, b"reply") => tested_calls(alloc, index, true, rest),
-        None if is_word(line, b"reply") => Ok(Some(all_calls(index, true))),
-        _ => tested_calls(alloc, index, false, line),
+        Some((first, rest)) if is_word(first, b"reply") => tested_calls(
+            alloc,
+            index,
+            Sort::Reply,
+            rest,
+        ),
+        None if is_word(line, b"reply") => Ok(Some(all_calls(index, Sort::Reply))),
+        _ => tested_calls(alloc, index, Sort::Request, line),
     }
 }
 
@@ -172,7 +176,7 @@ fn about_line(alloc: Global, line: &[u8]) -> Result<Option<AboutLine>, Memory>
     let Some((index, rest)) = next_word(rest) else {
         return Ok(match number_of(rest) {
             None => None,
-            Some(index) => Some(AboutLine::Calls(all_calls(index, false))),
+            Some(index) => Some(AboutLine::Calls(all_calls(index, Sort::Request))),
         });
     };
     let Some(index) = number_of(index) else {

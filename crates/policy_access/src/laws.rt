@@ -5,7 +5,7 @@ ghost use Rattle.mrpc_table.specs.declared.table.Table.{Table};
 ghost use Rattle.policy_access.specs.Faults.{IsFirstFault};
 ghost use Rattle.policy_access.specs.Texts.{IsTextOf};
 ghost use Rattle.policy_access.specs.Verdict.{AccessPolicy};
-ghost use Rattle.policy_access.specs.declared.fault.RuleReason.{RuleReason};
+ghost use Rattle.mrpc_table.specs.declared.policy_lines.RuleReason.{RuleReason};
 
 /// Lines are the text of one policy at most.
 pub fn one_policy()

@@ -3,13 +3,12 @@
 //! [`read_access`] reads a policy from its lines, or tells the first line at fault; [`Access::judge`] says
 //! what a policy says of a call. `specs/Verdict.antt` says which rule decides and when a rule matches,
 //! `specs/Texts.antt` which lines are the text of a policy, and `specs/Faults.antt` what stands against
-//! lines that are none. It stands on `mrpc_table` and `field_path`. The layers above use one contract: the
+//! lines that are none. It stands on `mrpc_table`. The layers above use one contract: the
 //! first rule that matches decides, and else the default; and lines are the text of one policy or have one
 //! first fault.
 #![tactic(auto)]
 
 mod access;
-mod call;
 mod condition;
 mod copied;
 mod fault;
@@ -22,10 +21,10 @@ mod read;
 mod resolve;
 mod rule;
 mod value;
+mod verdict;
 
 pub use access::Access;
-pub use call::{Call, Verdict};
-pub use fault::{RuleFault, RuleReason};
 pub use laws::{one_fault, one_policy, text_or_fault};
 pub use limits::{MAX_RULES, MAX_TEXT_VALUE};
-pub use read::{Lines, read_access};
+pub use read::read_access;
+pub use verdict::Verdict;

@@ -4,8 +4,7 @@ ghost use Rattle.std.specs.Prelude.{◌≡◌};
 ghost use Rattle.policy_access.specs.Texts.{with_about};
 
 use crate::rule::{About, Comparison, Rule};
-use field_path::PathWord;
-use mrpc_table::{Bytes, Decimal};
+use mrpc_table::{Bytes, Decimal, PathWord, Sort};
 
 /// A line in form.
 #[derive(Drop)]
@@ -61,7 +60,7 @@ pub enum AboutLine {
 /// `method INDEX [reply] [where ..]`
 pub struct CallsLine {
     pub index: Decimal,
-    pub reply: bool,
+    pub sort: Sort,
     pub test: Option<TestLine>,
 }
 
@@ -70,7 +69,7 @@ impl Drop for CallsLine {
     fn drop(self) {
         let CallsLine {
             index: _,
-            reply: _,
+            sort: _,
             test: _test,
         } = self;
     }

@@ -8,21 +8,23 @@ ghost use Rattle.policy_access.specs.Names.{Holds};
 ghost use Rattle.policy_access.specs.Reading.{names_in, AreRead, DefaultAt};
 ghost use Rattle.policy_access.specs.Texts.{IsTextOf};
 ghost use Rattle.policy_access.specs.Verdict.{AccessPolicy};
-ghost use Rattle.policy_access.specs.declared.fault.RuleFault.TheVariants.{Memory as NoMemory};
+ghost use Rattle.mrpc_table.specs.declared.policy_lines.RuleFault.TheVariants.{Memory as NoMemory};
 ghost use Rattle.policy_access.specs.Rules.{about_in};
 ghost use Rattle.policy_access.specs.Said.{judged_rule, said_in, reason_behind};
 ghost use Rattle.policy_access.specs.declared.line.RuleLine.{RuleLine};
 ghost use Rattle.policy_access.specs.declared.limits.TheConstants.{MAX_RULES};
 
 use crate::access::Access;
-use crate::fault::{PartReason, RuleFault, RuleReason};
+use crate::fault::PartReason;
 use crate::form::line_of;
 use crate::limits::MAX_RULES;
 use crate::line::{Line, RuleLine};
 use crate::names::SeenNames;
 use crate::resolve::about_in;
 use crate::rule::{About, Rule};
-use mrpc_table::{Bytes, Memory, Sequence, Table, is_name_form, is_short, is_word};
+use mrpc_table::{
+    Bytes, Lines, Memory, RuleFault, RuleReason, Table, is_name_form, is_short, is_word,
+};
 use std::alloc::Global;
 
 /// What a line without a fault says.
@@ -123,20 +125,6 @@ pub fn said_in(
     }
 }
 
-/// The lines of a policy, without their line feeds.
-pub type Lines = Sequence<Bytes>;
-
-// The fault at a place, counted from 0.
-fn fault_at(place: usize, reason: RuleReason) -> RuleFault
-    requires { place < 2 ^ 63 }
-    ensures { result ≡ RuleFault.At (place + 1) reason }
-{
-    RuleFault::At {
-        line: place as u64 + 1,
-        reason,
-    }
-}
-
 // What stands against the line behind the default.
 fn reason_behind(
     alloc: Global,
@@ -231,7 +219,7 @@ fn finish(
                 so_far.rules.len(),
                 line.as_slice(),
             )?;
-            Err(fault_at(place + 1, reason))
+            Err(RuleFault::at(place + 1, reason))
         }
     }
 }
@@ -261,12 +249,12 @@ fn read_rules(
             so_far.rules.len(),
             line.as_slice(),
         )? {
-            Err(reason) => return Err(fault_at(place, reason)),
+            Err(reason) => return Err(RuleFault::at(place, reason)),
             Ok(Said::Default(allow)) => return Ok((place, allow)),
             Ok(Said::Rule(rule)) => so_far.add(alloc, rule)?,
         }
     }
-    Err(fault_at(lines.len(), RuleReason::Default))
+    Err(RuleFault::at(lines.len(), RuleReason::Default))
 }
 
 fn read_lines(alloc: Global, lines: &[Bytes], table: &Table) -> Result<Access, RuleFault>

@@ -2,26 +2,44 @@
 
 ghost use Rattle.std.specs.Prelude.{◌≡◌, ◌<◌, length, IfOk};
 ghost use Rattle.mrpc_table.specs.Valid.{IsValid};
-ghost use Rattle.policy_access.specs.Rules.{has_value, is_comparable, is_run, suits, condition_in, test_in, tests_in, message_of, calls_of_method, calls_in, about_in};
+ghost use Rattle.policy_access.specs.Rules.{has_value, is_comparable, is_run, suits, condition_in, test_in, tests_in, of_unknown_method, calls_of_method, calls_in, about_in};
 
 use crate::fault::PartReason;
 use crate::line::{AboutLine, CallsLine, ConditionLine, TestLine};
 use crate::rule::{About, Calls, Comparison, Condition, Test};
-use crate::value::operand_of;
-use field_path::Path;
-use mrpc_table::{Decimal, Kind, Label, Memory, Table};
+use crate::value::{has_no_form, operand_of};
+use mrpc_table::{Decimal, Kind, Label, Memory, Path, Table};
 use std::alloc::Global;
 
 fn has_value(label: Label) -> bool
     ensures { result ≡ has_value label }
 {
-    matches!(label, Label::Plain | Label::Optional | Label::Member(_))
+    match label {
+        Label::Plain | Label::Optional | Label::Member(_) => true,
+        Label::Repeated | Label::Packed | Label::Map(_) => false,
+    }
 }
 
 fn is_comparable(kind: Kind) -> bool
     ensures { result ≡ is_comparable kind }
 {
-    !matches!(kind, Kind::Float | Kind::Double | Kind::Message(_))
+    match kind {
+        Kind::Float | Kind::Double | Kind::Message(_) => false,
+        Kind::Int32
+        | Kind::Int64
+        | Kind::Uint32
+        | Kind::Uint64
+        | Kind::Sint32
+        | Kind::Sint64
+        | Kind::Bool
+        | Kind::Fixed32
+        | Kind::Fixed64
+        | Kind::Sfixed32
+        | Kind::Sfixed64
+        | Kind::Text
+        | Kind::Octets
+        | Kind::Choice(_) => true,
+    }
 }
 
 fn is_run(kind: Kind) -> bool
@@ -97,13 +115,23 @@ fn tests_in(
     }
 }
 
-// The message of a method's replies, or of its requests.
-fn message_of(table: &Table, method: u16, reply: bool) -> u32
-    requires valid { IsValid table.now }
-    requires known { method < length table.now.methods }
-    ensures { result ≡ message_of table.now method reply }
+// What stands against the calls of a method that isn't known, and so of whose test the value's form alone is judged.
+fn of_unknown_method(
+    alloc: Global,
+    reason: PartReason,
+    test: &Option<TestLine>,
+) -> Result<PartReason, Memory>
+    ensures { IfOk result (λ q. q ≡ of_unknown_method reason test.now) }
 {
-    table.message_of(method, if reply { 1 } else { 0 })
+    match test {
+        Some(
+            TestLine {
+                path: _,
+                condition: ConditionLine::Compares(_, value),
+            },
+        ) if has_no_form(alloc, value.as_slice())? => Ok(PartReason::Word),
+        _ => Ok(reason),
+    }
 }
 
 fn calls_of_method(
@@ -113,20 +141,16 @@ fn calls_of_method(
     calls: &CallsLine,
 ) -> Result<Result<Calls, PartReason>, Memory>
     requires { IsValid table.now }
-    ensures { IfOk result (λ c. c ≡ calls_of_method table.now method calls.now.reply calls.now.test) }
+    ensures { IfOk result (λ c. c ≡ calls_of_method table.now method calls.now.sort calls.now.test) }
 {
     if method as usize >= table.methods.len() {
-        return Ok(Err(PartReason::Path));
+        return Ok(Err(of_unknown_method(alloc, PartReason::Path, &calls.test)?));
     }
-    let reply = calls.reply;
-    let msg = message_of(table, method, reply);
+    let sort = calls.sort;
+    let msg = table.message_of(method, sort);
     match tests_in(alloc, table, msg, &calls.test)? {
         Err(reason) => Ok(Err(reason)),
-        Ok(test) => Ok(Ok(Calls {
-            method,
-            reply,
-            test,
-        })),
+        Ok(test) => Ok(Ok(Calls { method, sort, test })),
     }
 }
 
@@ -142,13 +166,17 @@ fn calls_in(
         Decimal::Small(index) if index <= u16::MAX as u64 => {
             calls_of_method(alloc, table, index as u16, calls)
         }
-        _ => Ok(Err(PartReason::Number)),
+        Decimal::Small(_) | Decimal::Large => Ok(Err(of_unknown_method(
+            alloc,
+            PartReason::Number,
+            &calls.test,
+        )?)),
     }
 }
 
 /// What a rule is about in the table: `Number` for an index of more than 16 bits or a value out of range,
 /// `Path` for a method or a field that the table lacks or an operation that doesn't go with it, `Word` for
-/// a value out of form.
+/// a value out of form. Where the method isn't known, a value of no form at all counts before it.
 pub fn about_in(
     alloc: Global,
     table: &Table,

@@ -1,7 +1,6 @@
 //! What one rule says.
 
-use field_path::Path;
-use mrpc_table::{Bytes, Name};
+use mrpc_table::{Bytes, Name, Path, Sort};
 
 /// One rule of a policy.
 pub struct Rule {
@@ -35,8 +34,8 @@ pub enum About {
 pub struct Calls {
     /// The index of the method in the table.
     pub method: u16,
-    /// Whether the rule is about replies, and else about requests.
-    pub reply: bool,
+    /// Whether the rule is about requests or about replies.
+    pub sort: Sort,
     pub test: Option<Test>,
 }
 
@@ -45,7 +44,7 @@ impl Drop for Calls {
     fn drop(self) {
         let Calls {
             method: _,
-            reply: _,
+            sort: _,
             test: _test,
         } = self;
     }

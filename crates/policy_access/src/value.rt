@@ -5,7 +5,7 @@ ghost use Rattle.std.specs.List.{list_all};
 ghost use Rattle.std.specs.Option.{option_copied};
 ghost use Rattle.std.specs.Result.{result_ok};
 ghost use Rattle.hex.specs.Hex.{decode_of};
-ghost use Rattle.policy_access.specs.Values.{depth_of, limit_of, positive_word, negative_word, number_value, is_text_byte, quoted, text_value, is_lower_digit, run_or_word, bytes_value, operand_of};
+ghost use Rattle.policy_access.specs.Values.{depth_of, limit_of, positive_word, negative_word, number_value, is_text_byte, quoted, text_value, is_lower_digit, run_or_word, bytes_value, operand_of, is_out_of_form, has_no_form};
 
 use crate::fault::PartReason;
 use crate::limits::MAX_TEXT_VALUE;
@@ -21,7 +21,16 @@ fn depth_of(kind: Kind) -> u64
     match kind {
         Kind::Int32 | Kind::Sint32 | Kind::Sfixed32 | Kind::Choice(_) => 0x8000_0000,
         Kind::Int64 | Kind::Sint64 | Kind::Sfixed64 => 0x8000_0000_0000_0000,
-        _ => 0,
+        Kind::Uint32
+        | Kind::Uint64
+        | Kind::Bool
+        | Kind::Fixed32
+        | Kind::Fixed64
+        | Kind::Float
+        | Kind::Double
+        | Kind::Text
+        | Kind::Octets
+        | Kind::Message(_) => 0,
     }
 }
 
@@ -34,7 +43,13 @@ fn is_below_limit(kind: Kind, number: u64) -> bool
         Kind::Int64 | Kind::Sint64 | Kind::Sfixed64 => number < 0x8000_0000_0000_0000,
         Kind::Uint32 | Kind::Fixed32 => number < 0x1_0000_0000,
         Kind::Bool => number < 2,
-        _ => true,
+        Kind::Uint64
+        | Kind::Fixed64
+        | Kind::Float
+        | Kind::Double
+        | Kind::Text
+        | Kind::Octets
+        | Kind::Message(_) => true,
     }
 }
 
@@ -155,6 +170,40 @@ pub fn operand_of(
         Kind::Text => text_value(alloc, word),
         Kind::Octets => bytes_value(alloc, word),
         Kind::Message(_) => Ok(Err(PartReason::Word)),
-        _ => Ok(number_value(kind, word)),
+        Kind::Int32
+        | Kind::Int64
+        | Kind::Uint32
+        | Kind::Uint64
+        | Kind::Sint32
+        | Kind::Sint64
+        | Kind::Bool
+        | Kind::Fixed32
+        | Kind::Fixed64
+        | Kind::Sfixed32
+        | Kind::Sfixed64
+        | Kind::Float
+        | Kind::Double
+        | Kind::Choice(_) => Ok(number_value(kind, word)),
     }
+}
+
+// Whether a value is out of form for a field of the kind.
+fn is_out_of_form(alloc: Global, kind: Kind, word: &[u8]) -> Result<bool, Memory>
+    ensures { IfOk result (λ out. out ≡ is_out_of_form kind word.now) }
+{
+    match operand_of(alloc, kind, word)? {
+        Err(PartReason::Word) => Ok(true),
+        Err(PartReason::Number | PartReason::Path) | Ok(_) => Ok(false),
+    }
+}
+
+/// Whether a value has none of the three forms: it is neither a number, nor a text, nor bytes.
+pub fn has_no_form(alloc: Global, word: &[u8]) -> Result<bool, Memory>
+    ensures { IfOk result (λ none. none ≡ has_no_form word.now) }
+{
+    Ok(
+        is_out_of_form(alloc, Kind::Uint64, word)?
+            && is_out_of_form(alloc, Kind::Text, word)?
+            && is_out_of_form(alloc, Kind::Octets, word)?,
+    )
 }

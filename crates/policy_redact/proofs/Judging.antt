@@ -3,11 +3,12 @@ use Rattle.std.proofs.Common.{◌≡◌, ℕ, ◌≤◌, Bool, true, false, List
 use Rattle.std.specs.Prelude.{nat_lt, length, option_map, option_and_then, if◌then◌else◌}
 use Rattle.std.proofs.lemmas.Grind.{common_steps}
 use Rattle.mrpc_table.specs.declared.table.Table.{Table}
-use Rattle.field_path.specs.Fields.{path_in}
-use Rattle.field_path.specs.declared.path.Path.{Path}
-use Rattle.policy_access.specs.Rules.{index_of, message_of}
-use Rattle.policy_access.specs.declared.fault.RuleReason.{RuleReason}
-use Rattle.policy_access.specs.declared.fault.RuleReason.TheVariants as reason
+use Rattle.mrpc_table.specs.PathFields.{path_in}
+use Rattle.mrpc_table.specs.declared.path.Path.{Path}
+use Rattle.mrpc_table.specs.Calls.{message_of}
+use Rattle.mrpc_table.specs.PolicyLines.{index_of}
+use Rattle.mrpc_table.specs.declared.policy_lines.RuleReason.{RuleReason}
+use Rattle.mrpc_table.specs.declared.policy_lines.RuleReason.TheVariants as reason
 use Rattle.policy_redact.specs.Faults.{IsAgainst, out_of_form, large_index, no_method, no_field}
 use Rattle.policy_redact.specs.Lines.{line_of}
 use Rattle.policy_redact.specs.Said.{said_at, said_of, said_in}
@@ -17,23 +18,23 @@ use Rattle.policy_redact.specs.declared.redact.Clear.{Clear}
 
 -- ---- a clear is said where it is said
 
-at_to : (l : ClearLine) (method : ℕ) (p : Option Path) (c : Clear) → said_at l method p ≡ Ok c → option_map (clear_of method l.reply) p ≡ Some c
+at_to : (l : ClearLine) (method : ℕ) (p : Option Path) (c : Clear) → said_at l method p ≡ Ok c → option_map (clear_of method l.sort) p ≡ Some c
 at_to l method None c e = absurd cc
 at_to l method (Some p) c e = cc
 
-at_from : (l : ClearLine) (method : ℕ) (p : Option Path) (c : Clear) → option_map (clear_of method l.reply) p ≡ Some c → said_at l method p ≡ Ok c
+at_from : (l : ClearLine) (method : ℕ) (p : Option Path) (c : Clear) → option_map (clear_of method l.sort) p ≡ Some c → said_at l method p ≡ Ok c
 at_from l method None c e = absurd cc
 at_from l method (Some p) c e = cc
 
 of_to : (T : Table) (l : ClearLine) (i : Option ℕ) (c : Clear) → said_of T l i ≡ Ok c
-    → option_and_then (λ method. option_map (clear_of method l.reply) (path_in_call T method l.reply l.path)) i ≡ Some c
+    → option_and_then (λ method. option_map (clear_of method l.sort) (path_in_call T method l.sort l.path)) i ≡ Some c
 of_to T l None c e = absurd cc
-of_to T l (Some method) c e = at_to l method (path_in_call T method l.reply l.path) c e
+of_to T l (Some method) c e = at_to l method (path_in_call T method l.sort l.path) c e
 
 of_from : (T : Table) (l : ClearLine) (i : Option ℕ) (c : Clear)
-    → option_and_then (λ method. option_map (clear_of method l.reply) (path_in_call T method l.reply l.path)) i ≡ Some c → said_of T l i ≡ Ok c
+    → option_and_then (λ method. option_map (clear_of method l.sort) (path_in_call T method l.sort l.path)) i ≡ Some c → said_of T l i ≡ Ok c
 of_from T l None c e = absurd cc
-of_from T l (Some method) c e = at_from l method (path_in_call T method l.reply l.path) c e
+of_from T l (Some method) c e = at_from l method (path_in_call T method l.sort l.path) c e
 
 in_to : (T : Table) (o : Option ClearLine) (c : Clear) → said_in T o ≡ Ok c → option_and_then (clear_in T) o ≡ Some c
 in_to T None c e = absurd cc
@@ -65,15 +66,15 @@ pub answers : (T : Table) (line : List ℕ) (q : RuleReason) → IsAgainst T lin
 answers T line q (out_of_form e is) = rw (e, is) refl
 answers T line q (large_index l e i is) = rw (e, i, is) refl
 answers T line q (no_method l method e i le is) =
-    rw (e, i) (no_path l method (path_in_call T method l.reply l.path) q (rw (not_below method (length T.methods) le) refl) is)
+    rw (e, i) (no_path l method (path_in_call T method l.sort l.path) q (rw (not_below method (length T.methods) le) refl) is)
 answers T line q (no_field l method e i none is) =
-    rw (e, i) (no_path l method (path_in_call T method l.reply l.path) q (no_path_either (nat_lt method (length T.methods)) (path_in T (message_of T method l.reply) l.path) none) is)
+    rw (e, i) (no_path l method (path_in_call T method l.sort l.path) q (no_path_either (nat_lt method (length T.methods)) (path_in T (message_of T method l.sort) l.path) none) is)
 
 at_least : (m n : ℕ) → nat_lt m n ≡ false → n ≤ m
 at_least m n e = grind (arith, common_steps)
 
 by_field : (T : Table) (line : List ℕ) (q : RuleReason) (l : ClearLine) (method : ℕ) (known : Bool) (p : Option Path) → line_of line ≡ Some l → index_of l.index ≡ Some method
-    → nat_lt method (length T.methods) ≡ known → path_in T (message_of T method l.reply) l.path ≡ p → said_at l method (if known then p else None) ≡ Err q → IsAgainst T line q
+    → nat_lt method (length T.methods) ≡ known → path_in T (message_of T method l.sort) l.path ≡ p → said_at l method (if known then p else None) ≡ Err q → IsAgainst T line q
 by_field T line q l method false p e i k f is = no_method l method e i (at_least method (length T.methods) k) cc
 by_field T line q l method true None e i k f is = no_field l method e i f cc
 by_field T line q l method true (Some p) e i k f is = absurd cc
@@ -81,7 +82,7 @@ by_field T line q l method true (Some p) e i k f is = absurd cc
 by_index : (T : Table) (line : List ℕ) (q : RuleReason) (l : ClearLine) (index : Option ℕ) → line_of line ≡ Some l → index_of l.index ≡ index → said_of T l index ≡ Err q → IsAgainst T line q
 by_index T line q l None e i is = large_index l e i cc
 by_index T line q l (Some method) e i is =
-    by_field T line q l method (nat_lt method (length T.methods)) (path_in T (message_of T method l.reply) l.path) e i refl refl is
+    by_field T line q l method (nat_lt method (length T.methods)) (path_in T (message_of T method l.sort) l.path) e i refl refl is
 
 by_form : (T : Table) (line : List ℕ) (q : RuleReason) (o : Option ClearLine) → line_of line ≡ o → said_in T o ≡ Err q → IsAgainst T line q
 by_form T line q None e is = out_of_form e cc

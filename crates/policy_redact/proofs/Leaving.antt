@@ -4,7 +4,7 @@ use Rattle.std.proofs.lemmas.Bool.{eq-eqb}
 use Rattle.std.specs.Str.{bytes_eq}
 use Rattle.mrpc_table.specs.Node.{Node, no_fields, field, Content, one, many, pairs, Item, number, run, node}
 use Rattle.mrpc_table.specs.Weight.{weight, content_weight, item_weight}
-use Rattle.field_path.specs.Trees.{AscendsFrom, HoldsAscending, IsAscendingItem}
+use Rattle.mrpc_table.specs.PathTrees.{AscendsFrom, HoldsAscending, IsAscendingItem}
 use Rattle.policy_redact.specs.Leaving.{without, content_without, item_without}
 
 -- ---- the set alone counts

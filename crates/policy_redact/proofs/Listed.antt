@@ -7,8 +7,8 @@ use Rattle.std.proofs.lemmas.List.{take_more}
 use Rattle.std.proofs.lemmas.List.Folds.{list_any-append, Any-from_list_any, list_any-from_Any}
 use Rattle.mrpc_table.specs.Node.{Node}
 use Rattle.mrpc_table.specs.Weight.{weight}
-use Rattle.field_path.specs.Trees.{IsAscending}
-use Rattle.policy_access.specs.declared.call.Call.{Call}
+use Rattle.mrpc_table.specs.PathTrees.{IsAscending}
+use Rattle.mrpc_table.specs.declared.call.Call.{Call}
 use Rattle.policy_redact.specs.Leaving.{without}
 use Rattle.policy_redact.specs.Redacting.{is_for, is_at, is_listed, cleared, cleared_call}
 use Rattle.policy_redact.specs.declared.redact.Clear.{Clear}

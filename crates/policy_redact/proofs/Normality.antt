@@ -9,8 +9,8 @@ use Rattle.mrpc_table.specs.declared.table.Label.{Label}
 use Rattle.mrpc_table.specs.declared.table.Label.TheVariants as label
 use Rattle.mrpc_table.specs.declared.table.Field.{Field}
 use Rattle.mrpc_table.specs.declared.table.Table.{Table}
-use Rattle.policy_access.specs.Call.{IsCallOf}
-use Rattle.policy_access.specs.declared.call.Call.{Call}
+use Rattle.mrpc_table.specs.Calls.{IsCallOf}
+use Rattle.mrpc_table.specs.declared.call.Call.{Call}
 use Rattle.policy_redact.specs.Leaving.{without, content_without, item_without}
 use Rattle.policy_redact.specs.Redacting.{is_listed, cleared_call}
 use Rattle.policy_redact.specs.declared.redact.Clear.{Clear}

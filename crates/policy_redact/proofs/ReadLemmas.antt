@@ -5,29 +5,30 @@ use Rattle.std.proofs.lemmas.List.{take_more, take_all}
 use Rattle.std.proofs.lemmas.Option.{slice_get_within, slice_get_read, get_or_from_slice_get}
 use Rattle.std.proofs.lemmas.Bool.{cases_lt}
 use Rattle.mrpc_table.specs.declared.table.Table.{Table}
-use Rattle.policy_access.specs.Faults.{order_of}
-use Rattle.policy_access.specs.declared.fault.RuleFault.{RuleFault}
-use Rattle.policy_access.specs.declared.fault.RuleFault.TheVariants as fault
-use Rattle.policy_access.specs.declared.fault.RuleReason.{RuleReason}
-use Rattle.policy_access.specs.declared.fault.RuleReason.TheVariants as reason
+use Rattle.mrpc_table.specs.PolicyLines.{order_of}
+use Rattle.mrpc_table.specs.declared.policy_lines.RuleFault.{RuleFault}
+use Rattle.mrpc_table.specs.declared.policy_lines.RuleFault.TheVariants as fault
+use Rattle.mrpc_table.specs.declared.policy_lines.RuleReason.{RuleReason}
+use Rattle.mrpc_table.specs.declared.policy_lines.RuleReason.TheVariants as reason
 use Rattle.policy_redact.specs.Faults.{IsAgainstAt, at_line, too_many, no_line, IsFirstFault, IsFaultOf}
 use Rattle.policy_redact.specs.Lines.{line_of}
 use Rattle.policy_redact.specs.Reading.{AreRead}
 use Rattle.policy_redact.specs.Said.{said_in}
-use Rattle.policy_redact.specs.Texts.{said_clear, SayEach, IsTextOf}
+use Rattle.mrpc_table.specs.PolicyLines.{SayEach}
+use Rattle.policy_redact.specs.Texts.{said_clear, IsTextOf}
 use Rattle.policy_redact.specs.declared.redact.Clear.{Clear}
 use Rattle.policy_redact.proofs.Judging.{says, is_said, answers, against}
 
 -- ---- clears of lines
 
-said-push : (T : Table) (lines : List (List ℕ)) (clears : List Clear) (line : List ℕ) (clear : Clear) → SayEach T lines clears → said_clear T line ≡ Some clear
-    → SayEach T (lines ++ line ∷ []) (clears ++ clear ∷ [])
+said-push : (T : Table) (lines : List (List ℕ)) (clears : List Clear) (line : List ℕ) (clear : Clear) → SayEach (said_clear T) lines clears → said_clear T line ≡ Some clear
+    → SayEach (said_clear T) (lines ++ line ∷ []) (clears ++ clear ∷ [])
 said-push T [] [] line clear each said = (said, tt)
 said-push T [] (c ∷ cs) line clear each said = absurd each
 said-push T (l ∷ ls) [] line clear each said = absurd each
 said-push T (l ∷ ls) (c ∷ cs) line clear each said = (each.0, said-push T ls cs line clear each.1 said)
 
-length-said : (T : Table) (lines : List (List ℕ)) (clears : List Clear) → SayEach T lines clears → length clears ≡ length lines
+length-said : (T : Table) (lines : List (List ℕ)) (clears : List Clear) → SayEach (said_clear T) lines clears → length clears ≡ length lines
 length-said T [] [] each = refl
 length-said T [] (c ∷ cs) each = absurd each
 length-said T (l ∷ ls) [] each = absurd each
@@ -36,7 +37,7 @@ length-said T (l ∷ ls) (c ∷ cs) each = ap suc (length-said T ls cs each.1)
 some_same : (o : Option Clear) (a b : Clear) → o ≡ Some a → o ≡ Some b → a ≡ b
 some_same o a b e d = cc
 
-said-same : (T : Table) (lines : List (List ℕ)) (p q : List Clear) → SayEach T lines p → SayEach T lines q → p ≡ q
+said-same : (T : Table) (lines : List (List ℕ)) (p q : List Clear) → SayEach (said_clear T) lines p → SayEach (said_clear T) lines q → p ≡ q
 said-same T [] [] [] a b = refl
 said-same T [] [] (d ∷ ds) a b = absurd b
 said-same T [] (c ∷ cs) q a b = absurd a
@@ -45,7 +46,7 @@ said-same T (l ∷ ls) (c ∷ cs) [] a b = absurd b
 said-same T (l ∷ ls) (c ∷ cs) (d ∷ ds) a b =
     ap (λ (e : Clear). e ∷ cs) (some_same (said_clear T l) c d a.0 b.0) ∙ ap (λ (es : List Clear). d ∷ es) (said-same T ls cs ds a.1 b.1)
 
-said-at : (T : Table) (lines : List (List ℕ)) (clears : List Clear) (i : ℕ) (line : List ℕ) → SayEach T lines clears → slice_get lines i ≡ Some line → (clear : Clear) × (said_clear T line ≡ Some clear)
+said-at : (T : Table) (lines : List (List ℕ)) (clears : List Clear) (i : ℕ) (line : List ℕ) → SayEach (said_clear T) lines clears → slice_get lines i ≡ Some line → (clear : Clear) × (said_clear T line ≡ Some clear)
 said-at T [] clears i line each at = absurd cc
 said-at T (l ∷ ls) [] i line each at = absurd each
 said-at T (l ∷ ls) (c ∷ cs) zero line each at = let same : l ≡ line = cc in (c, subst (λ (k : List ℕ). said_clear T k ≡ Some c) same each.0)
@@ -87,7 +88,7 @@ read-push T lines i clears line clear read few at e = record {
   some = read.some;
   within = omega (arith, slice_get_within lines i line at);
   few = omega arith;
-  said = subst (λ (ls : List (List ℕ)). SayEach T ls (clears ++ clear ∷ [])) (sym (take_next lines i line at)) (said-push T (take i lines) clears line clear read.said (says T line clear e));
+  said = subst (λ (ls : List (List ℕ)). SayEach (said_clear T) ls (clears ++ clear ∷ [])) (sym (take_next lines i line at)) (said-push T (take i lines) clears line clear read.said (says T line clear e));
   clean = λ j q lt. below_or_at i (λ k. IsAgainstAt T lines k q → ⊥) (λ k less. read.clean k q less) (λ a. not_both (said_in T (line_of line)) clear q e (here-to T lines i line q few at a)) j lt;
 }
 
@@ -137,7 +138,7 @@ fault-empty T lines none = record {
 
 pub text-end : (T : Table) (lines : List (List ℕ)) (i : ℕ) (clears : List Clear) → AreRead T lines i clears → length lines ≤ i → IsTextOf T lines clears
 text-end T lines i clears read last =
-    let each = subst (λ (ls : List (List ℕ)). SayEach T ls clears) (take_all i lines last) read.said in
+    let each = subst (λ (ls : List (List ℕ)). SayEach (said_clear T) ls clears) (take_all i lines last) read.said in
     record {
       each = each;
       some = omega (arith, length-said T lines clears each, read.some);

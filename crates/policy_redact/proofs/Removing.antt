@@ -8,7 +8,7 @@ use Rattle.mrpc_table.specs.Node.{Node, no_fields, field, Content, content_at}
 use Rattle.mrpc_table.specs.View.{node_of, content_of}
 use Rattle.mrpc_table.specs.Weight.{weight, content_weight}
 use Rattle.mrpc_table.specs.declared.tree.FieldValue.{FieldValue}
-use Rattle.field_path.specs.Trees.{AscendsFrom, HoldsAscending, IsAscending}
+use Rattle.mrpc_table.specs.PathTrees.{AscendsFrom, HoldsAscending, IsAscending}
 use Rattle.policy_redact.specs.Leaving.{without, content_without}
 use Rattle.policy_redact.proofs.Leaving.{other, at_end, on_way, above}
 

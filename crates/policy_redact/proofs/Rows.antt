@@ -1,12 +1,13 @@
 -- Clears and their lines that were worked out by hand.
-use Rattle.std.proofs.Common.{◌≡◌, ℕ, true, false, [], ◌∷◌, codes, Some, None, refl, arith}
+use Rattle.std.proofs.Common.{◌≡◌, ℕ, [], ◌∷◌, codes, Some, None, refl, arith}
 use Rattle.mrpc_table.specs.Node.{Node, no_fields, field, one, many, number, node, no_items, item}
 use Rattle.mrpc_table.specs.declared.table.Kind.TheVariants.{Uint64, Message}
 use Rattle.mrpc_table.specs.declared.table.Label.TheVariants.{Plain, Optional, Member}
 use Rattle.mrpc_table.specs.declared.table.Table.{Table}
-use Rattle.field_path.specs.declared.path.Path.{Path}
-use Rattle.policy_access.specs.declared.call.Call.{Call}
-use Rattle.policy_access.specs.declared.fault.RuleReason.TheVariants as reason
+use Rattle.mrpc_table.specs.declared.path.Path.{Path}
+use Rattle.mrpc_table.specs.declared.call.Call.{Call}
+use Rattle.mrpc_table.specs.declared.call.Sort.TheVariants.{Request, Reply}
+use Rattle.mrpc_table.specs.declared.policy_lines.RuleReason.TheVariants as reason
 use Rattle.policy_redact.specs.Faults.{IsAgainstAt, at_line, no_line, out_of_form, large_index, no_method, no_field}
 use Rattle.policy_redact.specs.Lines.{line_of}
 use Rattle.policy_redact.specs.Redacting.{cleared}
@@ -22,7 +23,7 @@ abbrev through : ℕ → ℕ → Path
 through m n = record { way = m ∷ []; number = n; kind = Uint64; label = Plain }
 
 abbrev of_requests : Path → Clear
-of_requests p = record { method = 0; reply = false; path = p }
+of_requests p = record { method = 0; sort = Request; path = p }
 
 abbrev request : Node → Call
 request t = record { conn = 1; seq = 1; method = 0; number = 0; tree = t }
@@ -97,19 +98,19 @@ small = record {
   methods = record { service = codes "S"; name = codes "Get"; input = 0; output = 0 } ∷ [];
 }
 
-a_line : said_clear small (codes "clear method 0 2") ≡ Some (record { method = 0; reply = false; path = record { way = []; number = 2; kind = Uint64; label = Optional } })
+a_line : said_clear small (codes "clear method 0 2") ≡ Some (record { method = 0; sort = Request; path = record { way = []; number = 2; kind = Uint64; label = Optional } })
 unfolding line_of
 a_line = refl
 
-a_line_of_replies : said_clear small (codes "clear method 0 reply 3.3.1") ≡ Some (record { method = 0; reply = true; path = record { way = 3 ∷ 3 ∷ []; number = 1; kind = Uint64; label = Plain } })
+a_line_of_replies : said_clear small (codes "clear method 0 reply 3.3.1") ≡ Some (record { method = 0; sort = Reply; path = record { way = 3 ∷ 3 ∷ []; number = 1; kind = Uint64; label = Plain } })
 unfolding line_of
 a_line_of_replies = refl
 
-the_last_field_may_be_a_message : said_clear small (codes "clear method 0 3") ≡ Some (record { method = 0; reply = false; path = record { way = []; number = 3; kind = Message 0; label = Member 0 } })
+the_last_field_may_be_a_message : said_clear small (codes "clear method 0 3") ≡ Some (record { method = 0; sort = Request; path = record { way = []; number = 3; kind = Message 0; label = Member 0 } })
 unfolding line_of
 the_last_field_may_be_a_message = refl
 
-one_line_is_a_text : IsTextOf small (codes "clear method 0 2" ∷ []) (record { method = 0; reply = false; path = record { way = []; number = 2; kind = Uint64; label = Optional } } ∷ [])
+one_line_is_a_text : IsTextOf small (codes "clear method 0 2" ∷ []) (record { method = 0; sort = Request; path = record { way = []; number = 2; kind = Uint64; label = Optional } } ∷ [])
 unfolding line_of
 one_line_is_a_text = record { each = (refl, tt); some = omega arith; few = omega arith }
 

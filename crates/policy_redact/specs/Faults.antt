@@ -1,14 +1,15 @@
 -- What stands against the lines of a redacting policy, and which line is at fault first, for which reason
 -- (this project's own format).
-use Rattle.std.specs.Prelude.{◌≡◌, ℕ, ◌-◌, ◌+◌, ◌<◌, ◌≤◌, List, [], length, Some, None, slice_get}
+use Rattle.std.specs.Prelude.{◌≡◌, ℕ, ◌<◌, ◌≤◌, List, [], length, Some, None, slice_get}
 use Rattle.mrpc_table.specs.declared.table.Table.{Table}
-use Rattle.field_path.specs.Fields.{path_in}
-use Rattle.policy_access.specs.Faults.{order_of}
-use Rattle.policy_access.specs.Rules.{index_of, message_of}
-use Rattle.policy_access.specs.declared.fault.RuleReason.{RuleReason}
-use Rattle.policy_access.specs.declared.fault.RuleReason.TheVariants as reason
-use Rattle.policy_access.specs.declared.fault.RuleFault.{RuleFault}
-use Rattle.policy_access.specs.declared.fault.RuleFault.TheVariants as fault
+use Rattle.mrpc_table.specs.PathFields.{path_in}
+use Rattle.mrpc_table.specs.Calls.{message_of}
+use Rattle.mrpc_table.specs.FirstFault as first
+use Rattle.mrpc_table.specs.PolicyLines as policy
+use Rattle.mrpc_table.specs.PolicyLines.{index_of, order_of}
+use Rattle.mrpc_table.specs.declared.policy_lines.RuleReason.{RuleReason}
+use Rattle.mrpc_table.specs.declared.policy_lines.RuleReason.TheVariants as reason
+use Rattle.mrpc_table.specs.declared.policy_lines.RuleFault.{RuleFault}
 use Rattle.policy_redact.specs.Lines.{line_of}
 use Rattle.policy_redact.specs.declared.limits.TheConstants.{MAX_CLEARS}
 use Rattle.policy_redact.specs.declared.line.ClearLine.{ClearLine}
@@ -25,7 +26,7 @@ pub data IsAgainst (T : Table) (line : List ℕ) (q : RuleReason) : Type 0 where
       → length T.methods ≤ method → q ≡ reason.Path → IsAgainst T line q
   -- the path leads to no field of the method's message
   no_field : (l : ClearLine) (method : ℕ) → line_of line ≡ Some l → index_of l.index ≡ Some method
-      → path_in T (message_of T method l.reply) l.path ≡ None → q ≡ reason.Path → IsAgainst T line q
+      → path_in T (message_of T method l.sort) l.path ≡ None → q ≡ reason.Path → IsAgainst T line q
 
 -- a reason stands against the line at a place, from 0
 pub data IsAgainstAt (T : Table) (lines : List (List ℕ)) (i : ℕ) (q : RuleReason) : Type 0 where
@@ -36,13 +37,9 @@ pub data IsAgainstAt (T : Table) (lines : List (List ℕ)) (i : ℕ) (q : RuleRe
   no_line : lines ≡ [] → i ≡ 0 → q ≡ reason.Word → IsAgainstAt T lines i q
 
 -- the line is the first at fault, counted from 1, and this is its first reason
-pub record IsFirstFault (T : Table) (lines : List (List ℕ)) (line : ℕ) (q : RuleReason) : Type 0 where
-  pub counted : 0 < line
-  pub here : IsAgainstAt T lines (line - 1) q
-  pub first_reason : (p : RuleReason) → order_of p < order_of q → IsAgainstAt T lines (line - 1) p → ⊥
-  pub none_before : (i : ℕ) (p : RuleReason) → i + 1 < line → IsAgainstAt T lines i p → ⊥
+abbrev pub IsFirstFault : Table → List (List ℕ) → ℕ → RuleReason → Type 0
+IsFirstFault T lines line q = first.IsFirstFault (IsAgainstAt T lines) order_of line q
 
--- what a fault says of lines; running out of memory says nothing
+-- what a fault says of lines
 abbrev pub IsFaultOf : Table → List (List ℕ) → RuleFault → Type 0
-IsFaultOf T lines (fault.At line q) = IsFirstFault T lines line q
-IsFaultOf T lines fault.Memory = Unit {0}
+IsFaultOf T lines fault = policy.IsFaultOf (IsAgainstAt T lines) fault

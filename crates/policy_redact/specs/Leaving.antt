@@ -1,5 +1,5 @@
 -- What is left of a tree without the fields at some paths. A path is the numbers of the messages on its way and, at
--- its end, of the field: it leads through messages that stand alone in their fields, as those of `field_path` do.
+-- its end, of the field: it leads through messages that stand alone in their fields, as each path does.
 use Rattle.std.specs.Prelude.{ℕ, Bool, if◌then◌else◌, List, [], ◌∷◌}
 use Rattle.mrpc_table.specs.Node.{Node, no_fields, field, Content, one, Item, node}
 

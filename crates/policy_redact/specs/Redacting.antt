@@ -4,10 +4,10 @@ use Rattle.std.specs.List.{list_any}
 use Rattle.std.specs.Str.{bytes_eq}
 use Rattle.mrpc_table.specs.Node.{Node}
 use Rattle.mrpc_table.specs.declared.table.Table.{Table}
-use Rattle.field_path.specs.declared.path.Path.{Path}
-use Rattle.policy_access.specs.Call.{IsCallOf}
-use Rattle.policy_access.specs.Verdict.{is_of_sort}
-use Rattle.policy_access.specs.declared.call.Call.{Call}
+use Rattle.mrpc_table.specs.declared.path.Path.{Path}
+use Rattle.mrpc_table.specs.Calls.{IsCallOf}
+use Rattle.mrpc_table.specs.Calls.{is_of_sort}
+use Rattle.mrpc_table.specs.declared.call.Call.{Call}
 use Rattle.policy_redact.specs.Leaving.{without}
 use Rattle.policy_redact.specs.declared.redact.Clear.{Clear}
 
@@ -17,7 +17,7 @@ numbers_of path = path.way ++ path.number ∷ []
 
 -- the clear is of the call's method and sort
 abbrev pub is_for : Clear → Call → Bool
-is_for clear call = (call.method == clear.method) && is_of_sort clear.reply call
+is_for clear call = (call.method == clear.method) && is_of_sort clear.sort call.number
 
 -- these are the numbers of its path
 abbrev pub is_at : Clear → List ℕ → Bool

@@ -1,21 +1,21 @@
--- What a line says, or the reason that stands against it.
+-- The code's own: what a line says, or the reason that stands against it.
 use Rattle.std.specs.Prelude.{ℕ, Option, Some, None, Result, Ok, Err}
 use Rattle.mrpc_table.specs.declared.table.Table.{Table}
-use Rattle.field_path.specs.declared.path.Path.{Path}
-use Rattle.policy_access.specs.Rules.{index_of}
-use Rattle.policy_access.specs.declared.fault.RuleReason.{RuleReason}
-use Rattle.policy_access.specs.declared.fault.RuleReason.TheVariants as reason
+use Rattle.mrpc_table.specs.declared.path.Path.{Path}
+use Rattle.mrpc_table.specs.PolicyLines.{index_of}
+use Rattle.mrpc_table.specs.declared.policy_lines.RuleReason.{RuleReason}
+use Rattle.mrpc_table.specs.declared.policy_lines.RuleReason.TheVariants as reason
 use Rattle.policy_redact.specs.Texts.{clear_of, path_in_call}
 use Rattle.policy_redact.specs.declared.line.ClearLine.{ClearLine}
 use Rattle.policy_redact.specs.declared.redact.Clear.{Clear}
 
 abbrev pub said_at : ClearLine → ℕ → Option Path → Result Clear RuleReason
 said_at l method None = Err reason.Path
-said_at l method (Some path) = Ok (clear_of method l.reply path)
+said_at l method (Some path) = Ok (clear_of method l.sort path)
 
 abbrev pub said_of : Table → ClearLine → Option ℕ → Result Clear RuleReason
 said_of T l None = Err reason.Number
-said_of T l (Some method) = said_at l method (path_in_call T method l.reply l.path)
+said_of T l (Some method) = said_at l method (path_in_call T method l.sort l.path)
 
 abbrev pub said_in : Table → Option ClearLine → Result Clear RuleReason
 said_in T None = Err reason.Word

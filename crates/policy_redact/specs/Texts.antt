@@ -1,42 +1,38 @@
 -- Which lines are the text of a redacting policy (this project's own format).
-use Rattle.std.specs.Prelude.{◌≡◌, ℕ, ◌<◌, ◌≤◌, nat_lt, Bool, if◌then◌else◌, List, [], ◌∷◌, length, Option, Some, None, option_map, option_and_then}
+use Rattle.std.specs.Prelude.{ℕ, ◌<◌, ◌≤◌, nat_lt, if◌then◌else◌, List, length, Option, None, option_map, option_and_then}
 use Rattle.mrpc_table.specs.declared.table.Table.{Table}
-use Rattle.field_path.specs.Fields.{path_in}
-use Rattle.field_path.specs.declared.path.Path.{Path}
-use Rattle.field_path.specs.declared.path.PathWord.{PathWord}
-use Rattle.policy_access.specs.Rules.{index_of, message_of}
+use Rattle.mrpc_table.specs.PathFields.{path_in}
+use Rattle.mrpc_table.specs.declared.path.Path.{Path}
+use Rattle.mrpc_table.specs.declared.path.PathWord.{PathWord}
+use Rattle.mrpc_table.specs.Calls.{message_of}
+use Rattle.mrpc_table.specs.PolicyLines.{index_of, SayEach}
+use Rattle.mrpc_table.specs.declared.call.Sort.{Sort}
 use Rattle.policy_redact.specs.Lines.{line_of}
 use Rattle.policy_redact.specs.declared.limits.TheConstants.{MAX_CLEARS}
 use Rattle.policy_redact.specs.declared.line.ClearLine.{ClearLine}
 use Rattle.policy_redact.specs.declared.redact.Clear.{Clear}
 
--- the path in the message of a method's replies, or of its requests; none where the table lacks the method
-abbrev pub path_in_call : Table → ℕ → Bool → PathWord → Option Path
-path_in_call T method reply p =
-    if nat_lt method (length T.methods) then path_in T (message_of T method reply) p else None
+-- the path in the message of a method's requests, or of its replies; none where the table lacks the method
+abbrev pub path_in_call : Table → ℕ → Sort → PathWord → Option Path
+path_in_call T method sort p =
+    if nat_lt method (length T.methods) then path_in T (message_of T method sort) p else None
 
 -- a method, a sort and a path
-abbrev pub clear_of : ℕ → Bool → Path → Clear
-clear_of method reply path = record { method = method; reply = reply; path = path }
+abbrev pub clear_of : ℕ → Sort → Path → Clear
+clear_of method sort path = record { method = method; sort = sort; path = path }
 
 -- the clear that a line says
 abbrev pub clear_in : Table → ClearLine → Option Clear
 clear_in T l =
     option_and_then
-    (λ method. option_map (clear_of method l.reply) (path_in_call T method l.reply l.path))
+    (λ method. option_map (clear_of method l.sort) (path_in_call T method l.sort l.path))
     (index_of l.index)
 
 abbrev pub said_clear : Table → List ℕ → Option Clear
 said_clear T line = option_and_then (clear_in T) (line_of line)
 
--- each line says the clear at its place
-abbrev pub SayEach : Table → List (List ℕ) → List Clear → Type 0
-SayEach T [] [] = Unit {0}
-SayEach T (line ∷ lines) (clear ∷ clears) = (said_clear T line ≡ Some clear) × SayEach T lines clears
-SayEach T _ _ = ⊥
-
 -- lines are the text of a policy: a line for each clear, of which there is one and not too many
 pub record IsTextOf (T : Table) (lines : List (List ℕ)) (clears : List Clear) : Type 0 where
-  pub each : SayEach T lines clears
+  pub each : SayEach (said_clear T) lines clears
   pub some : 0 < length clears
   pub few : length clears ≤ MAX_CLEARS

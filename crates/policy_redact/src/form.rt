@@ -5,21 +5,20 @@ ghost use Rattle.mrpc_table.specs.Lines.{words_of};
 ghost use Rattle.policy_redact.specs.Lines.{with_path, behind_index, line_of};
 
 use crate::line::ClearLine;
-use field_path::PathWord;
-use mrpc_table::{Decimal, Memory, cut, number_of};
+use mrpc_table::{Decimal, Memory, PathWord, Sort, cut, number_of};
 use std::alloc::Global;
 
 fn with_path(
     alloc: Global,
     index: Decimal,
-    reply: bool,
+    sort: Sort,
     word: &[u8],
 ) -> Result<Option<ClearLine>, Memory>
-    ensures { IfOk result (λ l. l ≡ with_path index reply word.now) }
+    ensures { IfOk result (λ l. l ≡ with_path index sort word.now) }
 {
     match PathWord::read(alloc, word)? {
         None => Ok(None),
-        Some(path) => Ok(Some(ClearLine { index, reply, path })),
+        Some(path) => Ok(Some(ClearLine { index, sort, path })),
     }
 }
 
@@ -28,11 +27,11 @@ fn behind_index(alloc: Global, index: Decimal, line: &[u8]) -> Result<Option<Cle
     ensures { IfOk result (λ l. l ≡ behind_index index (words_of line.now)) }
 {
     let Some((word, path)) = cut(line, b' ') else {
-        return with_path(alloc, index, false, line);
+        return with_path(alloc, index, Sort::Request, line);
     };
     match cut(path, b' ') {
         Some(_) => Ok(None),
-        None if word == b"reply".as_slice() => with_path(alloc, index, true, path),
+        None if word == b"reply".as_slice() => with_path(alloc, index, Sort::Reply, path),
         None => Ok(None),
     }
 }

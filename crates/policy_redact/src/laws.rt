@@ -3,9 +3,9 @@
 ghost use Rattle.std.specs.Prelude.{◌≡◌, ◌<◌, ◌⊎◌, ◌++◌, ◌↔◌, ℕ, List, Contains};
 ghost use Rattle.mrpc_table.specs.Weight.{weight};
 ghost use Rattle.mrpc_table.specs.declared.table.Table.{Table};
-ghost use Rattle.policy_access.specs.Call.{IsCallOf};
-ghost use Rattle.policy_access.specs.declared.call.Call.{Call};
-ghost use Rattle.policy_access.specs.declared.fault.RuleReason.{RuleReason};
+ghost use Rattle.mrpc_table.specs.Calls.{IsCallOf};
+ghost use Rattle.mrpc_table.specs.declared.call.Call.{Call};
+ghost use Rattle.mrpc_table.specs.declared.policy_lines.RuleReason.{RuleReason};
 ghost use Rattle.policy_redact.specs.Faults.{IsFirstFault};
 ghost use Rattle.policy_redact.specs.Redacting.{cleared, cleared_call};
 ghost use Rattle.policy_redact.specs.Texts.{IsTextOf};

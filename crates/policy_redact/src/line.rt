@@ -1,12 +1,11 @@
 //! What a line of a policy says, by its form alone.
 
-use field_path::PathWord;
-use mrpc_table::Decimal;
+use mrpc_table::{Decimal, PathWord, Sort};
 
 /// `clear method INDEX [reply] PATH`
 #[derive(Drop)]
 pub struct ClearLine {
     pub index: Decimal,
-    pub reply: bool,
+    pub sort: Sort,
     pub path: PathWord,
 }

@@ -2,7 +2,7 @@
 
 ghost use Rattle.std.specs.Prelude.{◌≡◌, ◌+◌, ◌^◌, ◌<◌, ℕ, List, IfOk, IfErr, MatchResult};
 ghost use Rattle.mrpc_table.specs.Valid.{IsValid};
-ghost use Rattle.policy_access.specs.declared.fault.RuleFault.TheVariants.{Memory as NoMemory};
+ghost use Rattle.mrpc_table.specs.declared.policy_lines.RuleFault.TheVariants.{Memory as NoMemory};
 ghost use Rattle.policy_redact.specs.Faults.{IsFaultOf};
 ghost use Rattle.policy_redact.specs.Lines.{line_of};
 ghost use Rattle.policy_redact.specs.Said.{said_in};
@@ -13,26 +13,26 @@ use crate::form::line_of;
 use crate::limits::MAX_CLEARS;
 use crate::line::ClearLine;
 use crate::redact::{Clear, Redact};
-use field_path::{Path, PathWord};
-use mrpc_table::{Bytes, Decimal, Memory, Table};
-use policy_access::{Lines, RuleFault, RuleReason};
+use mrpc_table::{
+    Bytes, Decimal, Lines, Memory, Path, PathWord, RuleFault, RuleReason, Sort, Table,
+};
 use std::alloc::Global;
 
-// The path in the message of a method's replies, or of its requests.
+// The path in the message of a method's requests, or of its replies.
 fn path_in_call(
     alloc: Global,
     table: &Table,
     method: u16,
-    reply: bool,
+    sort: Sort,
     path: &PathWord,
 ) -> Result<Option<Path>, Memory>
     requires { IsValid table.now }
-    ensures { IfOk result (λ p. p ≡ path_in_call table.now method reply path.now) }
+    ensures { IfOk result (λ p. p ≡ path_in_call table.now method sort path.now) }
 {
     if method as usize >= table.methods.len() {
         return Ok(None);
     }
-    let message = table.message_of(method, if reply { 1 } else { 0 });
+    let message = table.message_of(method, sort);
     path.resolve(alloc, table, message)
 }
 
@@ -46,27 +46,12 @@ fn said_in(alloc: Global, table: &Table, line: &[u8]) -> Result<Result<Clear, Ru
     };
     let method = match line.index {
         Decimal::Small(index) if index <= u16::MAX as u64 => index as u16,
-        _ => return Ok(Err(RuleReason::Number)),
+        Decimal::Small(_) | Decimal::Large => return Ok(Err(RuleReason::Number)),
     };
-    let reply = line.reply;
-    match path_in_call(alloc, table, method, reply, &line.path)? {
+    let sort = line.sort;
+    match path_in_call(alloc, table, method, sort, &line.path)? {
         None => Ok(Err(RuleReason::Path)),
-        Some(path) => Ok(Ok(Clear {
-            method,
-            reply,
-            path,
-        })),
-    }
-}
-
-// The fault at a place, counted from 0.
-fn fault_at(place: usize, reason: RuleReason) -> RuleFault
-    requires { place < 2 ^ 63 }
-    ensures { result ≡ RuleFault.At (place + 1) reason }
-{
-    RuleFault::At {
-        line: place as u64 + 1,
-        reason,
+        Some(path) => Ok(Ok(Clear { method, sort, path })),
     }
 }
 
@@ -76,15 +61,15 @@ fn read_lines(alloc: Global, lines: &[Bytes], table: &Table) -> Result<Redact, R
     ensures fault { IfErr result (λ e. IsFaultOf table.now lines.now e) }
 {
     if lines.is_empty() {
-        return Err(fault_at(0, RuleReason::Word));
+        return Err(RuleFault::at(0, RuleReason::Word));
     }
     let mut clears = Vec::new(alloc);
     for (place, line) in lines.iter().enumerate() {
         if place >= MAX_CLEARS {
-            return Err(fault_at(place, RuleReason::Word));
+            return Err(RuleFault::at(place, RuleReason::Word));
         }
         match said_in(alloc, table, line.as_slice())? {
-            Err(reason) => return Err(fault_at(place, reason)),
+            Err(reason) => return Err(RuleFault::at(place, reason)),
             Ok(clear) => clears.push(clear)?,
         }
     }

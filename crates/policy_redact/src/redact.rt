@@ -5,9 +5,7 @@ ghost use Rattle.std.specs.Bool.{OnTrue, OnFalse};
 ghost use Rattle.mrpc_table.specs.Weight.{weight};
 
 use crate::remove::remove_at;
-use field_path::{Path, normal_ascends};
-use mrpc_table::{Memory, Sequence};
-use policy_access::Call;
+use mrpc_table::{Call, Memory, Path, Sequence, Sort, normal_ascends};
 use std::alloc::Global;
 use std::marker::Model;
 
@@ -16,22 +14,22 @@ use std::marker::Model;
 pub struct Clear {
     /// The index of the method in the table.
     pub method: u16,
-    /// Whether it is cleared of replies, and else of requests.
-    pub reply: bool,
+    /// Whether it is cleared of requests or of replies.
+    pub sort: Sort,
     /// Where the field stands in a call's tree.
     pub path: Path,
 }
 
 impl Clear {
     ghost use Rattle.std.specs.Prelude.{◌&&◌};
-    ghost use Rattle.field_path.specs.Trees.{IsAscending};
+    ghost use Rattle.mrpc_table.specs.PathTrees.{IsAscending};
     ghost use Rattle.policy_redact.specs.Leaving.{without};
     ghost use Rattle.policy_redact.specs.Redacting.{is_for, is_at};
 
     fn is_for(&self, call: &Call) -> bool
         ensures { result ≡ is_for self.now call.now }
     {
-        call.method == self.method && (call.number != 0) == self.reply
+        call.method == self.method && call.is_of(self.sort)
     }
 
     // Removes the field, where the call is of the method and the sort, and answers whether it was there.
@@ -53,7 +51,7 @@ impl Clear {
     {
         Ok(Clear {
             method: self.method,
-            reply: self.reply,
+            sort: self.sort,
             path: self.path.copied(alloc)?,
         })
     }
@@ -76,7 +74,7 @@ impl Model for Redact {
 
 impl Redact {
     ghost use Rattle.mrpc_table.specs.declared.table.Table.{Table};
-    ghost use Rattle.policy_access.specs.Call.{IsCallOf};
+    ghost use Rattle.mrpc_table.specs.Calls.{IsCallOf};
     ghost use Rattle.policy_redact.specs.Redacting.{cleared, cleared_call, FitsSomeTable};
 
     // The policy of these clears.

@@ -5,11 +5,10 @@ ghost use Rattle.std.specs.Bool.{OnTrue, OnFalse};
 ghost use Rattle.std.specs.Str.{bytes_eq};
 ghost use Rattle.mrpc_table.specs.View.{content_of};
 ghost use Rattle.mrpc_table.specs.Weight.{weight, content_weight};
-ghost use Rattle.field_path.specs.Trees.{IsAscending, HoldsAscending};
+ghost use Rattle.mrpc_table.specs.PathTrees.{IsAscending, HoldsAscending};
 ghost use Rattle.policy_redact.specs.Leaving.{without, content_without};
 
-use field_path::numbers_ascend;
-use mrpc_table::{FieldValue, Tree, Value, find_content};
+use mrpc_table::{FieldValue, Tree, Value, find_content, numbers_ascend};
 
 fn remove_field(tree: &mut Tree, number: u32) -> bool
     requires { IsAscending tree.old }

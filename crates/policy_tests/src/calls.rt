@@ -1,10 +1,9 @@
 //! Calls of tables that were read, and the lines of policies.
 
 ghost use Rattle.mrpc_table.specs.Valid.{IsValid};
-ghost use Rattle.policy_access.specs.Call.{IsCallOf};
+ghost use Rattle.mrpc_table.specs.Calls.{IsCallOf};
 
-use mrpc_table::{Bytes, FieldValue, Table, Tree, Value, cut, fits};
-use policy_access::{Call, Lines};
+use mrpc_table::{Bytes, Call, FieldValue, Lines, Table, Tree, Value, cut, fits};
 use std::alloc::Global;
 use std::process::Abort;
 
@@ -48,6 +47,6 @@ pub fn assert_is_of(rt: &impl Abort, call: &Call, table: &Table)
     ensures { IsCallOf table.now call.now }
 {
     assert!(rt; (call.method as usize) < table.methods.len());
-    let message = table.message_of(call.method, call.number);
+    let message = table.message_at(call.method, call.number);
     assert!(rt; fits(&call.tree, table, message));
 }

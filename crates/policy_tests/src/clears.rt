@@ -3,8 +3,7 @@
 use crate::calls::{SMALL, call_of, lines_of, with_number};
 use crate::faults::fault_in;
 use crate::redacting::Redacting;
-use mrpc_table::{FieldValue, Tree, Value};
-use policy_access::{Call, RuleReason};
+use mrpc_table::{Call, FieldValue, RuleReason, Tree, Value};
 use policy_redact::read_redact;
 use std::alloc::Global;
 use std::process::Abort;

@@ -2,8 +2,8 @@
 
 use crate::calls::{SMALL, lines_of};
 use crate::rules::WIDE;
-use mrpc_table::Bytes;
-use policy_access::{Lines, RuleFault, RuleReason, read_access};
+use mrpc_table::{Bytes, Lines, RuleFault, RuleReason};
+use policy_access::read_access;
 use std::alloc::Global;
 use std::process::Abort;
 use table_text::read_table;
@@ -25,10 +25,15 @@ rule a deny method 0 where 17 eq \"a\"b\"
 rule a deny method 0 where 17 eq \"a\x7f\"
 rule a deny method 0 where 20 eq xf
 rule a deny method 0 where 20 eq xFF
+rule a deny method 65536 where 1 eq $$
+rule a deny method 99999999999999999999 reply where 99 ne xf
+rule a deny method 1 where 1 eq \"a
 ";
 
 const OUT_OF_RANGE: &[u8] = b"rule a deny method 65536
 rule 1a deny method 65536
+rule a deny method 65536 where 1 eq x0f
+rule a deny method 65536 where 99 starts \"a b\"
 rule a deny method 0 where 1 eq 2147483648
 rule a deny method 0 where 1 lt -2147483649
 rule a deny method 0 where 3 eq 4294967296
@@ -45,6 +50,7 @@ rule aaaaaaaaaaaaaaaaaaaaaaaaaaaaaaaaaaaaaaaaaaaaaaaaaaaaaaaaaaaaaaaaa deny
 ";
 
 const LEADING_NOWHERE: &[u8] = b"rule a deny method 1
+rule a deny method 1 where 1 eq -5
 rule a deny method 0 where 99 eq ?
 rule a deny method 0 where 0 present
 rule a deny method 0 where 4294967297 eq 1

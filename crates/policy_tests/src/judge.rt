@@ -4,8 +4,8 @@ ghost use Rattle.std.specs.Prelude.{◌≤◌};
 ghost use Rattle.mrpc_table.specs.Valid.{IsValid};
 
 use crate::calls::{assert_is_of, lines_of};
-use mrpc_table::{Name, Table};
-use policy_access::{Access, Call, Verdict, read_access};
+use mrpc_table::{Call, Name, Table};
+use policy_access::{Access, Verdict, read_access};
 use std::alloc::Global;
 use std::marker::Model;
 use std::process::Abort;

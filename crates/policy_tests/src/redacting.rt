@@ -3,8 +3,7 @@
 ghost use Rattle.mrpc_table.specs.Valid.{IsValid};
 
 use crate::calls::{assert_is_of, lines_of};
-use mrpc_table::Table;
-use policy_access::Call;
+use mrpc_table::{Call, Table};
 use policy_redact::{Redact, read_redact};
 use std::alloc::Global;
 use std::marker::Model;

@@ -8,7 +8,7 @@ use Rattle.wire_decode.specs.Faults.{IsFirstFault}
 use Rattle.wire_decode.specs.declared.fault.DecodeReason.{DecodeReason}
 use Rattle.frame_transport.specs.declared.format.Frame.{Frame}
 use Rattle.policy_access.specs.Verdict.{AccessPolicy, verdict}
-use Rattle.policy_access.specs.declared.call.Call.{Call}
+use Rattle.mrpc_table.specs.declared.call.Call.{Call}
 use Rattle.graph_place.specs.Size.{capped}
 use Rattle.receive_core.specs.declared.arrival.DropCause.TheVariants.{Hello, NoMethod, Decode, Denied, Oversize}
 use Rattle.receive_core.specs.Fates.{Fate, drops, arrives, IsFate, is_hello, has_no_method, is_faulty, is_denied, is_too_large, arrived, IsCall, Allows, HasFate, HasOneFate, call_of, message_of, block_words}

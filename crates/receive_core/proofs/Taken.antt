@@ -7,7 +7,7 @@ use Rattle.mrpc_table.specs.declared.table.Table.{Table}
 use Rattle.graph_form.specs.declared.placed.Placed.{Placed as PlacedWords}
 use Rattle.graph_place.specs.Size.{tree_words, capped}
 use Rattle.frame_transport.specs.declared.format.Frame.{Frame}
-use Rattle.policy_access.specs.declared.call.Call.{Call}
+use Rattle.mrpc_table.specs.declared.call.Call.{Call}
 use Rattle.receive_heap.specs.Layout.{Layout, IsFirstFit}
 use Rattle.receive_heap.specs.declared.extents.Block.{Block}
 use Rattle.receive_core.specs.Fates.{message_of, block_words}

@@ -8,7 +8,7 @@ use Rattle.frame_transport.specs.Feed.{Fed, Gives}
 use Rattle.frame_transport.specs.Frames.{IsPartial}
 use Rattle.frame_transport.specs.declared.format.Frame.{Frame}
 use Rattle.policy_access.specs.Verdict.{AccessPolicy, verdict}
-use Rattle.policy_access.specs.declared.call.Call.{Call}
+use Rattle.mrpc_table.specs.declared.call.Call.{Call}
 use Rattle.receive_heap.specs.Layout.{Layout, IsLargest}
 use Rattle.receive_core.specs.Fates.{Fate, drops, arrives, IsFate, is_denied, is_too_large, arrived, Allows, message_of, block_words}
 use Rattle.receive_core.specs.Opening.{IsOpened, IsRefusal}

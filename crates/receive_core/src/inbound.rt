@@ -313,7 +313,7 @@ impl Inbound {
         ensures words { H.words heap.new ≡ H.words heap.old }
     {
         let Opened { call, words } = opened;
-        let message = table.message_of(call.method, call.number);
+        let message = table.message_at(call.method, call.number);
         let placed = layout(self.alloc, &call.tree, table, message, at)?;
         if matches!(heap.room_stores(placed.words.len() as u64), Room::Memory) {
             return Err(Memory);

@@ -3,15 +3,15 @@
 ghost use Rattle.std.specs.Prelude.{◌≡◌, ◌≤◌, IfOk};
 ghost use Rattle.std.specs.Option.{option_copied};
 ghost use Rattle.mrpc_table.specs.Valid.{IsValid};
-ghost use Rattle.policy_access.specs.Call.{IsCallOf};
+ghost use Rattle.mrpc_table.specs.Calls.{IsCallOf};
 ghost use Rattle.receive_core.specs.Fates.{judged_number};
 ghost use Rattle.receive_core.specs.Opening.{IsReading, IsRefusal};
 
 use crate::arrival::DropCause;
 use frame_transport::{Frame, HELLO, REPLY};
 use graph_place::place_words;
-use mrpc_table::{Memory, Table};
-use policy_access::{Access, Call};
+use mrpc_table::{Call, Memory, Table};
+use policy_access::Access;
 use std::alloc::Global;
 use wire_decode::{DecodeFault, decode};
 
@@ -57,7 +57,7 @@ pub(crate) fn read_frame(
         return Ok(Reading::Dropped(DropCause::NoMethod));
     }
     let number = judged_number(frame);
-    let message = table.message_of(frame.method, number);
+    let message = table.message_at(frame.method, number);
     match decode(alloc, frame.payload.as_slice(), table, message) {
         Ok(tree) => Ok(Reading::Call(Opened {
             words: place_words(&tree, table, message).max(1),

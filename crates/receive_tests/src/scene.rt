@@ -3,8 +3,8 @@
 ghost use Rattle.std.specs.Prelude.{◌≤◌};
 
 use mrpc_base::{PlainWords, Stores};
-use mrpc_table::{Bytes, Memory, Table};
-use policy_access::{Access, Lines, read_access};
+use mrpc_table::{Bytes, Lines, Memory, Table};
+use policy_access::{Access, read_access};
 use receive_core::{Arrival, DropCause, Inbound};
 use receive_heap::{Block, NotHeld};
 use std::alloc::Global;

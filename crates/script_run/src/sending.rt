@@ -14,9 +14,9 @@ use crate::connection::Connection;
 use crate::stop::Stop;
 use crate::writing::write_happening;
 use call_ledger::{Happening, copy_bytes};
-use frame_transport::{ByteLink, HEADER_LEN, REPLY, REQUEST, frame};
+use frame_transport::{ByteLink, HEADER_LEN, frame, kind_of};
 use mrpc_base::{Handed, Link, Sink};
-use mrpc_table::{Bytes, Table};
+use mrpc_table::{Bytes, Sort, Table};
 use std::alloc::Global;
 
 /// Sends every call that stands on a connection, in order, and leaves none.
@@ -87,7 +87,7 @@ fn send<K: Sink, W: Sink>(
             copy,
             ..
         } => {
-            let payload = copy_bytes(alloc, copy, table, table.message_of(*method, *number))?;
+            let payload = copy_bytes(alloc, copy, table, table.message_at(*method, *number))?;
             let bytes = call_frame(alloc, *conn, *seq, *method, *number, &payload)?;
             send_frame(wire, bytes.as_slice())?;
             let sent = Happening::Sent {
@@ -115,12 +115,12 @@ fn call_frame(
         (if number == 0 then seq else number) payload.now) }
     ensures memory { IfErr result (λ stop. stop ≡ Stop.Memory) }
 {
-    let (kind, named) = if number == 0 {
-        (REQUEST, seq)
-    } else {
-        (REPLY, number)
+    let sort = Sort::of_number(number);
+    let named = match sort {
+        Sort::Request => seq,
+        Sort::Reply => number,
     };
-    let bytes = frame(alloc, kind, method, conn, named, payload.as_slice())?;
+    let bytes = frame(alloc, kind_of(sort), method, conn, named, payload.as_slice())?;
     Ok(bytes)
 }
 

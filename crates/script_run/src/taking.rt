@@ -74,7 +74,7 @@ fn load_message(
     }
     sound_tree_is_normal();
     copies_are_short();
-    let message = table.message_of(method, number);
+    let message = table.message_at(method, number);
     let answer = copy(alloc, heap, table, message, addr, u64::from(limit))?;
     Ok(taken_by(answer))
 }

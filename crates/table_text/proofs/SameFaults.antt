@@ -286,7 +286,8 @@ pub judged_first : (text : List ℕ) (line : ℕ) (q : TableReason) → IsFirstF
 judged_first text line q h =
     let clean = none_found text (line - 1) (λ i p less. h.none_before i p (omega (arith, less))) in
     let found = against_found text (line - 1) q clean h.here in
-    let least = h.first found.reason (found_against text (line - 1) found.reason clean found.is) in
+    let stands = found_against text (line - 1) found.reason clean found.is in
+    let least : order_of q ≤ order_of found.reason = elim (cases_lt (order_of found.reason) (order_of q)) [ inl less ↦ absurd (h.first_reason found.reason less stands) | inr more ↦ more ] in
     let same : found.reason ≡ q = same_order found.reason q (omega (arith, least, found.le)) in
     record {
       counted = h.counted;
@@ -300,10 +301,11 @@ first_judged text line q h =
     record {
       counted = h.counted;
       here = found_against text (line - 1) q clean h.here;
-      first = λ other against.
+      first_reason = λ other less against.
           let found = against_found text (line - 1) other clean against in
           let same : q ≡ found.reason = unsome (sym h.here ∙ found.is) in
-          subst (λ (r : TableReason). order_of r ≤ order_of other) (sym same) found.le;
+          let least : order_of q ≤ order_of other = subst (λ (r : TableReason). order_of r ≤ order_of other) (sym same) found.le in
+          omega (arith, less, least);
       none_before = λ i other less against.
           let found = against_found text i other (λ j before. h.none_before j (omega (arith, before, less))) against in
           let clash : None ≡ Some found.reason = sym (h.none_before i less) ∙ found.is in absurd cc;

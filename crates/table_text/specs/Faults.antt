@@ -1,8 +1,9 @@
 -- What is wrong with a line of a text that is no canonical text of a table, given the lines before it; and which line
 -- is at fault first, and for which reason (this project's own).
-use Rattle.std.specs.Prelude.{◌≡◌, ◌≢◌, ℕ, ℤ, pos, ◌+◌, ◌-◌, ◌<◌, ◌≤◌, true, false, List, [], ◌∷◌, ◌++◌, length, take, map, sum, All, Contains, count_by, FitsSigned, Some, slice_get}
+use Rattle.std.specs.Prelude.{◌≡◌, ◌≢◌, ℕ, ℤ, pos, ◌+◌, ◌<◌, ◌≤◌, true, false, List, [], ◌∷◌, ◌++◌, length, take, map, sum, All, Contains, count_by, FitsSigned, Some, slice_get}
 use Rattle.std.specs.Prelude.{Bool}
 use Rattle.std.specs.Int.{w32}
+use Rattle.mrpc_table.specs.FirstFault as first
 use Rattle.mrpc_table.specs.Lines.{whole_lines, rest_of}
 use Rattle.mrpc_table.specs.Names.{is_short_full}
 use Rattle.mrpc_table.specs.Valid.{IsBelow, IsValueBelow, IsFieldNumber}
@@ -191,11 +192,8 @@ order_of MapKey = 5
 order_of Limit = 6
 
 -- the line is the first at fault, counted from 1, and this is its first reason
-pub record IsFirstFault (text : List ℕ) (line : ℕ) (reason : TableReason) : Type 0 where
-  pub counted : 0 < line
-  pub here : IsAgainst text (line - 1) reason
-  pub first : (other : TableReason) → IsAgainst text (line - 1) other → order_of reason ≤ order_of other
-  pub none_before : (i : ℕ) (other : TableReason) → i + 1 < line → IsAgainst text i other → ⊥
+abbrev pub IsFirstFault : List ℕ → ℕ → TableReason → Type 0
+IsFirstFault text line reason = first.IsFirstFault (IsAgainst text) order_of line reason
 
 -- what a fault says of a text; running out of memory says nothing
 abbrev pub IsFaultOf : List ℕ → TableFault → Type 0

@@ -23,7 +23,7 @@ fn clashes(label: &LabelWord, kind: &KindWord) -> bool
             KindWord::Message(_) => true,
             KindWord::Choice(_) => false,
         },
-        _ => false,
+        LabelWord::Plain | LabelWord::Repeated | LabelWord::Map(_) | LabelWord::Member(_) => false,
     }
 }
 
@@ -88,7 +88,7 @@ fn is_key_word(kind: &KindWord) -> bool
 {
     match kind {
         KindWord::Scalar(kind) => kind.is_key(),
-        _ => false,
+        KindWord::Message(_) | KindWord::Choice(_) => false,
     }
 }
 
@@ -99,9 +99,13 @@ pub fn is_map_key(line: &Line) -> bool
     match line {
         Line::Field(field) => match &field.label {
             LabelWord::Map(key) => !is_key_word(key),
-            _ => false,
+            LabelWord::Plain
+            | LabelWord::Optional
+            | LabelWord::Repeated
+            | LabelWord::Packed
+            | LabelWord::Member(_) => false,
         },
-        _ => false,
+        Line::Enum(_) | Line::Message(_) | Line::Value(_, _) | Line::Method(_) => false,
     }
 }
 

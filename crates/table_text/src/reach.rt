@@ -83,7 +83,11 @@ fn add_label(alloc: Global, names: &mut Places, label: &LabelWord) -> Result<(),
 {
     match label {
         LabelWord::Map(key) => add_kind(alloc, names, key),
-        _ => Ok(()),
+        LabelWord::Plain
+        | LabelWord::Optional
+        | LabelWord::Repeated
+        | LabelWord::Packed
+        | LabelWord::Member(_) => Ok(()),
     }
 }
 

@@ -136,7 +136,11 @@ impl Reader {
     {
         match label {
             LabelWord::Map(key) => self.is_unknown_kind(key),
-            _ => false,
+            LabelWord::Plain
+            | LabelWord::Optional
+            | LabelWord::Repeated
+            | LabelWord::Packed
+            | LabelWord::Member(_) => false,
         }
     }
 

@@ -41,7 +41,8 @@ fn field_len(content: &FieldValue, table: &Table, fields: &[Field], number: u32)
             Label::Packed => {
                 tag_len(number, 2).saturating_add(delimited_len(joined_len(values, table, kind)))
             }
-            _ => records_len(values, table, number, kind),
+            Label::Plain | Label::Optional | Label::Repeated | Label::Map(_) | Label::Member(_) =>
+                records_len(values, table, number, kind),
         },
         FieldValue::Pairs(entries) => entries_len(entries, table, number, label.key(), kind),
     }
@@ -119,7 +120,15 @@ fn number_len(kind: Kind, n: u64) -> u64
         Kind::Fixed64 | Kind::Sfixed64 | Kind::Double => 8,
         Kind::Fixed32 | Kind::Sfixed32 | Kind::Float => 4,
         Kind::Sint32 | Kind::Sint64 => varint_len(zigzag(n.cast_signed())) as u64,
-        _ => varint_len(n) as u64,
+        Kind::Int32
+        | Kind::Int64
+        | Kind::Uint32
+        | Kind::Uint64
+        | Kind::Bool
+        | Kind::Choice(_)
+        | Kind::Text
+        | Kind::Octets
+        | Kind::Message(_) => varint_len(n) as u64,
     }
 }
 

@@ -55,7 +55,8 @@ fn write_field(
         FieldValue::One(value) => write_record(out, value, table, number, kind),
         FieldValue::Many(values) => match label {
             Label::Packed => write_packed(out, values, table, number, kind),
-            _ => write_records(out, values, table, number, kind),
+            Label::Plain | Label::Optional | Label::Repeated | Label::Map(_) | Label::Member(_) =>
+                write_records(out, values, table, number, kind),
         },
         FieldValue::Pairs(entries) => {
             write_entries(out, entries, table, number, label.key(), kind)
@@ -214,7 +215,15 @@ fn write_number(out: &mut Output, kind: Kind, n: u64) -> Result<(), Memory>
         Kind::Fixed64 | Kind::Sfixed64 | Kind::Double => out.put(&n.to_le_bytes()),
         Kind::Fixed32 | Kind::Sfixed32 | Kind::Float => out.put(&n.to_le_bytes()[..4]),
         Kind::Sint32 | Kind::Sint64 => out.put_varint(zigzag(n.cast_signed())),
-        _ => out.put_varint(n),
+        Kind::Int32
+        | Kind::Int64
+        | Kind::Uint32
+        | Kind::Uint64
+        | Kind::Bool
+        | Kind::Choice(_)
+        | Kind::Text
+        | Kind::Octets
+        | Kind::Message(_) => out.put_varint(n),
     }
 }
 

@@ -1,6 +1,4 @@
-use Rattle.std.proofs.Common.{◌≡◌, ◌<◌, Some, get_or, sym}
-use Rattle.mrpc_table.specs.Node.{content_at}
-use Rattle.mrpc_table.specs.View.{node_of, content_of}
+use Rattle.std.proofs.Common.{sym}
 use Rattle.mrpc_table.proofs.ContentLemmas.{found-at, weight_at}
 use Rattle.mrpc_table.proofs.tree.content_among.Goals as goal
 

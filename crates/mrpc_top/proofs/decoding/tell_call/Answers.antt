@@ -1,21 +1,17 @@
-use Rattle.std.proofs.Common.{◌≡◌, ◌==◌, ◌+◌, ◌∙◌, ◌++◌, List, ℕ, if◌then◌else◌, arith, ap, refl, subst}
-use Rattle.std.proofs.lemmas.Bool.Decides.{nat_tests}
+use Rattle.std.proofs.Common.{◌≡◌, ◌+◌, ◌∙◌, ◌++◌, List, ℕ, ap, refl, subst}
 use Rattle.frame_transport.specs.Standing.{frame_of}
 use Rattle.mrpc_top.specs.Decoding.{line_of_call, message_in, call_line}
-use Rattle.mrpc_table.specs.Calls.{message_at}
 use Rattle.wire_base.specs.Encoding.{encoding}
 use Rattle.wire_decode.specs.Means.{Means}
 use Rattle.wire_decode.specs.Reason.{reason_word}
 use Rattle.mrpc_top.proofs.Decodings.{fault_of_payload}
 use Rattle.mrpc_top.proofs.decoding.tell_call.Goals as goal
-use Rattle.mrpc_top.proofs.decoding.tell_call.Goals.{then-frame-eq-REQUEST, else-frame-eq-REQUEST}
 
 pub returns-in_ok-put_call-in-Ok-clause-told : goal.returns-in_ok-put_call-in-Ok-clause-told
 returns-in_ok-put_call-in-Ok-clause-told c =
     let T = c.args.table.now in
     let f = frame_of c.args.frame.now in
-    let number : c.if-frame-eq-REQUEST.number ≡ (if f.kind == 1 then 0 else 1) = elim c.if-frame-eq-REQUEST.branch [ then-frame-eq-REQUEST w ↦ grind (arith, nat_tests) | else-frame-eq-REQUEST w ↦ grind (arith, nat_tests) ] in
-    let message : c.message_of-message.result ≡ message_in T f = c.message_of-message.ensures.place ∙ ap (message_at T f.method) number in
+    let message : c.message_in-message.result ≡ message_in T f = c.message_in-message.ensures.place in
     let bytes : c.as_slice.result.now ≡ encoding T (message_in T f) c.in-Ok.tree = c.as_slice.ensures ∙ c.in_ok-encode_into-in-Ok.ensures ∙ ap (λ (m : ℕ). encoding T m c.in-Ok.tree) message in
     let means : Means T (message_in T f) f.payload c.in-Ok.tree = subst (λ (m : ℕ). Means T m f.payload c.in-Ok.tree) message c.in-Ok.ensures.means in (
       call_line f (encoding T (message_in T f) c.in-Ok.tree),
@@ -27,8 +23,7 @@ pub returns-in-Err-At-clause-cut : goal.returns-in-Err-At-clause-cut
 returns-in-Err-At-clause-cut c =
     let T = c.args.table.now in
     let f = frame_of c.args.frame.now in
-    let number : c.if-frame-eq-REQUEST.number ≡ (if f.kind == 1 then 0 else 1) = elim c.if-frame-eq-REQUEST.branch [ then-frame-eq-REQUEST w ↦ grind (arith, nat_tests) | else-frame-eq-REQUEST w ↦ grind (arith, nat_tests) ] in
-    let message : c.message_of-message.result ≡ message_in T f = c.message_of-message.ensures.place ∙ ap (message_at T f.method) number in
+    let message : c.message_in-message.result ≡ message_in T f = c.message_in-message.ensures.place in
     let first = rw c.in-Err-At.field-0-is at c.in-Err-At.ensures.fault in (
       fault_of_payload T f _ _ c.in-Err-At.reason c.in-Err-At.place _ c.requires.call c.requires.known message first
           (ap (λ (n : ℕ). f.place + (16 + n)) c.in-Err-At.place-is) (c.word.ensures ∙ ap reason_word c.in-Err-At.reason-is),

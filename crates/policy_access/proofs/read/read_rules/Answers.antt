@@ -11,8 +11,8 @@ pub returns-in-Err-clause-fault : goal.returns-in-Err-clause-fault
 returns-in-Err-clause-fault c =
     let count : c.len.result ≡ length (names_in c.loop-place.so_far.rules.items) = omega (arith, length-map c.loop-place.so_far.rules.items (λ (r : Rule). r.name), c.len.ensures) in
     let is = c.in_ok-reason.ensures (names_in c.loop-place.so_far.rules.items) c.loop-place.invariant.names count ∙ ap (λ (l : List ℕ). said_in c.args.table.now (names_in c.loop-place.so_far.rules.items) (line_of l)) c.as_slice.ensures in
-    fault-first c.args.table.now c.args.lines.now c.loop-place.place c.loop-place.so_far.rules.items c.index-lines-place.result c.in-Err.reason c.fault_at.result c.loop-place.invariant.read
-    c.loop-place-test.true c.index-lines-place.is (sym is ∙ c.in-Err.is) c.fault_at.ensures
+    fault-first c.args.table.now c.args.lines.now c.loop-place.place c.loop-place.so_far.rules.items c.index-lines-place.result c.in-Err.reason c.at.result c.loop-place.invariant.read
+    c.loop-place-test.true c.index-lines-place.is (sym is ∙ c.in-Err.is) c.at.ensures
 
 pub returns-in-Ok-Default-clause-default : goal.returns-in-Ok-Default-clause-default
 returns-in-Ok-Default-clause-default c =
@@ -34,4 +34,4 @@ loop-place-preserved c =
     }
 
 pub returns-clause-fault : goal.returns-clause-fault
-returns-clause-fault c = fault-last c.args.table.now c.args.lines.now c.loop-place.so_far.rules.items c.loop-place.place c.fault_at-2.result c.loop-place.invariant.read (omega (arith, c.loop-place.invariant.read.within, c.loop-place-test.false)) c.fault_at-2.ensures
+returns-clause-fault c = fault-last c.args.table.now c.args.lines.now c.loop-place.so_far.rules.items c.loop-place.place c.at-2.result c.loop-place.invariant.read (omega (arith, c.loop-place.invariant.read.within, c.loop-place-test.false)) c.at-2.ensures

@@ -6,14 +6,14 @@ use Rattle.policy_redact.proofs.read.read_lines.Goals as goal
 
 pub returns-then-place-ge-MAX_CLEARS-clause-fault : goal.returns-then-place-ge-MAX_CLEARS-clause-fault
 returns-then-place-ge-MAX_CLEARS-clause-fault c =
-    fault-beyond c.args.table.now c.args.lines.now c.loop-place.place c.loop-place.clears.items c.fault_at-then-place-ge-MAX_CLEARS.result c.loop-place.invariant c.if-place-ge-MAX_CLEARS.true c.loop-place-test.true
-    c.fault_at-then-place-ge-MAX_CLEARS.ensures
+    fault-beyond c.args.table.now c.args.lines.now c.loop-place.place c.loop-place.clears.items c.at-then-place-ge-MAX_CLEARS.result c.loop-place.invariant c.if-place-ge-MAX_CLEARS.true c.loop-place-test.true
+    c.at-then-place-ge-MAX_CLEARS.ensures
 
 pub returns-in-Err-clause-fault : goal.returns-in-Err-clause-fault
 returns-in-Err-clause-fault c =
     let is = c.in_ok-reason.ensures ∙ ap (λ (l : List ℕ). said_in c.args.table.now (line_of l)) c.as_slice.ensures in
-    fault-found c.args.table.now c.args.lines.now c.loop-place.place c.loop-place.clears.items c.index-lines-place.result c.in-Err.reason c.fault_at-in-Err.result c.loop-place.invariant
-    c.if-place-ge-MAX_CLEARS.false c.loop-place-test.true c.index-lines-place.is (sym is ∙ c.in-Err.is) c.fault_at-in-Err.ensures
+    fault-found c.args.table.now c.args.lines.now c.loop-place.place c.loop-place.clears.items c.index-lines-place.result c.in-Err.reason c.at-in-Err.result c.loop-place.invariant
+    c.if-place-ge-MAX_CLEARS.false c.loop-place-test.true c.index-lines-place.is (sym is ∙ c.in-Err.is) c.at-in-Err.ensures
 
 pub loop-place-preserved : goal.loop-place-preserved
 loop-place-preserved c =

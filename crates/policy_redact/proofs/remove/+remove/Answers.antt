@@ -5,7 +5,7 @@ use Rattle.mrpc_table.specs.Node.{Node, content_at}
 use Rattle.mrpc_table.specs.View.{node_of, content_of}
 use Rattle.mrpc_table.specs.Weight.{weight, content_weight}
 use Rattle.mrpc_table.specs.declared.tree.FieldValue.{FieldValue}
-use Rattle.field_path.specs.Trees.{IsAscending, HoldsAscending}
+use Rattle.mrpc_table.specs.PathTrees.{IsAscending, HoldsAscending}
 use Rattle.policy_redact.specs.Leaving.{without}
 use Rattle.policy_redact.proofs.Removing.{none-under, stepped, same-inside, lighter-inside, held, begins, rest_of}
 use Rattle.policy_redact.proofs.remove.+remove.Goals as goal

@@ -4,7 +4,7 @@ use Rattle.mrpc_table.specs.Node.{Node, content_at}
 use Rattle.mrpc_table.specs.View.{node_of}
 use Rattle.mrpc_table.specs.Weight.{weight}
 use Rattle.mrpc_table.specs.declared.tree.FieldValue.{FieldValue}
-use Rattle.field_path.specs.Trees.{IsAscending}
+use Rattle.mrpc_table.specs.PathTrees.{IsAscending}
 use Rattle.policy_redact.specs.Leaving.{without}
 use Rattle.policy_redact.proofs.Removing.{none-under, removed, lighter}
 use Rattle.policy_redact.proofs.remove.remove_field.Goals as goal

@@ -20,8 +20,8 @@ taken c =
     let xs = since c.args.heap.now.loads c.copy.new.words.loads in
     let known : c.args.method < length T.methods = omega arith in
     let limit : c.from-2.result ≡ c.args.limit = c.from-2.ensures in
-    let message : c.message_of-message.result ≡ message_at T c.args.method c.args.number =
-    c.message_of-message.ensures.place in
+    let message : c.message_at-message.result ≡ message_at T c.args.method c.args.number =
+    c.message_at-message.ensures.place in
     taken_by (laws c) T H c.args.limit c.args.method c.args.number c.args.addr xs c.in_ok-answer.answer c.requires.valid
     known c.requires.greatest_limit
     (omega (arith, limit, c.in_ok-answer.ensures.few))

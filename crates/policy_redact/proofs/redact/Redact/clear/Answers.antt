@@ -1,9 +1,9 @@
 use Rattle.std.proofs.Common.{◌≡◌, ◌<◌, ◌+◌, List, length, get_or, take, ap, sym, ◌∙◌, subst, refl}
 use Rattle.mrpc_table.specs.Node.{Node}
 use Rattle.mrpc_table.specs.Calls.{message_at}
-use Rattle.field_path.specs.Trees.{IsAscending}
-use Rattle.policy_access.specs.declared.call.Call.{Call}
-use Rattle.policy_access.specs.Call.{IsCallOf}
+use Rattle.mrpc_table.specs.PathTrees.{IsAscending}
+use Rattle.mrpc_table.specs.declared.call.Call.{Call}
+use Rattle.mrpc_table.specs.Calls.{IsCallOf}
 use Rattle.policy_redact.specs.Redacting.{cleared_call}
 use Rattle.policy_redact.specs.declared.redact.Clear.{Clear}
 use Rattle.policy_redact.proofs.Listed.{nothing-listed, cleared-ascends, more-cleared, smaller-still, unchanged-still}

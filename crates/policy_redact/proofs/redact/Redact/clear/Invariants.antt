@@ -3,7 +3,7 @@ use Rattle.std.proofs.Common.{◌≡◌, ◌<◌, take}
 use Rattle.std.specs.Bool.{OnTrue, OnFalse}
 use Rattle.mrpc_table.specs.Weight.{weight}
 use Rattle.mrpc_table.specs.declared.table.Table.{Table}
-use Rattle.policy_access.specs.Call.{IsCallOf}
+use Rattle.mrpc_table.specs.Calls.{IsCallOf}
 use Rattle.policy_redact.specs.Redacting.{cleared_call}
 use Rattle.policy_redact.proofs.redact.Redact.clear.Given as goal
 

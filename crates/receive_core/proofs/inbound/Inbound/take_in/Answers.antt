@@ -16,7 +16,7 @@ returns-clause-takes g c f first is =
     let fed : c.self.inside.feed ≡ c.args.self.now.fed = ap (λ (r : Receiving). r.fed) c.self.view_is in
     let heap : c.self.inside.extents ≡ c.args.self.now.heap = ap (λ (r : Receiving). r.heap) c.self.view_is in
     let taken = c.take_first-frame.ensures.frame f (subst (λ (fed : Fed). IsFirst fed f) (sym fed) first) in
-    let message : c.message_of-message.result ≡ message_of T f = c.message_of-message.ensures.place ∙ message_is T c.args.self.now.conn f c.args.opened is in
+    let message : c.message_at-message.result ≡ message_of T f = c.message_at-message.ensures.place ∙ message_is T c.args.self.now.conn f c.args.opened is in
     let front : IsFirstFit c.args.self.now.heap.holes c.args.opened.words c.in-Ok.block.at =
     subst (λ (l : Layout). IsFirstFit l.holes c.args.opened.words c.in-Ok.block.at) heap c.in-Ok.ensures.front in
     let same = c.requires.fits c.in-Ok.block.at front in

@@ -1,4 +1,0 @@
-mod Finding
-mod Rows
-mod Ways
-mod WordLemmas

@@ -1,6 +1,0 @@
-use Rattle.mrpc_table.specs.Normal.{fields_of}
-use Rattle.field_path.proofs.Finding.{fields-ascend}
-use Rattle.field_path.proofs.laws.normal_ascends.Goals as goal
-
-pub returns : goal.returns
-returns c = λ T msg t normal. fields-ascend T (fields_of T msg) 0 t normal.fields

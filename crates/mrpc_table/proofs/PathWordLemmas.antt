@@ -1,0 +1,32 @@
+-- The numbers of a path.
+use Rattle.std.proofs.Common.{◌≡◌, ℕ, ◌==◌, Bool, true, false, cond, List, [], ◌∷◌, ◌++◌, Option, Some, None, refl, sym, ap, append_assoc}
+use Rattle.std.specs.Prelude.{option_map}
+use Rattle.std.specs.List.{slice_split, onto_first}
+use Rattle.mrpc_table.specs.declared.words.Decimal.{Decimal}
+use Rattle.mrpc_table.specs.PathWords.{path_of_parts, begins_path, decimal_of}
+use Rattle.mrpc_table.specs.declared.path.PathWord.{PathWord}
+
+-- a list has at least one part
+has_part : (sep : ℕ) (text : List ℕ) → (part : List ℕ) × (parts : List (List ℕ)) × (slice_split (λ c. c == sep) text ≡ part ∷ parts)
+has_part sep [] = ([], [], refl)
+has_part sep (x ∷ xs) =
+    let rest = has_part sep xs in
+    elim (x == sep) as (λ (b : Bool). (part : List ℕ) × (parts : List (List ℕ)) × (cond b ([] ∷ slice_split (λ c. c == sep) xs) (onto_first x (slice_split (λ c. c == sep) xs)) ≡ part ∷ parts)) [
+      | true ↦ ([], slice_split (λ c. c == sep) xs, refl)
+      | false ↦ (x ∷ rest.0, rest.1, ap (onto_first x) rest.2)
+    ]
+
+-- a path with numbers in front of it
+abbrev pub behind_numbers : List Decimal → PathWord → PathWord
+behind_numbers ns p = record { way = ns ++ p.way; last = p.last }
+
+pub one_more : (ns : List Decimal) (n : Decimal) (p : Option PathWord) → option_map (behind_numbers ns) (option_map (begins_path n) p) ≡ option_map (behind_numbers (ns ++ n ∷ [])) p
+one_more ns n None = refl
+one_more ns n (Some p) = ap (λ (w : List Decimal). Some (record { way = w; last = p.last })) (sym (append_assoc ns (n ∷ []) p.way))
+
+pub step_path : (part : List ℕ) (n : Decimal) (text : List ℕ) → decimal_of part ≡ Some n
+    → path_of_parts (part ∷ slice_split (λ c. c == 46) text) ≡ option_map (begins_path n) (path_of_parts (slice_split (λ c. c == 46) text))
+step_path part n text is = let rest = has_part 46 text in rw (rest.2, is) refl
+
+pub no_number : (part : List ℕ) (text : List ℕ) → decimal_of part ≡ None → path_of_parts (part ∷ slice_split (λ c. c == 46) text) ≡ None
+no_number part text is = let rest = has_part 46 text in rw (rest.2, is) refl

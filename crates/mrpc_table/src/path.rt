@@ -1,0 +1,46 @@
+//! A path, as a word spells it and as it leads into a message.
+
+ghost use Rattle.std.specs.Prelude.{◌≡◌, IfOk};
+
+use crate::memory::Memory;
+use crate::sequence::Sequence;
+use crate::table::{Kind, Label};
+use crate::words::Decimal;
+use std::alloc::Global;
+
+/// A way into a tree, and the field at its end.
+#[derive(Drop)]
+pub struct Path {
+    /// The numbers of the messages on the way, the outermost first, 31 at most.
+    pub way: Sequence<u32>,
+    /// The number of the field at the end.
+    pub number: u32,
+    /// The kind of that field.
+    pub kind: Kind,
+    /// The label of that field.
+    pub label: Label,
+}
+
+/// Field numbers joined by dots, as a word spells them: 1 to 32 numbers of any size.
+#[derive(Drop)]
+pub struct PathWord {
+    /// All numbers but the last, in order.
+    pub way: Sequence<Decimal>,
+    /// The last number.
+    pub last: Decimal,
+}
+
+impl Path {
+    /// An equal path.
+    pub fn copied(&self, alloc: Global) -> Result<Path, Memory>
+        ensures { IfOk result (λ r. r ≡ self.now) }
+    {
+        let way = Vec::from_slice(alloc, self.way.as_slice())?;
+        Ok(Path {
+            way: Sequence::from_vec(way),
+            number: self.number,
+            kind: self.kind,
+            label: self.label,
+        })
+    }
+}

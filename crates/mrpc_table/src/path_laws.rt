@@ -1,0 +1,22 @@
+//! Laws of the trees that paths lead into. These functions do nothing; their clauses hold.
+
+ghost use Rattle.std.specs.Prelude.{◌≡◌, ℕ, Some};
+ghost use Rattle.mrpc_table.specs.Node.{Node, Content, content_at, NumbersAscend};
+ghost use Rattle.mrpc_table.specs.Normal.{IsNormal};
+ghost use Rattle.mrpc_table.specs.declared.table.Table.{Table};
+ghost use Rattle.mrpc_table.specs.PathTrees.{IsAscending, HoldsAscending};
+
+/// The fields of a normal tree ascend, and so in the messages inside it.
+pub fn normal_ascends()
+    ensures { (T : Table) (msg : ℕ) (t : Node) → IsNormal T msg t → IsAscending t }
+{}
+
+/// A tree that ascends in the messages inside it ascends itself, as finding a field in it asks.
+pub fn numbers_ascend()
+    ensures { (t : Node) → IsAscending t → NumbersAscend 0 t }
+{}
+
+/// What a tree has under a number ascends inside as the tree does.
+pub fn content_ascends()
+    ensures { (t : Node) (number : ℕ) (c : Content) → IsAscending t → content_at t number ≡ Some c → HoldsAscending c }
+{}
