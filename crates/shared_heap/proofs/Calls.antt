@@ -64,6 +64,10 @@ fresh_one_more calls after loads old new f knew h =
     let both : loads_of (calls ++ one ∷ []) ≡ loads_of calls ++ map (at after) loads = split ∙ ap (λ l. loads_of calls ++ l) (one_call after loads) in
     subst (λ l. AreNumbered l new.known) (sym both) (numbered_call (loads_of calls) after old new loads f knew h)
 
+pub fresh_after_note : (calls : List CallLoads) (noted loads : List (ℕ × ℕ)) (old new : Reading) → Fresh calls old.known → BeginsWith old.known noted → AfterLoads AfterLoad old loads new
+    → Fresh (calls ++ (record { after = length noted; loads = loads }) ∷ []) new.known
+fresh_after_note calls noted loads old new f met h = fresh_one_more calls (length noted) loads old new f (length_of old.known noted met) h
+
 pub fresh_later : (calls : List CallLoads) (stores all : List (ℕ × ℕ)) → Fresh calls stores → BeginsWith all stores → Fresh calls all
 fresh_later calls stores all f h = numbered_later stores all (loads_of calls) h f
 

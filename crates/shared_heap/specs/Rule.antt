@@ -75,7 +75,14 @@ ended v = record { known = v.known; told = v.known; writes = false; last = true;
 
 -- a seat that was told what another knew
 abbrev pub informed : View → View → View
-informed v u = record { known = v.known; told = u.known; writes = v.writes; last = v.last; told_last = u.last; loads = v.loads }
+informed v u = record {
+  known = v.known;
+  told = u.known;
+  writes = v.writes;
+  last = v.last;
+  told_last = u.last;
+  loads = v.loads;
+}
 
 -- a seat that knows nothing
 abbrev pub nobody : View
