@@ -1,7 +1,8 @@
 //! The laws of seats and shares. The functions do nothing; their clauses hold.
 
 ghost use Rattle.std.specs.Prelude.{◌≡◌, ◌≤◌, ◌+◌, ◌/◌, ◌<◌, ◌++◌, ℕ, List, All, Some, map};
-ghost use Rattle.tenant_quota.specs.Drawing.{AreLater, Drawing, WasSplit, all_shares, all_together, drawn_by, kept_half, new_half, quotas_of, shares_of};
+ghost use Rattle.tenant_quota.specs.Drawing.{AreLater, Drawing, WasSplit, all_shares, drawn_by};
+ghost use Rattle.tenant_quota.specs.Drawing.{all_together, kept_half, new_half, quotas_of, shares_of};
 
 /// A seat with all shares may be split 63 times, and what is left of its share each time may be split again, up to then.
 /// So may each of some seats.

@@ -2,7 +2,8 @@ ghost use Rattle.std.specs.Prelude.{◌≡◌, ◌≢◌, ◌<◌, ◌≤◌, �
 ghost use Rattle.std.specs.Prelude.{IfOk, IfSome, IsSomeAnd, OnOk, OnErr};
 ghost use Rattle.std.specs.Vec.{vec_capacity};
 ghost use Rattle.mrpc_base.specs.declared.tickets.TheConstants.{WINDOWS};
-ghost use Rattle.tenant_quota.specs.Drawing.{AllOnce, AreLater, Drawing, all_shares, all_together, drawn_by, kept_half, new_half, quotas_of};
+ghost use Rattle.tenant_quota.specs.Drawing.{AllOnce, AreLater, Drawing, all_shares, drawn_by};
+ghost use Rattle.tenant_quota.specs.Drawing.{all_together, kept_half, new_half, quotas_of};
 ghost use Rattle.tenant_quota.specs.Splitting.{AreOfQuotas, AreSplit};
 
 use crate::seat::Seat;
