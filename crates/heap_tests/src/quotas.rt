@@ -1,11 +1,12 @@
-ghost use Rattle.std.specs.Prelude.{◌≡◌, ◌≤◌, ◌+◌, length};
+ghost use Rattle.std.specs.Prelude.{◌≡◌, ◌≤◌, ◌+◌, All, IfOk, length};
+ghost use Rattle.tenant_quota.specs.Drawing.{AllOnce, all_shares};
 ghost use Rattle.std.specs.Thread.{IsSync};
 
 use mrpc_base::Tickets;
-use std::alloc::Global;
+use std::alloc::{AllocError, Global};
 use std::process::Abort;
 use std::thread::{Threads, join};
-use tenant_quota::{Seat, Seats, open};
+use tenant_quota::{Seat, Seats, open, seats_come_together, seats_stay};
 
 #[test]
 fn a_new_quota_counts_from_zero(rt: HostRuntime) {
@@ -150,17 +151,28 @@ fn eight_threads_draw_each_ticket_once(rt: HostRuntime) {
 
 // Adds the seat of a new quota.
 fn push_seat(rt: &impl Abort, alloc: Global, seats: &mut Seats)
-    ensures { length seats.new ≡ length seats.old + 1 }
+    requires { All (λ seat. seat.share ≡ all_shares) seats.old }
+    ensures longer { length seats.new ≡ length seats.old + 1 }
+    ensures whole { All (λ seat. seat.share ≡ all_shares) seats.new }
 {
     let seat = open(alloc, 1024).expect(rt, "memory");
     seats.push(seat).expect(rt, "memory");
 }
 
+// The seats of two tenants, each with all shares.
+fn two_tenants(rt: &impl Abort, alloc: Global) -> Seats
+    ensures two { length result ≡ 2 }
+    ensures whole { All (λ seat. seat.share ≡ all_shares) result }
+{
+    let mut seats = Seats::new(alloc);
+    push_seat(rt, alloc, &mut seats);
+    push_seat(rt, alloc, &mut seats);
+    seats
+}
+
 #[test]
 fn each_tenant_has_windows_of_its_own(rt: HostRuntime) {
-    let mut seats = Seats::new(rt.alloc());
-    push_seat(&rt, rt.alloc(), &mut seats);
-    push_seat(&rt, rt.alloc(), &mut seats);
+    let mut seats = two_tenants(&rt, rt.alloc());
     assert_own_windows(&rt, &mut seats);
 }
 
@@ -170,4 +182,36 @@ fn assert_own_windows(rt: &impl Abort, seats: &mut Seats)
     assert!(rt; seats.draw(0, 1023) == 0);
     assert!(rt; seats.draw(0, 1023) == 1);
     assert!(rt; seats.draw(1, 1023) == 0);
+}
+
+// Draws the next ticket of the second tenant, as a layer does that knows nothing of how the tickets are counted.
+fn draw_one<T: Tickets>(tickets: &mut T) -> u64
+    requires { T.knows tickets.old 1 }
+    ensures { (first : T) → T.since first tickets.old → T.since first tickets.new }
+{
+    tickets.draw(1, 0)
+}
+
+// Halves draw apart and come together: of each window each ticket was drawn once.
+fn draw_apart(alloc: Global, mut seats: Seats) -> Result<(Seats, u64), AllocError>
+    requires two { length seats ≡ 2 }
+    requires whole { All (λ seat. seat.share ≡ all_shares) seats }
+    ensures once { IfOk result (λ drawn. All (λ seat. AllOnce 1024 seat.draws) drawn.0) }
+{
+    seats_stay();
+    seats_come_together();
+    let mut others = seats.split(alloc)?;
+    let first = draw_one(&mut seats);
+    let second = draw_one(&mut others);
+    seats.join(others);
+    seats.tickets_are_distinct();
+    Ok((seats, first.wrapping_add(second.wrapping_mul(2))))
+}
+
+#[test]
+fn seats_that_draw_apart_come_together(rt: HostRuntime) {
+    let seats = two_tenants(&rt, rt.alloc());
+    let (seats, tickets) = draw_apart(rt.alloc(), seats).expect(&rt, "memory");
+    assert!(rt; tickets == 2);
+    assert!(rt; seats.into_vec().len() == 2);
 }

@@ -329,20 +329,20 @@ fn meet(reader: &mut Reader, descriptor: Descriptor)
     reader.meet(note);
 }
 
-// A writer in one thread, a reader in another, and a ring between them.
+// A writer in one thread, a reader in another, and a ring between them. The last note is given back, when it was met.
 fn run<R: Threads + Wait + Sync>(
     rt: &R,
     writer: Writer,
     sender: Sender,
     mut reader: Reader,
     mut receiver: Receiver,
-) -> (Found, u64)
+) -> (Found, Note, u64)
     requires words { writer.heap.words ≡ 4 }
     requires heaps { (sender.heap ≡ writer.heap) × (reader.heap ≡ writer.heap) × (receiver.heap ≡ writer.heap) }
     requires rings { receiver.ring ≡ sender.ring }
     requires first { (writer.stores ≡ []) × (sender.sent ≡ []) × (receiver.taken ≡ []) }
 {
-    let ((note, sent), (found, mut reader, mut receiver)) = join(
+    let ((mut note, sent), (found, mut reader, mut receiver)) = join(
         rt,
         move || -> (Note, Sent)
             requires { IsSync R.row × (writer.heap.words ≡ 4) × (sender.heap ≡ writer.heap) × (writer.stores ≡ [])
@@ -359,8 +359,8 @@ fn run<R: Threads + Wait + Sync>(
     );
     receiver.meet(sent);
     discard_descriptors(receiver);
-    reader.meet(note);
-    (found, reader.load(2))
+    reader.hear(&mut note);
+    (found, note, reader.load(2))
 }
 
 // The same over a new heap and a new ring: whether each of ten notes was met, and the last store was loaded.
@@ -369,8 +369,8 @@ fn all_are_met<R: Abort + Threads + Wait + Sync>(rt: &R, alloc: Global, cap: u64
 {
     let (writer, reader) = a_heap(rt, alloc, 4);
     let (sender, receiver) = open(alloc, cap, &reader).expect(rt, "memory");
-    let (found, last) = run(rt, writer, sender, reader, receiver);
-    found.fresh && found.descriptors == 10 && last == 1000
+    let (found, note, last) = run(rt, writer, sender, reader, receiver);
+    found.fresh && found.descriptors == 10 && note.stores() == 1000 && last == 1000
 }
 
 #[test]

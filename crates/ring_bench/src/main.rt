@@ -73,6 +73,3 @@ fn main(rt: HostRuntime) -> io::Result<ExitCode> {
     println!(rt; "{} {}", passed.copied, passed.sum)?;
     Ok(ExitCode::SUCCESS)
 }
-
-#[cfg(test)]
-mod tests;

@@ -16,13 +16,13 @@ use std::thread::{Threads, join};
 use untouched_copy::copy_message;
 
 // How many descriptors the ring holds.
-pub(crate) const CAPACITY: u64 = 64;
+const CAPACITY: u64 = 64;
 
 // Messages lie at so many places in turn, in two words each. They are more than a ring holds and two threads have at
 // hand, so no word is stored again before it was loaded.
 const MESSAGES: u64 = 128;
 
-pub(crate) const WORDS: u64 = 258;
+const WORDS: u64 = 258;
 
 // One word of a message is loaded, its number.
 const LIMIT: u64 = 1;
@@ -125,7 +125,7 @@ fn write_all<R: Wait>(rt: &R, count: u64, mut writer: Writer, mut sender: Sender
     close(rt, sender)
 }
 
-pub(crate) fn message(writer: &mut Writer, addr: u64) -> Descriptor
+fn message(writer: &mut Writer, addr: u64) -> Descriptor
     ensures of_heap { IsOf writer.old.heap result }
     ensures same { writer.new ≡ writer.old }
 {
@@ -140,7 +140,7 @@ pub(crate) fn message(writer: &mut Writer, addr: u64) -> Descriptor
 }
 
 // Tries until the ring has room.
-pub(crate) fn send<R: Wait>(rt: &R, sender: &mut Sender, mut descriptor: Descriptor)
+fn send<R: Wait>(rt: &R, sender: &mut Sender, mut descriptor: Descriptor)
     requires of_heap { IsOf sender.old.heap descriptor }
     requires few { length sender.old.sent < 4294967294 }
     ensures sent { length sender.new.sent ≡ length sender.old.sent + 1 }
@@ -163,7 +163,7 @@ pub(crate) fn send<R: Wait>(rt: &R, sender: &mut Sender, mut descriptor: Descrip
 }
 
 // Tries until the ring has room.
-pub(crate) fn close<R: Wait>(rt: &R, mut sender: Sender) -> Sent
+fn close<R: Wait>(rt: &R, mut sender: Sender) -> Sent
     ensures items { result.items ≡ sender.sent }
     ensures ring { result.ring ≡ sender.ring }
 {
@@ -217,7 +217,7 @@ fn read_all<R: Wait>(
 }
 
 // Meets the descriptor's note, copies its message, and gives its number, or 0 where it has none.
-pub(crate) fn number_of(
+fn number_of(
     alloc: Global,
     table: &Table,
     reader: &mut Reader,

@@ -1,20 +1,20 @@
 -- Loads stay fresh when more stores are known, and when one more load comes.
-use Rattle.std.proofs.Common.{◌≡◌, ℕ, zero, suc, ◌-◌, ◌<◌, ◌≤◌, IsTrue, Option, Some, None, is_some, false, true, List, [], ◌∷◌, ◌++◌, length, take, drop, get_or, ◌≢◌, All, refl, sym, ap, ◌∙◌, subst, arith, length-append}
+use Rattle.std.proofs.Common.{◌≡◌, ℕ, zero, suc, ◌-◌, ◌<◌, ◌≤◌, List, [], ◌∷◌, ◌++◌, length, take, drop, get_or, ◌≢◌, All, sym, ap, ◌∙◌, subst, arith, length-append}
 use Rattle.std.specs.List.{AllZip}
 use Rattle.std.proofs.lemmas.List.{take-append-le, take_all, take-append-drop, drop-append-le}
 use Rattle.std.proofs.lemmas.List.Elements.{All-nil, All-cons, All-head, All-tail}
 use Rattle.std.proofs.lemmas.List.Sorted.{IsNonDecreasingBy-push}
 use Rattle.mrpc_base.specs.Heap.{word_after}
 use Rattle.shared_heap.specs.declared.view.Load.{Load}
-use Rattle.shared_heap.specs.Fresh.{BeginsWith, IsNumberOf, Fresh, NoneTo, load_of}
+use Rattle.shared_heap.specs.Fresh.{BeginsWith, IsNumberOf, CallLoads, loads_of, AreNumbered, Fresh, IsMade, AreMade, NoneTo, load_of}
 use Rattle.shared_heap.proofs.LastStore.{word_after-elsewhere}
 
-length_of : (new old : List (ℕ × ℕ)) → BeginsWith new old → length old ≤ length new
+pub length_of : (new old : List (ℕ × ℕ)) → BeginsWith new old → length old ≤ length new
 length_of new old h = omega (arith, ap length h.1, length-append old h.0)
 
 later : (old new : List (ℕ × ℕ)) (load : Load) (number : ℕ) → BeginsWith new old → IsNumberOf old load number → IsNumberOf new load number
 later old new load number h f = record {
-  known = f.known;
+  after = f.after;
   made = omega (arith, f.made, length_of new old h);
   value = f.value ∙ ap (λ stores. word_after stores load.place) (sym (ap (take number) h.1 ∙ take-append-le number old h.0 f.made));
 }
@@ -38,20 +38,36 @@ each_made stores (l ∷ loads) [] k d f below = absurd f
 each_made stores (l ∷ loads) (n ∷ numbers) zero d f below = f.0.made
 each_made stores (l ∷ loads) (n ∷ numbers) (suc k) d f below = each_made stores loads numbers k d f.1 (omega arith)
 
-pub fresh_later : (old new : List (ℕ × ℕ)) (loads : List Load) → BeginsWith new old → Fresh loads old → Fresh loads new
-fresh_later old new loads h f = (f.0, f.1, all_later old new loads f.0 h f.2)
+pub numbered_later : (old new : List (ℕ × ℕ)) (loads : List Load) → BeginsWith new old → AreNumbered loads old → AreNumbered loads new
+numbered_later old new loads h f = (f.0, f.1, all_later old new loads f.0 h f.2)
 
 -- the number of the new load is that of all stores
-pub fresh_load : (old new : List (ℕ × ℕ)) (loads : List Load) (place value : ℕ) → BeginsWith new old → value ≡ word_after new place → Fresh loads old → Fresh (loads ++ load_of place value (length old) ∷ []) new
-fresh_load old new loads place value h is f =
+pub numbered_load : (old new : List (ℕ × ℕ)) (loads : List Load) (place value after : ℕ) → BeginsWith new old → after ≤ length old → value ≡ word_after new place → AreNumbered loads old
+    → AreNumbered (loads ++ load_of place value after ∷ []) new
+numbered_load old new loads place value after h knew is f =
     let number = length new in
-    let mine : IsNumberOf new (load_of place value (length old)) number = record {
-      known = length_of new old h;
+    let mine : IsNumberOf new (load_of place value after) number = record {
+      after = omega (arith, knew, length_of new old h);
       made = omega arith;
       value = is ∙ ap (λ stores. word_after stores place) (sym (take_all number new (omega arith)));
     } in
     let all = all_later old new loads f.0 h f.2 in
-    (f.0 ++ number ∷ [], IsNonDecreasingBy-push (λ x. x) f.0 number f.1 (λ d some. each_made new loads f.0 (length f.0 - 1) d all (omega arith)), one_more new loads f.0 (load_of place value (length old)) number all mine)
+    (f.0 ++ number ∷ [], IsNonDecreasingBy-push (λ x. x) f.0 number f.1 (λ d some. each_made new loads f.0 (length f.0 - 1) d all (omega arith)), one_more new loads f.0 (load_of place value after) number all mine)
+
+-- the numbers of what a reader made are those of the loads of calls
+of_calls : (stores : List (ℕ × ℕ)) (loads made : List Load) (numbers : List ℕ) → AllZip IsMade loads made → AllZip (IsNumberOf stores) made numbers → AllZip (IsNumberOf stores) loads numbers
+of_calls stores [] [] [] m f = tt
+of_calls stores [] [] (n ∷ numbers) m f = absurd f
+of_calls stores [] (y ∷ made) numbers m f = absurd m
+of_calls stores (x ∷ loads) [] numbers m f = absurd m
+of_calls stores (x ∷ loads) (y ∷ made) [] m f = absurd f
+of_calls stores (x ∷ loads) (y ∷ made) (n ∷ numbers) m f = (
+  record { after = omega (arith, m.0.knew, f.0.after); made = f.0.made; value = m.0.value ∙ f.0.value ∙ ap (λ place. word_after (take n stores) place) (sym m.0.place) },
+  of_calls stores loads made numbers m.1 f.1,
+)
+
+pub fresh_where_made : (stores : List (ℕ × ℕ)) (calls : List CallLoads) (made : List Load) → AreMade calls made → AreNumbered made stores → Fresh calls stores
+fresh_where_made stores calls made m f = (f.0, f.1, of_calls stores (loads_of calls) made f.0 m f.2)
 
 All-front : {X : Type 0} (P : X → Type 0) (xs ys : List X) → All P (xs ++ ys) → All P xs
 All-front P [] ys a = All-nil P
@@ -67,9 +83,5 @@ untouched old new all place after grew goes_on known none =
     ∙ word_after-elsewhere (take after new) (drop after new) place none'
     ∙ ap (λ stores. word_after stores place) (sym (ap (take after) goes_on.1 ∙ take-append-le after new goes_on.0 within))
 
-pub fresh_at_first : Fresh [] []
-fresh_at_first = ([], (λ i j d le below. absurd (omega arith)), tt)
-
-pub some_of : {X : Type 0} (o : Option X) → IsTrue (is_some o) → (x : X) × (o ≡ Some x)
-some_of None h = absurd (let bad : false ≡ true = h in cc)
-some_of (Some x) h = (x, refl)
+pub numbered_none : (stores : List (ℕ × ℕ)) → AreNumbered [] stores
+numbered_none stores = ([], (λ i j d le below. absurd (omega arith)), tt)

@@ -2,4 +2,5 @@ mod LastStore
 mod Seats
 mod Steps
 mod Freshness
+mod Calls
 mod Rows

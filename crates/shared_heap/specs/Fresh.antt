@@ -1,5 +1,5 @@
 -- What a reader knows of the stores to a heap, and what its loads say of them.
-use Rattle.std.specs.Prelude.{◌≡◌, ◌≢◌, ℕ, Bool, IsTrue, ◌≤◌, List, [], ◌∷◌, ◌++◌, All, length, take, drop}
+use Rattle.std.specs.Prelude.{◌≡◌, ◌≢◌, ◌≤◌, ℕ, Bool, IsTrue, List, [], ◌∷◌, ◌++◌, All, length, take, drop, map, flat_map}
 use Rattle.std.specs.List.{AllZip}
 use Rattle.std.specs.List.Sorted.{IsNonDecreasing}
 use Rattle.mrpc_base.specs.Heap.{word_after}
@@ -14,33 +14,63 @@ HeapId = TableId
 abbrev pub BeginsWith : {X : Type 0} → List X → List X → Type 0
 BeginsWith {X} whole front = (rest : List X) × (whole ≡ front ++ rest)
 
--- a load's number: so many first stores gave its place the value that was loaded; they are no fewer than its reader
--- knew
-pub record IsNumberOf (stores : List (ℕ × ℕ)) (load : Load) (number : ℕ) : Type 0 where
-  pub known : load.knew ≤ number
-  pub made : number ≤ length stores
-  pub value : load.value ≡ word_after (take number stores) load.place
-
--- loads are fresh for a list of stores: each has its number, and the numbers never fall
-abbrev pub Fresh : List Load → List (ℕ × ℕ) → Type 0
-Fresh loads stores = (numbers : List ℕ) × IsNonDecreasing numbers × AllZip (IsNumberOf stores) loads numbers
-
--- no store goes to a place
-abbrev pub NoneTo : ℕ → List (ℕ × ℕ) → Type 0
-NoneTo place stores = All (λ store. store.0 ≢ place) stores
+-- the loads of one call, each a place and a value, and how many stores its message is known to stand behind
+pub record CallLoads : Type 0 where
+  pub after : ℕ
+  pub loads : List (ℕ × ℕ)
 
 abbrev pub load_of : ℕ → ℕ → ℕ → Load
-load_of place value knew = record { place = place; value = value; knew = knew }
+load_of place value after = record { place = place; value = value; after = after }
 
 -- the place and the value of a load
 abbrev pub word_of : Load → ℕ × ℕ
 word_of load = (load.place, load.value)
+
+-- all loads of some calls, in order, each after as many stores as its call
+abbrev pub loads_of : List CallLoads → List Load
+loads_of calls = flat_map (λ call. map (λ word. load_of word.0 word.1 call.after) call.loads) calls
+
+-- a load's number: so many first stores gave its place the value that was loaded; they are no fewer than those that it
+-- is after
+pub record IsNumberOf (stores : List (ℕ × ℕ)) (load : Load) (number : ℕ) : Type 0 where
+  pub after : load.after ≤ number
+  pub made : number ≤ length stores
+  pub value : load.value ≡ word_after (take number stores) load.place
+
+-- each of some loads has its number, and the numbers never fall
+abbrev pub AreNumbered : List Load → List (ℕ × ℕ) → Type 0
+AreNumbered loads stores = (numbers : List ℕ) × IsNonDecreasing numbers × AllZip (IsNumberOf stores) loads numbers
+
+-- the loads of some calls are fresh for a list of stores: there is a number for each load, never falling along all of
+-- them, at least the `after` of the load's call and at most the number of stores, and the loaded value is that of its
+-- place after so many first stores
+abbrev pub Fresh : List CallLoads → List (ℕ × ℕ) → Type 0
+Fresh calls stores = AreNumbered (loads_of calls) stores
+
+-- a load of a call is one that a reader made, which then knew as many stores as the call is after
+pub record IsMade (load made : Load) : Type 0 where
+  pub place : load.place ≡ made.place
+  pub value : load.value ≡ made.value
+  pub knew : load.after ≤ made.after
+
+-- the loads of some calls are these, which a reader made
+abbrev pub AreMade : List CallLoads → List Load → Type 0
+AreMade calls made = AllZip IsMade (loads_of calls) made
+
+-- no store goes to a place
+abbrev pub NoneTo : ℕ → List (ℕ × ℕ) → Type 0
+NoneTo place stores = All (λ store. store.0 ≢ place) stores
 
 -- the writing end of a heap
 pub record Writing : Type 0 where
   pub heap : HeapId
   -- every store so far, a place and a value, in order
   pub stores : List (ℕ × ℕ)
+
+-- the second is the first, later on
+pub record GoesOn (old new : Writing) : Type 0 where
+  pub heap : new.heap ≡ old.heap
+  pub stores : BeginsWith new.stores old.stores
 
 -- a note
 pub record Noting : Type 0 where
@@ -57,7 +87,7 @@ pub record Reading : Type 0 where
   pub known : List (ℕ × ℕ)
   -- whether they are all that there will ever be
   pub whole : Bool
-  -- every load so far, in order
+  -- every load so far, in order, each after as many stores as the reader knew right before it
   pub loads : List Load
 
 -- one load of a place was made, which gave this value
@@ -71,5 +101,13 @@ pub record AfterLoad (old : Reading) (place value : ℕ) (new : Reading) : Type 
   pub untouched : (all : List (ℕ × ℕ)) (after : ℕ) → BeginsWith all new.known → after ≤ length old.known
       → NoneTo place (drop after all) → value ≡ word_after (take after all) place
   pub heap : new.heap ≡ old.heap
+  pub whole : new.whole ≡ old.whole
+  pub none_left : IsTrue old.whole → new.known ≡ old.known
+
+-- some loads were made one after the other, and nothing else
+pub record HasLoaded (old : Reading) (own : List (ℕ × ℕ)) (new : Reading) : Type 0 where
+  pub heap : new.heap ≡ old.heap
+  pub loads : map word_of new.loads ≡ map word_of old.loads ++ own
+  pub grows : BeginsWith new.known old.known
   pub whole : new.whole ≡ old.whole
   pub none_left : IsTrue old.whole → new.known ≡ old.known

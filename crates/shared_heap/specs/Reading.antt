@@ -1,8 +1,8 @@
 -- What the fields of a heap's ends keep.
-use Rattle.std.specs.Prelude.{◌≡◌, ℕ, ◌≤◌, List, [], Some, length}
+use Rattle.std.specs.Prelude.{◌≡◌, ℕ, ◌≤◌, [], length}
 use Rattle.atomic_table.specs.Seated.{TableId}
 use Rattle.mrpc_table.specs.declared.limits.TheConstants.{MIN_HEAP}
-use Rattle.shared_heap.specs.Fresh.{Fresh}
+use Rattle.shared_heap.specs.Fresh.{AreNumbered}
 use Rattle.shared_heap.specs.Rule.{Seated, keeper}
 
 -- the seat of a reader of this table
@@ -11,8 +11,7 @@ pub record IsReading (of table : TableId) (size : ℕ) (me : Seated) : Type 0 wh
   pub sized : size ≡ of.words
   pub some_words : MIN_HEAP ≤ of.words
   pub empty : me.1 ≡ []
-  pub whole : (xs : List (ℕ × ℕ)) → me.0.all ≡ Some xs → me.0.known ≡ xs
-  pub fresh : Fresh me.0.loads me.0.known
+  pub numbered : AreNumbered me.0.loads me.0.known
 
 -- the seat of the writer of this table, after so many stores
 pub record IsWriting (of table : TableId) (size made : ℕ) (me : Seated) : Type 0 where
@@ -26,4 +25,3 @@ pub record IsWriting (of table : TableId) (size made : ℕ) (me : Seated) : Type
 pub record IsNote (count : ℕ) (me : Seated) : Type 0 where
   pub empty : me.1 ≡ []
   pub counted : count ≡ length me.0.known
-  pub whole : (xs : List (ℕ × ℕ)) → me.0.all ≡ Some xs → me.0.known ≡ xs

@@ -9,12 +9,14 @@
 //! whole list once the reader has met the writer's last note.
 #![tactic(auto)]
 
+mod laws;
 mod note;
 mod opening;
 mod reader;
 mod view;
 mod writer;
 
+pub use laws::{calls_are_fresh, loads_change_no_more, writers_go_on};
 pub use note::Note;
 pub use opening::open;
 pub use reader::Reader;

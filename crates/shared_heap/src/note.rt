@@ -14,14 +14,13 @@ pub struct Note {
 }
 
 impl Model for Note {
-    ghost use Rattle.std.specs.Prelude.{is_some};
     ghost use Rattle.shared_heap.specs.Fresh.{Noting};
 
     ghost Value = { Noting };
 
     ghost use Rattle.shared_heap.specs.Reading.{IsNote};
 
-    ghost view = { λ n. record { heap = n.seat.table_id; stores = n.seat.me.0.known; last = is_some n.seat.me.0.all } };
+    ghost view = { λ n. record { heap = n.seat.table_id; stores = n.seat.me.0.known; last = n.seat.me.0.last } };
 
     ghost invariant = { λ n. IsNote n.stores n.seat.me };
 }

@@ -1,6 +1,6 @@
 ghost use Rattle.std.specs.Prelude.{◌≡◌, ◌<◌, ◌≤◌, ℕ, List, [], ◌∷◌, ◌++◌, length, take, drop, ◌||◌, IsTrue};
 ghost use Rattle.mrpc_base.specs.Heap.{word_after};
-ghost use Rattle.shared_heap.specs.Fresh.{BeginsWith, Fresh, NoneTo, load_of, AfterLoad};
+ghost use Rattle.shared_heap.specs.Fresh.{BeginsWith, CallLoads, AreMade, Fresh, NoneTo, load_of, AfterLoad};
 
 use crate::note::Note;
 use crate::view::{Knowing, LoadOne, Settle, Table, View};
@@ -24,13 +24,12 @@ impl Model for Reader {
 
     ghost Value = { Reading };
 
-    ghost use Rattle.std.specs.Prelude.{is_some};
     ghost use Rattle.shared_heap.specs.Reading.{IsReading};
 
     ghost view = { λ r. record {
       heap = r.seat.table_id;
       known = r.seat.me.0.known;
-      whole = is_some r.seat.me.0.all;
+      whole = r.seat.me.0.last;
       loads = r.seat.me.0.loads;
     } };
 
@@ -100,7 +99,7 @@ impl Words for Reader {
 
 impl Reader {
     /// Learns what a note of the same heap knows. It waits for nobody and takes no memory.
-    pub fn meet(&mut self, note: Note)
+    pub fn meet(&mut self, mut note: Note)
         requires { note.heap ≡ self.old.heap }
 
         ensures told { BeginsWith self.new.known note.stores }
@@ -111,17 +110,35 @@ impl Reader {
         ensures loads { self.new.loads ≡ self.old.loads }
         ensures heap { self.new.heap ≡ self.old.heap }
     {
-        let Note { seat, stores: _ } = note;
+        self.hear(&mut note);
+    }
+
+    /// Learns what a note of the same heap knows, as `meet` does, and leaves the note as it is. It waits for nobody and
+    /// takes no memory.
+    pub fn hear(&mut self, note: &mut Note)
+        requires { note.old.heap ≡ self.old.heap }
+
+        ensures told { BeginsWith self.new.known note.old.stores }
+        ensures grows { BeginsWith self.new.known self.old.known }
+        ensures last { IsTrue note.old.last → self.new.known ≡ note.old.stores }
+        ensures none_left { IsTrue self.old.whole → self.new.known ≡ self.old.known }
+        ensures whole { self.new.whole ≡ (self.old.whole || note.old.last) }
+        ensures loads { self.new.loads ≡ self.old.loads }
+        ensures heap { self.new.heap ≡ self.old.heap }
+        ensures note { note.new ≡ note.old }
+    {
         let words = &self.words.shared;
-        words.join_seat::<Knowing>(&mut self.seat, seat);
+        let theirs = words.split_seat::<Knowing>(&mut note.seat);
+        words.join_seat::<Knowing>(&mut self.seat, theirs);
         // The join leaves what was told beside what is known; this load makes one list of both.
         words.load::<Settle>(&mut self.seat, 0);
     }
 
-    /// The law of loads: those of a reader are fresh for the stores that it knows. Where the writer's last note was
-    /// met, these are all stores that there will ever be.
+    /// The law of loads: those of a reader are fresh for the stores that it knows, as the loads of any calls of which
+    /// none says to be after more stores than the reader knew. Where the writer's last note was met, these are all
+    /// stores that there will ever be.
     pub fn loads_are_fresh(&self)
-        ensures { Fresh self.now.loads self.now.known }
+        ensures { (calls : List CallLoads) → AreMade calls self.now.loads → Fresh calls self.now.known }
     {
         let _ = &self.seat;
     }

@@ -3,11 +3,11 @@ use atomic_table::{Join, Play, Split, TableRule};
 use std::alloc::Global;
 use std::collections::LinkedList;
 
-/// A load as contracts see it: its place and its value, and how many stores its reader knew right before it.
+/// A load as contracts see it: its place and its value, and how many stores are known to have been made before it.
 pub struct Load {
     pub place: u64,
     pub value: u64,
-    pub knew: u64,
+    pub after: u64,
 }
 
 // What one seat knows.
@@ -15,9 +15,11 @@ pub struct View {
     // The first stores, as far as the seat has seen them, and as far as it was told of them.
     pub known: LinkedList<(u64, u64)>,
     pub told: LinkedList<(u64, u64)>,
-    // All stores so far, at the one seat without which there are no more, and as that seat's holder told it.
-    pub all: Option<LinkedList<(u64, u64)>>,
-    pub told_all: Option<LinkedList<(u64, u64)>>,
+    // Whether it may store: it then knows all stores so far, and no other seat may.
+    pub writes: bool,
+    // Whether there will never be more stores than it has seen, and than it was told of.
+    pub last: bool,
+    pub told_last: bool,
     pub loads: LinkedList<Load>,
 }
 
@@ -69,6 +71,17 @@ impl Split<View> for Knowing {
     ghost left = { λ v. v };
 
     ghost right = { knowing };
+}
+
+// A new seat that knows what this one knows, after which nobody stores any more.
+pub struct Ending;
+
+impl Split<View> for Ending {
+    ghost use Rattle.shared_heap.specs.Rule.{ended};
+
+    ghost left = { ended };
+
+    ghost right = { ended };
 }
 
 impl Join<View> for Knowing {

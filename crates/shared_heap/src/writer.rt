@@ -1,7 +1,7 @@
 ghost use Rattle.std.specs.Prelude.{◌≡◌, ◌<◌, ◌≤◌, ◌+◌, ◌^◌, true, false, [], ◌∷◌, ◌++◌, length};
 
 use crate::note::Note;
-use crate::view::{Knowing, Store, Table, View};
+use crate::view::{Ending, Knowing, Store, Table, View};
 use atomic_table::Seat;
 use mrpc_base::{Room, Stores};
 use std::alloc::Global;
@@ -33,12 +33,15 @@ impl Model for Writer {
 
 impl Stores for Writer {
     ghost use Rattle.std.specs.Prelude.{◌-◌, ◌^◌};
+    ghost use Rattle.shared_heap.specs.Fresh.{GoesOn};
 
     ghost words = { λ w. w.heap.words };
 
     ghost stores = { λ w. w.stores };
 
     ghost room = { λ _. 2 ^ 64 - 1 };
+
+    ghost since = { GoesOn };
 
     fn size(&self) -> u64
         ensures { result ≡ self.now.heap.words }
@@ -107,10 +110,14 @@ impl Writer {
         ensures last { result.last ≡ true }
     {
         let Writer {
-            words: _,
-            seat,
+            words,
+            mut seat,
             made,
         } = self;
-        Note { seat, stores: made }
+        let last = words.shared.split_seat::<Ending>(&mut seat);
+        Note {
+            seat: last,
+            stores: made,
+        }
     }
 }

@@ -3,4 +3,8 @@ mod Tickets
 mod Steps
 mod Cap
 mod Tenants
+mod Joining
+mod Splitting
+mod Shares
+mod Together
 mod Rows

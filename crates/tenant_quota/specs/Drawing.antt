@@ -1,6 +1,6 @@
 -- The tickets of a quota, as the seats of its table have drawn them.
-use Rattle.std.specs.Prelude.{ℕ, ◌<◌, ◌^◌, ◌==◌, nat_lt, List, map, filter, length, count_by, IsPermutation, Option, Some, None, slice_get}
-use Rattle.std.specs.List.{range_with_len}
+use Rattle.std.specs.Prelude.{◌≡◌, ℕ, ◌+◌, ◌-◌, ◌*◌, ◌/◌, ◌<◌, ◌≤◌, ◌^◌, ◌==◌, nat_lt, List, [], ◌∷◌, ◌++◌, map, filter, length, count_by, IsPermutation, Option, Some, None, slice_get}
+use Rattle.std.specs.List.{AllZip, range_with_len}
 use Rattle.atomic_table.specs.Seated.{TableId}
 
 -- which quota it is, with how many windows it has
@@ -41,5 +41,44 @@ abbrev pub told_in : ℕ → Option Drawing → Option (List ℕ)
 told_in window None = None
 told_in window (Some seat) = Some (tickets_in window seat.draws)
 
+-- the tickets of the seat of a tenant, which goes by its place in the list, in a window
 abbrev pub drawn_by : List Drawing → ℕ → ℕ → Option (List ℕ)
 drawn_by seats tenant window = told_in window (slice_get seats tenant)
+
+-- the second seat is the first, later on: it may have drawn more
+pub record IsLater (old new : Drawing) : Type 0 where
+  pub quota : new.quota ≡ old.quota
+  pub share : new.share ≡ old.share
+  pub draws : (more : List (ℕ × ℕ)) × (new.draws ≡ old.draws ++ more)
+
+-- as many seats, each of which is the one at its place, later on
+abbrev pub AreLater : List Drawing → List Drawing → Type 0
+AreLater old new = AllZip IsLater old new
+
+-- the quotas and the shares of some seats, in their order
+abbrev pub quotas_of : List Drawing → List QuotaId
+quotas_of seats = map (λ seat. seat.quota) seats
+
+abbrev pub shares_of : List Drawing → List ℕ
+shares_of seats = map (λ seat. seat.share) seats
+
+-- what a seat keeps when it is split, and the seat that is split off: it has half of the share, rounded down
+abbrev pub kept_half : Drawing → Drawing
+kept_half seat = record { quota = seat.quota; draws = seat.draws; share = seat.share - seat.share / 2 }
+
+abbrev pub new_half : Drawing → Drawing
+new_half seat = record { quota = seat.quota; draws = []; share = seat.share / 2 }
+
+-- a seat that took in another of its quota
+abbrev pub together : Drawing → Drawing → Drawing
+together seat other = record { quota = seat.quota; draws = seat.draws ++ other.draws; share = seat.share + other.share }
+
+-- each seat, having taken in the one at its place, where there is one
+abbrev pub all_together : List Drawing → List Drawing → List Drawing
+all_together [] others = []
+all_together (seat ∷ seats) [] = seat ∷ seats
+all_together (seat ∷ seats) (other ∷ others) = together seat other ∷ all_together seats others
+
+-- a share that is left of all shares after so many halvings at most
+abbrev pub WasSplit : ℕ → ℕ → Type 0
+WasSplit times share = all_shares ≤ share * 2 ^ times

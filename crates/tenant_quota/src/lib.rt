@@ -9,11 +9,13 @@
 //! [`Tickets`](mrpc_base::Tickets) of these.
 #![tactic(auto)]
 
+mod laws;
 mod opening;
 mod seat;
 mod seats;
 mod view;
 
+pub use laws::{seats_come_together, seats_stay, shares_suffice};
 pub use opening::open;
 pub use seat::Seat;
 pub use seats::Seats;

@@ -1,5 +1,10 @@
-ghost use Rattle.std.specs.Prelude.{◌≡◌, ◌≢◌, ◌<◌, ◌⊎◌, [], ◌∷◌, ◌++◌, ℕ, length, IfSome, IsSomeAnd, OnOk, OnErr};
-ghost use Rattle.tenant_quota.specs.Drawing.{drawn_by};
+ghost use Rattle.std.specs.Prelude.{◌≡◌, ◌≢◌, ◌<◌, ◌≤◌, ◌⊎◌, List, [], ◌∷◌, ◌++◌, ℕ, All, length, map};
+ghost use Rattle.std.specs.Prelude.{IfOk, IfSome, IsSomeAnd, OnOk, OnErr};
+ghost use Rattle.std.specs.Vec.{vec_capacity};
+ghost use Rattle.mrpc_base.specs.declared.tickets.TheConstants.{WINDOWS};
+ghost use Rattle.tenant_quota.specs.Drawing.{AllOnce, AreLater, Drawing, all_shares, drawn_by};
+ghost use Rattle.tenant_quota.specs.Drawing.{all_together, kept_half, new_half, quotas_of};
+ghost use Rattle.tenant_quota.specs.Splitting.{AreOfQuotas, AreSplit};
 
 use crate::seat::Seat;
 use mrpc_base::{Tickets, WINDOWS};
@@ -43,15 +48,102 @@ impl Seats {
         self.seats.push(seat)?;
         Ok(())
     }
+
+    /// New seats of the same quotas, which have no draws and half of the shares of these, rounded down. Where there is no
+    /// memory, nothing changes.
+    pub fn split(&mut self, alloc: Global) -> Result<Seats, AllocError>
+        requires { All (λ seat. 2 ≤ seat.share) self.old }
+
+        ensures halves { IfOk result (λ halves. halves ≡ map new_half self.old) }
+        ensures kept { IfOk result (λ halves. self.new ≡ map kept_half self.old) }
+        ensures same { OnErr result (self.new ≡ self.old) }
+    {
+        let mut seats = Vec::with_capacity(alloc, self.seats.len())?;
+        let split = split_each(&mut self.seats, &mut seats);
+        let halves = Seats { seats };
+        match split {
+            Ok(()) => Ok(halves),
+            Err(fault) => {
+                self.take_in(halves);
+                Err(fault)
+            }
+        }
+    }
+
+    /// Takes in other seats of the same quotas, each by that of the same tenant, with their draws and their shares. It
+    /// waits for nobody and takes no memory.
+    pub fn join(&mut self, other: Seats)
+        requires { quotas_of other ≡ quotas_of self.old }
+        ensures { self.new ≡ all_together self.old other }
+    {
+        self.take_in(other);
+    }
+
+    // The same, where the others may be fewer.
+    fn take_in(&mut self, mut other: Seats)
+        requires { AreOfQuotas self.old other }
+        ensures { self.new ≡ all_together self.old other }
+    {
+        while let Some(seat) = other.seats.pop() {
+            self.seats[other.seats.len()].join(seat);
+        }
+    }
+
+    /// The seats, from the first tenant's on.
+    pub fn into_vec(self) -> Vec<Seat>
+        ensures { result.items ≡ self }
+    {
+        self.seats
+    }
+
+    /// The law of tickets: of each seat that has all shares of its quota, the tickets of each window are 0, 1, 2 and so
+    /// on, each once, if they are fewer than 2^64. They are all that were drawn from the quota.
+    pub fn tickets_are_distinct(&self)
+        ensures { All (λ seat. seat.share ≡ all_shares → AllOnce WINDOWS seat.draws) self.now }
+    {
+        for seat in self.seats.iter() {
+            seat.tickets_are_distinct();
+        }
+    }
+}
+
+// Splits seats, from the first on, up to one for which there is no memory, and gives a half of each.
+fn split_each(seats: &mut Vec<Seat>, halves: &mut Vec<Seat>) -> Result<(), AllocError>
+    requires none { halves.old.items ≡ [] }
+    requires room { length seats.old.items ≤ vec_capacity halves.old }
+    requires shares { All (λ seat. 2 ≤ seat.share) seats.old.items }
+
+    ensures split { AreSplit seats.old.items (length halves.new.items) seats.new.items halves.new.items }
+    ensures all { OnOk result (length seats.old.items ≤ length halves.new.items) }
+{
+    while halves.len() < seats.len() {
+        let half = seats[halves.len()].split()?;
+        push_reserved(halves, half);
+    }
+    Ok(())
+}
+
+// Adds a seat for which there is room.
+fn push_reserved(seats: &mut Vec<Seat>, seat: Seat)
+    requires { length seats.old.items < vec_capacity seats.old }
+    ensures pushed { seats.new.items ≡ seats.old.items ++ seat ∷ [] }
+    ensures capacity { vec_capacity seats.old ≤ vec_capacity seats.new }
+{
+    match seats.push(seat) {
+        Ok(()) => (),
+        Err(_) => unreachable!(),
+    }
 }
 
 impl Tickets for Seats {
     ghost use Rattle.std.specs.Prelude.{◌<◌, length};
-    ghost use Rattle.tenant_quota.specs.Drawing.{drawn_by};
+    ghost use Rattle.tenant_quota.specs.Drawing.{AreLater, drawn_by};
 
     ghost knows = { λ seats tenant. tenant < length seats };
 
     ghost drawn = { drawn_by };
+
+    ghost since = { AreLater };
 
     fn draw(&mut self, tenant: u32, window: u64) -> u64
         requires known { tenant < length self.old }
@@ -62,6 +154,7 @@ impl Tickets for Seats {
         ensures others { (t w : ℕ) → t < length self.old → w < WINDOWS → (t ≢ tenant) ⊎ (w ≢ window)
             → drawn_by self.new t w ≡ drawn_by self.old t w }
         ensures tenants { length self.new ≡ length self.old }
+        ensures same_quotas { (first : List Drawing) → AreLater first self.old → AreLater first self.new }
     {
         self.seats[tenant as usize].draw(window)
     }

@@ -22,11 +22,11 @@ begins-further a b c h g = (g.0 ++ h.0, h.1 ∙ ap (λ z. z ++ h.0) g.1 ∙ appe
 length-begun : (a b : Words) → BeginsWith a b → length b ≤ length a
 length-begun a b h = omega (arith, ap length h.1, length-append b h.0)
 
-pub record GoesOn (old new : Reading) : Type 0 where
+record GoesOn (old new : Reading) : Type 0 where
   pub known : BeginsWith new.known old.known
   pub heap : new.heap ≡ old.heap
 
-pub goes-on : (old new : Reading) (own : Words) → AfterLoads AfterLoad old own new → GoesOn old new
+goes-on : (old new : Reading) (own : Words) → AfterLoads AfterLoad old own new → GoesOn old new
 goes-on old new [] h = subst (GoesOn old) (sym h) (record { known = ([], sym (append-nil old.known)); heap = refl })
 goes-on old new (load ∷ own) h =
     let rest = goes-on h.0 new own h.2 in

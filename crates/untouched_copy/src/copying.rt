@@ -1,6 +1,6 @@
 //! The copy of a message that a reader loads.
 
-ghost use Rattle.std.specs.Prelude.{◌≡◌, ◌<◌, ◌≤◌, ◌++◌, ℕ, List, IfOk, length, map};
+ghost use Rattle.std.specs.Prelude.{◌≡◌, ◌<◌, ◌≤◌, [], ◌∷◌, ◌++◌, ℕ, List, IfOk, length, map};
 ghost use Rattle.mrpc_base.specs.Heap.{AfterLoads};
 ghost use Rattle.mrpc_table.specs.Valid.{IsValid};
 ghost use Rattle.mrpc_table.specs.declared.limits.TheConstants.{MAX_HEAP, MAX_LOADS, MIN_HEAP};
@@ -9,13 +9,13 @@ ghost use Rattle.graph_form.specs.Malformed.{IsMalformed};
 ghost use Rattle.graph_form.specs.Placed.{Placed, loads, IsSound};
 ghost use Rattle.graph_copy.specs.Answers.{IfCopied, IfMalformed, loads_of};
 ghost use Rattle.graph_copy.specs.Copies.{since, IsCopied};
-ghost use Rattle.shared_heap.specs.Fresh.{AfterLoad, BeginsWith, word_of};
+ghost use Rattle.shared_heap.specs.Fresh.{AfterLoad, BeginsWith, CallLoads, Fresh, word_of};
 ghost use Rattle.untouched_copy.specs.Untouched.{StandsUntouched};
 
 use crate::laws::untouched_graph_is_copied;
 use graph_copy::{CopyResult, copy};
 use mrpc_table::{Memory, Table};
-use shared_heap::Reader;
+use shared_heap::{Reader, calls_are_fresh, loads_change_no_more};
 use std::alloc::Global;
 
 /// Copies the message of a type, by its place in the table, at an address of a heap, from at most `limit` loads, while
@@ -51,6 +51,14 @@ pub fn copy_message(
     ensures heap { reader.new.heap ≡ reader.old.heap }
     ensures grows { BeginsWith reader.new.known reader.old.known }
 
+    // They go on being fresh: as the loads of one more call, after as many stores as the reader knew, behind those of
+    // earlier calls.
+    ensures fresh { (calls : List CallLoads) (after : ℕ) → Fresh calls reader.old.known
+        → after ≤ length reader.old.known → Fresh (calls ++ (record {
+          after = after;
+          loads = since (map word_of reader.old.loads) (map word_of reader.new.loads);
+        }) ∷ []) reader.new.known }
+
     // It is the copy that `graph_copy` makes, of exactly these loads.
     ensures copied { IfOk result (IfCopied (IsCopied table.now reader.old.heap.words msg addr
         (since (map word_of reader.old.loads) (map word_of reader.new.loads)))) }
@@ -60,5 +68,7 @@ pub fn copy_message(
         loads_of answer ≡ length (since (map word_of reader.old.loads) (map word_of reader.new.loads))) }
 {
     untouched_graph_is_copied();
+    loads_change_no_more();
+    calls_are_fresh();
     copy(alloc, reader, table, msg, addr, limit)
 }

@@ -2,7 +2,6 @@ use Rattle.std.proofs.Common.{map, ap, subst, ◌∙◌}
 use Rattle.mrpc_base.specs.Heap.{AfterLoads}
 use Rattle.graph_copy.specs.Copies.{since}
 use Rattle.shared_heap.specs.Fresh.{Reading, AfterLoad, word_of}
-use Rattle.untouched_copy.proofs.Steadiness.{goes-on}
 use Rattle.untouched_copy.proofs.Answering.{answered}
 use Rattle.untouched_copy.proofs.copying.copy_message.Goals as goal
 
@@ -31,7 +30,7 @@ pub returns-clause-heap : goal.returns-clause-heap
 returns-clause-heap c =
     let own = since (map word_of c.args.reader.now.loads) (map word_of c.copy.new.words.loads) in
     let only = c.copy.ensures.only_loads in
-    (goes-on only.roomed c.copy.new.words own only.loads).heap ∙ ap (λ (r : Reading). r.heap) only.room
+    (c.loads_change_no_more.ensures only.roomed c.copy.new.words own only.loads).heap ∙ ap (λ (r : Reading). r.heap) only.room
 
 pub returns-clause-grows : goal.returns-clause-grows
 returns-clause-grows c =
@@ -41,4 +40,14 @@ returns-clause-grows c =
     let only = c.copy.ensures.only_loads in
     let loaded : AfterLoads AfterLoad old own new
     = subst (λ (r : Reading). AfterLoads AfterLoad r own new) only.room only.loads in
-    (goes-on old new own loaded).known
+    (c.loads_change_no_more.ensures old new own loaded).grows
+
+pub returns-clause-fresh : goal.returns-clause-fresh
+returns-clause-fresh c = λ calls after were knew.
+    let old = c.args.reader.now in
+    let new = c.copy.new.words in
+    let own = since (map word_of old.loads) (map word_of new.loads) in
+    let only = c.copy.ensures.only_loads in
+    let loaded : AfterLoads AfterLoad old own new
+    = subst (λ (r : Reading). AfterLoads AfterLoad r own new) only.room only.loads in
+    c.calls_are_fresh.ensures.one_more calls after own old new were knew loaded

@@ -1,8 +1,8 @@
-use Rattle.std.proofs.Common.{◌<◌, ◌≤◌, length, is_some, sym, ap, ◌∙◌, arith}
+use Rattle.std.proofs.Common.{◌<◌, ◌≤◌, length, sym, ap, ◌∙◌, arith}
 use Rattle.std.specs.Arc.{arc_value}
 use Rattle.atomic_table.specs.Seated.{TableId}
 use Rattle.shared_heap.proofs.Steps.{loads_it}
-use Rattle.shared_heap.proofs.Freshness.{fresh_load, untouched, some_of}
+use Rattle.shared_heap.proofs.Freshness.{numbered_load, untouched}
 use Rattle.shared_heap.proofs.reader.ReaderWords.load.Goals as goal
 
 pub load-requires : goal.load-requires
@@ -25,8 +25,7 @@ invariant_of-self c =
       sized = i.sized ∙ sym words;
       some_words = omega (arith, i.some_words, words);
       empty = l.slots ∙ i.empty;
-      whole = λ xs e. l.learns.all xs (sym l.all ∙ e);
-      fresh = rw l.loads (fresh_load _ _ _ c.args.place c.load.result l.learns.known l.value i.fresh);
+      numbered = rw l.loads (numbered_load _ _ _ c.args.place c.load.result _ l.learns.known (omega arith) l.value i.numbered);
     }
 
 pub returns-clause-untouched : goal.returns-clause-untouched
@@ -45,6 +44,6 @@ returns-clause-changes c =
       last = l.value;
       untouched = λ all after goes_on known none. l.value ∙ untouched _ _ all c.args.place after l.learns.known goes_on known none;
       heap = c.load.ensures.0;
-      whole = ap is_some l.all;
-      none_left = λ whole. let all = some_of c.self.inside.seat.me.0.all whole in l.learns.all all.0 all.1 ∙ sym (i.whole all.0 all.1);
+      whole = l.last;
+      none_left = l.learns.last;
     })

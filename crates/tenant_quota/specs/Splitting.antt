@@ -1,0 +1,24 @@
+-- The code's own: seats of which some first ones were split, and others that are taken in.
+use Rattle.std.specs.Prelude.{◌≡◌, ℕ, zero, suc, List, [], ◌∷◌, ⊤}
+use Rattle.tenant_quota.specs.Drawing.{Drawing, kept_half, new_half}
+
+abbrev pub split_front : ℕ → List Drawing → List Drawing
+split_front zero seats = seats
+split_front (suc n) [] = []
+split_front (suc n) (s ∷ seats) = kept_half s ∷ split_front n seats
+
+abbrev pub halves_of : ℕ → List Drawing → List Drawing
+halves_of zero seats = []
+halves_of (suc n) [] = []
+halves_of (suc n) (s ∷ seats) = new_half s ∷ halves_of n seats
+
+-- the first of some seats were split, so many, and these are the halves that they gave
+pub record AreSplit (old : List Drawing) (count : ℕ) (new halves : List Drawing) : Type 0 where
+  pub kept : new ≡ split_front count old
+  pub given : halves ≡ halves_of count old
+
+-- each of the others is of the quota of the seat at its place, which is there
+abbrev pub AreOfQuotas : List Drawing → List Drawing → Type 0
+AreOfQuotas seats [] = ⊤
+AreOfQuotas [] (other ∷ others) = ⊥
+AreOfQuotas (seat ∷ seats) (other ∷ others) = (other.quota ≡ seat.quota) × AreOfQuotas seats others

@@ -1,0 +1,46 @@
+//! The laws of seats and shares. The functions do nothing; their clauses hold.
+
+ghost use Rattle.std.specs.Prelude.{◌≡◌, ◌≤◌, ◌+◌, ◌/◌, ◌<◌, ◌++◌, ℕ, List, All, Some, map};
+ghost use Rattle.tenant_quota.specs.Drawing.{AreLater, Drawing, WasSplit, all_shares, drawn_by};
+ghost use Rattle.tenant_quota.specs.Drawing.{all_together, kept_half, new_half, quotas_of, shares_of};
+
+/// A seat with all shares may be split 63 times, and what is left of its share each time may be split again, up to then.
+/// So may each of some seats.
+pub fn shares_suffice()
+    ensures whole { WasSplit 0 all_shares }
+    ensures once_more { (times share kept : ℕ) → WasSplit times share → kept + share / 2 ≡ share
+        → WasSplit (times + 1) kept }
+    ensures enough { (times share : ℕ) → WasSplit times share → times < 64 → 2 ≤ share }
+
+    ensures seats_once_more { (times : ℕ) (seats : List Drawing) → All (λ seat. WasSplit times seat.share) seats
+        → All (λ seat. WasSplit (times + 1) seat.share) (map kept_half seats) }
+    ensures seats_enough { (times : ℕ) (seats : List Drawing) → All (λ seat. WasSplit times seat.share) seats
+        → times < 64 → All (λ seat. 2 ≤ seat.share) seats }
+{}
+
+/// Seats that were split and come together again are as before. Where they drew meanwhile they have the quotas and the
+/// shares that they had, and the tickets of a tenant's window are those that both drew.
+pub fn seats_come_together()
+    ensures halves { (seats : List Drawing) → all_together (map kept_half seats) (map new_half seats) ≡ seats }
+    ensures drawn { (seats others : List Drawing) (tenant window : ℕ) (mine theirs : List ℕ)
+        → drawn_by seats tenant window ≡ Some mine → drawn_by others tenant window ≡ Some theirs
+        → drawn_by (all_together seats others) tenant window ≡ Some (mine ++ theirs) }
+
+    ensures kept_quotas { (seats : List Drawing) → quotas_of (map kept_half seats) ≡ quotas_of seats }
+    ensures new_quotas { (seats : List Drawing) → quotas_of (map new_half seats) ≡ quotas_of seats }
+    ensures quotas { (seats others : List Drawing) → quotas_of (all_together seats others) ≡ quotas_of seats }
+    ensures shares { (old new others later : List Drawing) → shares_of new ≡ shares_of old
+        → shares_of later ≡ shares_of others
+        → shares_of (all_together new later) ≡ shares_of (all_together old others) }
+
+    ensures later_quotas { (old new : List Drawing) → AreLater old new → quotas_of new ≡ quotas_of old }
+    ensures later_shares { (old new : List Drawing) → AreLater old new → shares_of new ≡ shares_of old }
+    ensures all_shares { (old new : List Drawing) → shares_of new ≡ shares_of old
+        → All (λ seat. seat.share ≡ all_shares) old → All (λ seat. seat.share ≡ all_shares) new }
+{}
+
+/// Seats are themselves, later on, and what is later than seats that are later is later.
+pub fn seats_stay()
+    ensures themselves { (seats : List Drawing) → AreLater seats seats }
+    ensures later { (first next last : List Drawing) → AreLater first next → AreLater next last → AreLater first last }
+{}
