@@ -7,7 +7,7 @@ use base.Stored.{Gv, gnil, gnum, gcons}
 use Rattle.mrpc_table.specs.Node.{Node}
 use Rattle.mrpc_table.specs.NodeCode.{node_code}
 use Rattle.policy_access.specs.Verdict.{AccessPolicy, verdict}
-use Rattle.policy_access.specs.declared.call.Call.{Call}
+use Rattle.mrpc_table.specs.declared.call.Call.{Call}
 use Rattle.policy_rate.specs.declared.rate.Rate.{Rate as RatePolicy}
 use Rattle.policy_redact.specs.Redacting.{cleared}
 use Rattle.policy_redact.specs.declared.redact.Clear.{Clear}

@@ -3,7 +3,8 @@ use Rattle.std.proofs.Common.{true, false, [], ◌∷◌, refl, arith, codes}
 use Rattle.mrpc_table.specs.Node.{no_fields, field, one, number}
 use Rattle.mrpc_table.specs.declared.table.Kind.TheVariants.{Uint64}
 use Rattle.mrpc_table.specs.declared.table.Label.TheVariants.{Plain}
-use Rattle.policy_access.specs.declared.call.Call.{Call}
+use Rattle.mrpc_table.specs.declared.call.Call.{Call}
+use Rattle.mrpc_table.specs.declared.call.Sort.TheVariants.{Request}
 use Rattle.policy_rate.specs.declared.rate.Rate.{Rate as RatePolicy}
 use Rattle.policy_redact.specs.declared.redact.Clear.{Clear}
 use Rattle.engine_core.specs.Answers.{Past, nothing, charged, drawn, counted, Answer, pass, deny, hold, refuse, over, note, redact, Answers, Allows}
@@ -72,7 +73,7 @@ nothing_to_clear = answers.is_clear [] refl refl refl
 
 -- the field 1 of requests of the first method
 abbrev clear_first : Clear
-clear_first = record { method = 0; reply = false; path = record { way = []; number = 1; kind = Uint64; label = Plain } }
+clear_first = record { method = 0; sort = Request; path = record { way = []; number = 1; kind = Uint64; label = Plain } }
 
 first_redaction : ComesOut (Redact (clear_first ∷ [])) 0 0 request nothing Redacted
 first_redaction = turns.is_redacted (answers.redacts (clear_first ∷ []) refl (λ same. cc) refl) refl

@@ -5,7 +5,7 @@ use Rattle.std.proofs.lemmas.Grind.{common_steps}
 use Rattle.std.proofs.lemmas.Bool.Decides.{nat_tests}
 use Rattle.mrpc_table.specs.Weight.{weight}
 use Rattle.mrpc_table.specs.declared.table.Table.{Table}
-use Rattle.policy_access.specs.Call.{IsCallOf}
+use Rattle.mrpc_table.specs.Calls.{IsCallOf}
 use Rattle.policy_access.specs.Verdict.{verdict}
 use Rattle.engine_core.specs.Policies.{IsAccess}
 use Rattle.engine_core.specs.Chains.{Entry}

@@ -1,7 +1,7 @@
 -- What an entry of a chain answers to a standing call (this project's own).
 use Rattle.std.specs.Prelude.{◌≡◌, ◌≢◌, ℕ, ◌-◌, ◌/◌, ◌<◌, ◌≤◌, min, true, false, List, Option, Some, None}
 use Rattle.policy_access.specs.Verdict.{AccessPolicy, verdict}
-use Rattle.policy_access.specs.declared.call.Call.{Call}
+use Rattle.mrpc_table.specs.declared.call.Call.{Call}
 use Rattle.policy_rate.specs.declared.rate.Rate.{Rate as RatePolicy}
 use Rattle.policy_redact.specs.Redacting.{cleared}
 use Rattle.policy_redact.specs.declared.redact.Clear.{Clear}

@@ -2,7 +2,7 @@
 use Rattle.std.specs.Prelude.{◌≡◌, ℕ, ◌≤◌, ◌==◌, Bool, true, false, not, List, ◌∷◌, [], filter, find, Option, Some, None, option_map}
 use Rattle.std.specs.List.{list_any}
 use Rattle.policy_access.specs.Verdict.{verdict}
-use Rattle.policy_access.specs.declared.call.Call.{Call}
+use Rattle.mrpc_table.specs.declared.call.Call.{Call}
 use Rattle.engine_core.specs.Answers.{Past, nothing, charged, drawn, counted}
 use Rattle.engine_core.specs.Chains.{Entry}
 use Rattle.engine_core.specs.declared.policy.Policy.{Policy}

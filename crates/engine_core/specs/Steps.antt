@@ -2,7 +2,7 @@
 use Rattle.std.specs.Prelude.{◌≡◌, ◌≢◌, ℕ, ◌-◌, ◌/◌, ◌<◌, ◌≤◌, min, true, false, List, [], ◌∷◌, ◌++◌, length}
 use Rattle.mrpc_table.specs.Weight.{weight}
 use Rattle.mrpc_table.specs.declared.table.Table.{Table}
-use Rattle.policy_access.specs.Call.{IsCallOf}
+use Rattle.mrpc_table.specs.Calls.{IsCallOf}
 use Rattle.policy_access.specs.Verdict.{AccessPolicy, verdict}
 use Rattle.policy_rate.specs.declared.rate.Rate.{Rate as RatePolicy}
 use Rattle.policy_redact.specs.Redacting.{cleared, cleared_call}

@@ -1,6 +1,6 @@
 -- How a turn of an entry comes out for a standing call.
 use Rattle.std.specs.Prelude.{◌≡◌, ◌≢◌, ℕ, Bool, true, false, ◌⊎◌, List, [], ◌∷◌, ◌++◌, Option, IfSome, IsSomeAnd}
-use Rattle.policy_access.specs.declared.call.Call.{Call}
+use Rattle.mrpc_table.specs.declared.call.Call.{Call}
 use Rattle.policy_redact.specs.Redacting.{cleared_call}
 use Rattle.engine_core.specs.Answers.{Past, Answer, pass, deny, hold, refuse, over, note, redact, Answers, past_after, level_left}
 use Rattle.engine_core.specs.declared.policy.Policy.{Policy}

@@ -66,7 +66,7 @@ impl Model for State {
 impl Engine {
     ghost use Rattle.mrpc_table.specs.Weight.{weight};
     ghost use Rattle.mrpc_table.specs.declared.table.Table.{Table as TheTable};
-    ghost use Rattle.policy_access.specs.Call.{IsCallOf};
+    ghost use Rattle.mrpc_table.specs.Calls.{IsCallOf};
     ghost use Rattle.engine_core.specs.Policies.{IsAccess, IsPolicy, KnowsTenantOf, first_level, is_same_kind, level_at, level_under};
     ghost use Rattle.engine_core.specs.Chains.{Entry, new_entry, upgraded};
     ghost use Rattle.engine_core.specs.Answers.{Answers, hold, level_left, past_after};

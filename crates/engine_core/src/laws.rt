@@ -1,7 +1,7 @@
 //! What holds of answers, of marks and of chains. These functions do nothing; their clauses hold.
 
 ghost use Rattle.std.specs.Prelude.{◌≡◌, ◌⊎◌, ℕ, None};
-ghost use Rattle.policy_access.specs.declared.call.Call.{Call};
+ghost use Rattle.mrpc_table.specs.declared.call.Call.{Call};
 ghost use Rattle.engine_core.specs.Answers.{Answer, Answers, Past, ticket_in};
 ghost use Rattle.engine_core.specs.Chains.{Chain, Changes, Entry, IsChain, Refusal, Refuses};
 ghost use Rattle.engine_core.specs.Marks.{IsTrueFor, StandingCall, note_of};

@@ -4,14 +4,14 @@ ghost use Rattle.std.specs.Prelude.{◌≡◌, ◌≢◌, ◌≤◌, ◌<◌, �
 ghost use Rattle.std.specs.Bool.{OnTrue, OnFalse};
 ghost use Rattle.mrpc_table.specs.Weight.{weight};
 ghost use Rattle.mrpc_table.specs.declared.table.Table.{Table as TheTable};
-ghost use Rattle.policy_access.specs.Call.{IsCallOf};
+ghost use Rattle.mrpc_table.specs.Calls.{IsCallOf};
 ghost use Rattle.policy_redact.specs.Redacting.{FitsSomeTable, cleared_call};
 ghost use Rattle.engine_core.specs.Marks.{IsOneEach, StandingCall, note_of, other_marks};
 ghost use Rattle.engine_core.specs.Steps.{IsUnallowed, with_mark};
 
 use crate::engine::Engine;
 use crate::mark::{Marks, Note, forget_allowing, keep_of, set};
-use policy_access::Call;
+use mrpc_table::Call;
 use policy_redact::Redact;
 use std::marker::Model;
 
@@ -28,7 +28,7 @@ impl Model for Standing {
     ghost Value = { StandingCall };
 
     ghost use Rattle.std.specs.Coded.{codes};
-    ghost use Rattle.policy_access.specs.contracts.call.Call as c;
+    ghost use Rattle.mrpc_table.specs.contracts.call.Call as c;
 
     ghost coded = { Prim.hlevel (codes, c.the_row.coded) };
 

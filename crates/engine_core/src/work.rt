@@ -2,7 +2,7 @@
 
 ghost use Rattle.std.specs.Prelude.{◌≡◌, ◌≢◌, ◌<◌, ◌≤◌, ℕ, MatchOption, false, length};
 ghost use Rattle.std.specs.Bool.{OnTrue, OnFalse};
-ghost use Rattle.policy_access.specs.Call.{IsCallOf};
+ghost use Rattle.mrpc_table.specs.Calls.{IsCallOf};
 ghost use Rattle.policy_rate.specs.Level.{IsRate};
 ghost use Rattle.policy_redact.specs.Redacting.{FitsSomeTable};
 ghost use Rattle.engine_core.specs.Answers.{drawn, nothing};

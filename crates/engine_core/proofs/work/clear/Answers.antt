@@ -1,5 +1,5 @@
 use Rattle.std.proofs.Common.{◌≡◌, refl, ap, sym, ◌∙◌}
-use Rattle.policy_access.specs.declared.call.Call.{Call}
+use Rattle.mrpc_table.specs.declared.call.Call.{Call}
 use Rattle.engine_core.specs.Marks.{StandingCall}
 use Rattle.engine_core.specs.Steps.{is_clear, redacts}
 use Rattle.engine_core.proofs.work.clear.Goals as goal

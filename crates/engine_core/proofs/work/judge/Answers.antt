@@ -1,6 +1,6 @@
 use Rattle.std.proofs.Common.{◌≡◌, Bool, true, false, not, refl, ap, sym, ◌∙◌, arith}
 use Rattle.std.proofs.lemmas.Grind.{common_steps}
-use Rattle.policy_access.specs.declared.call.Verdict.{Verdict}
+use Rattle.policy_access.specs.declared.verdict.Verdict.{Verdict}
 use Rattle.engine_core.specs.declared.outcome.Noted.TheVariants.{Nothing}
 use Rattle.engine_core.specs.declared.outcome.Why.TheVariants.{Denied}
 use Rattle.engine_core.specs.declared.outcome.Outcome.TheVariants.{Refused}
