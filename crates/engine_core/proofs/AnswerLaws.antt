@@ -14,6 +14,7 @@ use Rattle.mrpc_table.specs.declared.call.Call.{Call}
 use Rattle.policy_rate.specs.declared.rate.Rate.{Rate as RatePolicy}
 use Rattle.policy_redact.specs.Redacting.{cleared}
 use Rattle.policy_redact.specs.declared.redact.Clear.{Clear}
+use Rattle.engine_core.specs.Policies.{IsNoting}
 use Rattle.engine_core.specs.Answers.{Past, nothing, charged, drawn, counted, Answer, pass, deny, hold, refuse, over, note, redact, ticket_in, Answers, allows, denies, was_charged, charges, holds, refuses, is_within, is_over, draws, was_counted, counts, is_clear, redacts}
 use Rattle.engine_core.specs.declared.policy.Policy.{Policy}
 use Rattle.engine_core.specs.declared.policy.Policy.TheVariants.{Access, Rate, Quota, Count, Redact}
@@ -149,3 +150,18 @@ allows_at_any_time policy level moment other later form past (was_counted is som
 allows_at_any_time policy level moment other later form past (counts is none at) = absurd cc
 allows_at_any_time policy level moment other later form past (is_clear clears is left at) = is_clear clears is left at
 allows_at_any_time policy level moment other later form past (redacts clears is differs at) = absurd cc
+
+pub allows_by_notes : (policy : Policy) (level moment other later : ℕ) (form another : Call) (past : Past) → IsNoting policy → Answers policy level moment form past pass → Answers policy other later another past pass
+allows_by_notes policy level moment other later form another past noting (allows p is allow at) = absurd (rw is at noting)
+allows_by_notes policy level moment other later form another past noting (denies p is denied at) = absurd cc
+allows_by_notes policy level moment other later form another past noting (was_charged r is some at) = was_charged r is some at
+allows_by_notes policy level moment other later form another past noting (charges r is none enough at) = absurd cc
+allows_by_notes policy level moment other later form another past noting (holds r is none less mode at) = absurd cc
+allows_by_notes policy level moment other later form another past noting (refuses r is none less mode at) = absurd cc
+allows_by_notes policy level moment other later form another past noting (is_within t per cap ticket is some less at) = is_within t per cap ticket is some less at
+allows_by_notes policy level moment other later form another past noting (is_over t per cap ticket is some more at) = absurd cc
+allows_by_notes policy level moment other later form another past noting (draws t per cap ticket is none at) = absurd cc
+allows_by_notes policy level moment other later form another past noting (was_counted is some at) = was_counted is some at
+allows_by_notes policy level moment other later form another past noting (counts is none at) = absurd cc
+allows_by_notes policy level moment other later form another past noting (is_clear clears is left at) = absurd (rw is at noting)
+allows_by_notes policy level moment other later form another past noting (redacts clears is differs at) = absurd cc

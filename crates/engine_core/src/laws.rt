@@ -9,7 +9,7 @@ ghost use Rattle.engine_core.specs.Answers.{Allows, Answer, Answers, Past, deny,
 ghost use Rattle.engine_core.specs.Chains.{Chain, Changes, Entry, IsChain, Refusal, Refuses, changed};
 ghost use Rattle.engine_core.specs.Engines.{EngineParts, HasPast};
 ghost use Rattle.engine_core.specs.Marks.{IsTrueFor, StandingCall, note_of};
-ghost use Rattle.engine_core.specs.Policies.{IsPolicy};
+ghost use Rattle.engine_core.specs.Policies.{IsNoting, IsPolicy};
 ghost use Rattle.engine_core.specs.Turns.{ComesOut, noted_in};
 ghost use Rattle.engine_core.specs.declared.op.Op.{Op};
 ghost use Rattle.engine_core.specs.declared.outcome.Noted.{Noted};
@@ -41,10 +41,13 @@ pub fn passed_is_allowed()
         → Allows policy other later form (past_after noted past) }
 {}
 
-/// Whether an entry allows a call depends neither on the level of its bucket nor on the moment.
+/// Whether an entry allows a call depends neither on the level of its bucket nor on the moment, and for a policy that
+/// notes calls on what was noted alone.
 pub fn allows_at_any_time()
-    ensures { (policy : Policy) (level moment other later : ℕ) (form : Call) (past : Past)
+    ensures at_any_time { (policy : Policy) (level moment other later : ℕ) (form : Call) (past : Past)
         → Allows policy level moment form past → Allows policy other later form past }
+    ensures by_notes { (policy : Policy) (level moment other later : ℕ) (form another : Call) (past : Past)
+        → IsNoting policy → Allows policy level moment form past → Allows policy other later another past }
 {}
 
 /// An access policy denies a call by one of its rules, or by the default behind them.
