@@ -1,16 +1,20 @@
 -- An entry has one answer.
-use Rattle.std.proofs.Common.{◌≡◌, ◌≢◌, ℕ, ◌-◌, ◌/◌, ◌<◌, ◌==◌, min, Bool, true, false, ◌⊎◌, inl, inr, List, refl, ap, arith}
+use Rattle.std.proofs.Common.{◌≡◌, ◌≢◌, ℕ, ◌-◌, ◌/◌, ◌<◌, ◌≤◌, ◌==◌, nat_lt, min, Bool, true, false, cond, ◌⊎◌, inl, inr, List, length, Some, None, refl, ap, subst, arith}
+use Rattle.std.specs.Prelude.{unwrap_or}
+use Rattle.std.specs.List.{position_or_len}
 use Rattle.std.proofs.lemmas.Bool.{cases_lt}
 use Rattle.std.proofs.lemmas.Grind.{common_steps}
 use Rattle.std.proofs.lemmas.Bool.Decides.{nat_tests}
 use base.Stored.{Gv, gnil, gnum, gcons}
 use Rattle.mrpc_table.specs.Node.{Node}
 use Rattle.mrpc_table.specs.NodeCode.{node_code}
-use Rattle.policy_access.specs.Verdict.{AccessPolicy, verdict}
+use Rattle.policy_access.specs.Verdict.{AccessPolicy, matches, verdict}
+use Rattle.policy_access.specs.declared.rule.Rule.{Rule}
 use Rattle.mrpc_table.specs.declared.call.Call.{Call}
 use Rattle.policy_rate.specs.declared.rate.Rate.{Rate as RatePolicy}
 use Rattle.policy_redact.specs.Redacting.{cleared}
 use Rattle.policy_redact.specs.declared.redact.Clear.{Clear}
+use Rattle.engine_core.specs.Policies.{IsNoting}
 use Rattle.engine_core.specs.Answers.{Past, nothing, charged, drawn, counted, Answer, pass, deny, hold, refuse, over, note, redact, ticket_in, Answers, allows, denies, was_charged, charges, holds, refuses, is_within, is_over, draws, was_counted, counts, is_clear, redacts}
 use Rattle.engine_core.specs.declared.policy.Policy.{Policy}
 use Rattle.engine_core.specs.declared.policy.Policy.TheVariants.{Access, Rate, Quota, Count, Redact}
@@ -104,3 +108,60 @@ one_answer policy level moment form past a b (was_counted is some first) second 
 one_answer policy level moment form past a b (counts is none first) second same = grind (arith, common_steps)
 one_answer policy level moment form past a b (is_clear clears is left first) second same = grind (arith, common_steps)
 one_answer policy level moment form past a b (redacts clears is other first) second same = grind (arith, common_steps)
+
+-- ---- denials, and what allows at all times
+
+deciding-by : (k n : ℕ) → unwrap_or (cond (nat_lt k n) (Some k) None) n ≤ n
+deciding-by k n = grind (arith, nat_tests, common_steps)
+
+-- the place of the deciding rule
+pub deciding-within : (p : AccessPolicy) (form : Call) → (verdict p form).rule ≤ length p.rules
+deciding-within p form = deciding-by (position_or_len (λ (r : Rule). matches r form) p.rules) (length p.rules)
+
+pub denied-within : (p : AccessPolicy) (level moment rule : ℕ) (form : Call) (past : Past) → Answers (Access p) level moment form past (deny rule) → rule ≤ length p.rules
+denied-within p level moment rule form past (allows q is allow at) = absurd cc
+denied-within p level moment rule form past (denies q is denied at) =
+    let policies : q ≡ p = cc in
+    let rules : (verdict q form).rule ≡ rule = cc in
+    subst (λ (r : AccessPolicy). rule ≤ length r.rules) policies (rw (← rules) (deciding-within q form))
+denied-within p level moment rule form past (was_charged r is some at) = absurd cc
+denied-within p level moment rule form past (charges r is none enough at) = absurd cc
+denied-within p level moment rule form past (holds r is none less mode at) = absurd cc
+denied-within p level moment rule form past (refuses r is none less mode at) = absurd cc
+denied-within p level moment rule form past (is_within t per cap ticket is some less at) = absurd cc
+denied-within p level moment rule form past (is_over t per cap ticket is some more at) = absurd cc
+denied-within p level moment rule form past (draws t per cap ticket is none at) = absurd cc
+denied-within p level moment rule form past (was_counted is some at) = absurd cc
+denied-within p level moment rule form past (counts is none at) = absurd cc
+denied-within p level moment rule form past (is_clear clears is left at) = absurd cc
+denied-within p level moment rule form past (redacts clears is other at) = absurd cc
+
+pub allows_at_any_time : (policy : Policy) (level moment other later : ℕ) (form : Call) (past : Past) → Answers policy level moment form past pass → Answers policy other later form past pass
+allows_at_any_time policy level moment other later form past (allows p is allow at) = allows p is allow at
+allows_at_any_time policy level moment other later form past (denies p is denied at) = absurd cc
+allows_at_any_time policy level moment other later form past (was_charged r is some at) = was_charged r is some at
+allows_at_any_time policy level moment other later form past (charges r is none enough at) = absurd cc
+allows_at_any_time policy level moment other later form past (holds r is none less mode at) = absurd cc
+allows_at_any_time policy level moment other later form past (refuses r is none less mode at) = absurd cc
+allows_at_any_time policy level moment other later form past (is_within t per cap ticket is some less at) = is_within t per cap ticket is some less at
+allows_at_any_time policy level moment other later form past (is_over t per cap ticket is some more at) = absurd cc
+allows_at_any_time policy level moment other later form past (draws t per cap ticket is none at) = absurd cc
+allows_at_any_time policy level moment other later form past (was_counted is some at) = was_counted is some at
+allows_at_any_time policy level moment other later form past (counts is none at) = absurd cc
+allows_at_any_time policy level moment other later form past (is_clear clears is left at) = is_clear clears is left at
+allows_at_any_time policy level moment other later form past (redacts clears is differs at) = absurd cc
+
+pub allows_by_notes : (policy : Policy) (level moment other later : ℕ) (form another : Call) (past : Past) → IsNoting policy → Answers policy level moment form past pass → Answers policy other later another past pass
+allows_by_notes policy level moment other later form another past noting (allows p is allow at) = absurd (rw is at noting)
+allows_by_notes policy level moment other later form another past noting (denies p is denied at) = absurd cc
+allows_by_notes policy level moment other later form another past noting (was_charged r is some at) = was_charged r is some at
+allows_by_notes policy level moment other later form another past noting (charges r is none enough at) = absurd cc
+allows_by_notes policy level moment other later form another past noting (holds r is none less mode at) = absurd cc
+allows_by_notes policy level moment other later form another past noting (refuses r is none less mode at) = absurd cc
+allows_by_notes policy level moment other later form another past noting (is_within t per cap ticket is some less at) = is_within t per cap ticket is some less at
+allows_by_notes policy level moment other later form another past noting (is_over t per cap ticket is some more at) = absurd cc
+allows_by_notes policy level moment other later form another past noting (draws t per cap ticket is none at) = absurd cc
+allows_by_notes policy level moment other later form another past noting (was_counted is some at) = was_counted is some at
+allows_by_notes policy level moment other later form another past noting (counts is none at) = absurd cc
+allows_by_notes policy level moment other later form another past noting (is_clear clears is left at) = absurd (rw is at noting)
+allows_by_notes policy level moment other later form another past noting (redacts clears is differs at) = absurd cc

@@ -1,13 +1,14 @@
 -- What a step makes of a chain, and why it is refused.
-use Rattle.std.proofs.Common.{◌≡◌, ◌≢◌, ℕ, ◌+◌, ◌<◌, ◌≤◌, ◌==◌, zero, suc, Bool, true, false, ◌⊎◌, inl, inr, List, [], ◌∷◌, ◌++◌, length, map, take, drop, All, Contains, slice_index_or, refl, ap, sym, ◌∙◌, subst, arith, take-append-drop, length-append, length-take-le}
+use Rattle.std.proofs.Common.{◌≡◌, ◌≢◌, ℕ, ◌+◌, ◌<◌, ◌≤◌, ◌==◌, zero, suc, Bool, true, false, not, if◌then◌else◌, ◌⊎◌, inl, inr, List, [], ◌∷◌, ◌++◌, length, map, filter, take, drop, All, Contains, slice_index_or, refl, ap, sym, ◌∙◌, subst, arith, take-append-drop, length-append, length-take-le}
 use Rattle.std.proofs.lemmas.Bool.{cases_lt}
 use Rattle.std.proofs.lemmas.Grind.{common_steps}
 use Rattle.std.proofs.lemmas.List.{map-append}
 use Rattle.std.proofs.lemmas.Bool.Decides.{nat_tests}
 use Rattle.std.proofs.lemmas.List.Elements.{All-contains, All-contains_itself, All-weaker, Contains-append_cases, Contains-append_left, Contains-append_right, Contains-push_cases}
+use Rattle.std.proofs.lemmas.Slice.Eq.{bytes_eq-Decides}
 use Rattle.mrpc_table.specs.Valid.{AreDistinct}
 use Rattle.engine_core.specs.Policies.{is_same_kind}
-use Rattle.engine_core.specs.Chains.{Entry, Chain, IsChain, Refusal, no_such, taken, no_place, full, other_kind, order_of, IsAgainst, detaches_none, upgrades_none, is_taken, is_past, is_full, is_other, Refuses, Makes, attaches, detaches, upgrades, Changes, names_of, attachments_of, new_entry, upgraded}
+use Rattle.engine_core.specs.Chains.{Entry, Chain, IsChain, Refusal, no_such, taken, no_place, full, other_kind, order_of, IsAgainst, detaches_none, upgrades_none, is_taken, is_past, is_full, is_other, Refuses, Makes, attaches, detaches, upgrades, Changes, names_of, attachments_of, new_entry, upgraded, is_named, changed}
 use Rattle.engine_core.specs.declared.policy.Policy.{Policy}
 use Rattle.engine_core.specs.declared.op.Op.{Op}
 use Rattle.engine_core.specs.declared.op.Op.TheVariants.{Attach, Detach, Upgrade}
@@ -401,3 +402,70 @@ stays-made before after op chain free (upgrades name label policy e front back i
 
 pub stays_chain : (before after : Chain) (op : Op) → IsChain before → Changes before op after → IsChain after
 stays_chain before after op chain changes = stays-made before after op chain changes.free changes.makes
+
+-- ---- what a step makes, as a function
+
+named-is : (name : List ℕ) (e : Entry) → e.name ≡ name → is_named name e ≡ true
+named-is name e same = (bytes_eq-Decides e.name name).1 same
+
+named-not-by : (name : List ℕ) (e : Entry) (b : Bool) → is_named name e ≡ b → e.name ≢ name → is_named name e ≡ false
+named-not-by name e true is other = absurd (other ((bytes_eq-Decides e.name name).0 is))
+named-not-by name e false is other = is
+
+named-not : (name : List ℕ) (e : Entry) → e.name ≢ name → is_named name e ≡ false
+named-not name e other = named-not-by name e (is_named name e) refl other
+
+not-first : (name : List ℕ) (x : Entry) (es : List Entry) → (Contains (names_of (x ∷ es)) name → ⊥) → is_named name x ≡ false
+not-first name x es none = named-not name x (λ same. none (0, omega arith, same))
+
+not-behind : (name : List ℕ) (x : Entry) (es : List Entry) → (Contains (names_of (x ∷ es)) name → ⊥) → Contains (names_of es) name → ⊥
+not-behind name x es none has = none (Contains-cons x.name (names_of es) name has)
+
+filter-all : (name : List ℕ) (es : List Entry) → (Contains (names_of es) name → ⊥) → filter (λ e. not (is_named name e)) es ≡ es
+filter-all name [] none = refl
+filter-all name (x ∷ es) none = rw (not-first name x es none) (ap (λ (ys : List Entry). x ∷ ys) (filter-all name es (not-behind name x es none)))
+
+filter-one : (name : List ℕ) (front back : List Entry) (e : Entry) → AreDistinct (names_of (front ++ e ∷ back)) → e.name ≡ name
+    → filter (λ f. not (is_named name f)) (front ++ e ∷ back) ≡ front ++ back
+filter-one name [] back e apart is = rw (named-is name e is) (filter-all name back (λ has. apart.0 (rw is has)))
+filter-one name (x ∷ front) back e apart is =
+    rw (named-not name x (λ same. not_twice x front back e apart.0 (same ∙ sym is))) (ap (λ (ys : List Entry). x ∷ ys) (filter-one name front back e apart.1 is))
+
+abbrev upgraded_where : List ℕ → Policy → Entry → Entry
+upgraded_where name policy e = if is_named name e then upgraded e policy else e
+
+map-all : (name : List ℕ) (policy : Policy) (es : List Entry) → (Contains (names_of es) name → ⊥) → map (upgraded_where name policy) es ≡ es
+map-all name policy [] none = refl
+map-all name policy (x ∷ es) none = rw (not-first name x es none) (ap (λ (ys : List Entry). x ∷ ys) (map-all name policy es (not-behind name x es none)))
+
+map-one : (name : List ℕ) (policy : Policy) (front back : List Entry) (e : Entry) → AreDistinct (names_of (front ++ e ∷ back)) → e.name ≡ name
+    → map (upgraded_where name policy) (front ++ e ∷ back) ≡ front ++ upgraded e policy ∷ back
+map-one name policy [] back e apart is = rw (named-is name e is) (ap (λ (ys : List Entry). upgraded e policy ∷ ys) (map-all name policy back (λ has. apart.0 (rw is has))))
+map-one name policy (x ∷ front) back e apart is =
+    rw (named-not name x (λ same. not_twice x front back e apart.0 (same ∙ sym is))) (ap (λ (ys : List Entry). x ∷ ys) (map-one name policy front back e apart.1 is))
+
+take-front : (front back : List Entry) → take (length front) (front ++ back) ≡ front
+take-front [] back = refl
+take-front (x ∷ front) back = ap (λ (ys : List Entry). x ∷ ys) (take-front front back)
+
+drop-front : (front back : List Entry) → drop (length front) (front ++ back) ≡ back
+drop-front [] back = refl
+drop-front (x ∷ front) back = drop-front front back
+
+pub is-changed : (before after : Chain) (op : Op) → IsChain before → Makes before op after → after ≡ changed op before
+is-changed before after op chain (attaches at name label policy front back is whole at_is result) =
+    let fronts : take at before.entries ≡ front = rw (whole, ← at_is) (take-front front back) in
+    let backs : drop at before.entries ≡ back = rw (whole, ← at_is) (drop-front front back) in
+    rw (result, is, fronts, backs) refl
+is-changed before after op chain (detaches name e front back is whole named result) =
+    let left : filter (λ f. not (is_named name f)) before.entries ≡ front ++ back = rw whole (filter-one name front back e (rw whole at chain.names) named) in
+    rw (result, is, left) refl
+is-changed before after op chain (upgrades name label policy e front back is whole named result) =
+    let left : map (upgraded_where name policy) before.entries ≡ front ++ upgraded e policy ∷ back = rw whole (map-one name policy front back e (rw whole at chain.names) named) in
+    rw (result, is, left) refl
+
+pub changes-unless : (before : Chain) (op : Op) → IsChain before → ((refusal : Refusal) → Refuses before op refusal → ⊥) → Changes before op (changed op before)
+changes-unless before op chain free = elim (either before op chain) [
+  | inl made ↦ subst (λ (after : Chain). Changes before op after) (is-changed before made.0 op chain made.1.makes) made.1
+  | inr refused ↦ absurd (free refused.0 refused.1)
+]

@@ -6,3 +6,4 @@ mod MarkLemmas
 mod Keeping
 mod Stepping
 mod Turning
+mod OutcomeLaws

@@ -1,5 +1,5 @@
 -- What marks tell after one was set, and after some were taken away.
-use Rattle.std.proofs.Common.{◌≡◌, ◌≢◌, ℕ, ◌≤◌, ◌==◌, Bool, true, false, not, ◌||◌, cond, if◌then◌else◌, List, [], ◌∷◌, ◌++◌, filter, find, length, Some, None, refl, arith, length-append}
+use Rattle.std.proofs.Common.{◌≡◌, ◌≢◌, ℕ, ◌≤◌, ◌==◌, Bool, true, false, not, ◌||◌, cond, if◌then◌else◌, List, [], ◌∷◌, ◌++◌, filter, find, length, Option, Some, None, option_map, refl, arith, length-append}
 use Rattle.std.proofs.lemmas.Grind.{common_steps}
 use Rattle.std.proofs.lemmas.Bool.Decides.{nat_tests}
 use Rattle.std.proofs.lemmas.List.Elements.{filter-append}
@@ -126,5 +126,11 @@ other_marks-marked a n ms =
     rw (filter-append (λ (m : Mark). not (m.attach == a)) (other_marks a ms) (record { attach = a; note = n } ∷ []), last)
     (omega (arith, length-append (filter (λ (m : Mark). not (m.attach == a)) (other_marks a ms)) [], length-filter_filter (λ (m : Mark). not (m.attach == a)) (λ (m : Mark). not (m.attach == a)) ms))
 
+unmarked-unallowed : (b : ℕ) (ms : List Mark) → note_of ms b ≡ None → note_of (filter (λ m. not (is_allowing m.note)) ms) b ≡ None
+unmarked-unallowed b ms none = rw (none-kept b ms (no_note (find (λ (m : Mark). m.attach == b) ms) none)) refl where
+  no_note : (found : Option Mark) → option_map (λ (m : Mark). m.note) found ≡ None → found ≡ None
+  no_note None is = refl
+  no_note (Some m) is = absurd cc
+
 pub unallowed : (ms : List Mark) → IsOneEach ms → IsUnallowed ms (filter (λ m. not (is_allowing m.note)) ms)
-unallowed ms one = record { pasts = λ b. past-unallowed b ms one; none = λ b v. none-allowed b v ms; no_more = λ b. length-filter_filter (λ m. not (m.attach == b)) (λ m. not (is_allowing m.note)) ms }
+unallowed ms one = record { pasts = λ b. past-unallowed b ms one; none = λ b v. none-allowed b v ms; unmarked = λ b none. unmarked-unallowed b ms none; no_more = λ b. length-filter_filter (λ m. not (m.attach == b)) (λ m. not (is_allowing m.note)) ms }

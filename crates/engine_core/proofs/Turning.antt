@@ -1,27 +1,35 @@
 -- What follows from what an engine does.
-use Rattle.std.proofs.Common.{◌≡◌, ◌≢◌, ℕ, ◌<◌, ◌≤◌, ◌-◌, ◌/◌, min, ◌==◌, Bool, true, false, if◌then◌else◌, length, Some, refl, sym, arith}
+use Rattle.std.proofs.Common.{◌≡◌, ◌≢◌, ℕ, ◌<◌, ◌≤◌, ◌-◌, ◌/◌, min, ◌==◌, Bool, true, false, if◌then◌else◌, List, ◌∷◌, length, None, Some, refl, ap, sym, ◌∙◌, subst, arith}
 use Rattle.std.specs.Cmp.{nat_eq_equiv}
 use Rattle.std.proofs.lemmas.Grind.{common_steps}
 use Rattle.std.proofs.lemmas.Bool.Decides.{nat_tests}
 use Rattle.mrpc_table.specs.Weight.{weight}
 use Rattle.mrpc_table.specs.declared.table.Table.{Table}
 use Rattle.mrpc_table.specs.Calls.{IsCallOf}
-use Rattle.policy_access.specs.Verdict.{verdict}
-use Rattle.engine_core.specs.Policies.{IsAccess}
+use Rattle.policy_access.specs.Verdict.{AccessPolicy, verdict}
+use Rattle.policy_rate.specs.Level.{BucketHappening, charge, rate_after}
+use Rattle.policy_rate.specs.Level as bucket
+use Rattle.policy_rate.specs.declared.rate.Rate.{Rate as RatePolicy}
+use Rattle.engine_core.specs.Policies.{IsAccess, KnowsTenantOf}
 use Rattle.engine_core.specs.Chains.{Entry}
+use Rattle.engine_core.specs.Engines.{EngineParts, HasPast, past_behind}
+use Rattle.engine_core.specs.Working.{IsAllowance, IsTurn, LeavesCall, LeavesEngine, LeavesMarks}
 use Rattle.engine_core.specs.Answers.{Past, nothing, level_left, past_after}
 use Rattle.engine_core.specs.Answers as answers
-use Rattle.engine_core.specs.Marks.{StandingCall, IsAllowing, IsSilent, IsTrueFor, is_allowed, is_allowed_by, other_marks, past_by, past_of}
+use Rattle.engine_core.specs.Marks.{StandingCall, IsAllowing, IsSilent, IsTrueFor, is_allowed, is_allowed_by, note_of, other_marks, past_by, past_of}
 use Rattle.engine_core.specs.Turns.{ComesOut, form_after, is_redacted_by, noted_in}
 use Rattle.engine_core.specs.Turns as turns
 use Rattle.engine_core.specs.Steps.{IsUnallowed, Steps, with_mark, was_allowed, allows, denies, was_charged, charges, holds, refuses, is_within, is_over, draws_within, draws_over, was_counted, counts, is_clear, redacts}
 use Rattle.engine_core.specs.declared.policy.Policy.{Policy}
+use Rattle.engine_core.specs.declared.policy.Policy.TheVariants.{Access, Rate, Quota, Count, Redact}
+use Rattle.engine_core.specs.declared.outcome.Noted.{Noted}
 use Rattle.engine_core.specs.declared.mark.Note.{Note}
 use Rattle.engine_core.specs.declared.mark.Note.TheVariants as marks
 use Rattle.engine_core.specs.declared.outcome.Outcome.{Outcome}
-use Rattle.engine_core.specs.declared.outcome.Outcome.TheVariants.{Passed, Redacted}
+use Rattle.engine_core.specs.declared.outcome.Outcome.TheVariants.{Passed, Refused, Redacted}
 use Rattle.engine_core.specs.declared.outcome.Noted.TheVariants.{Nothing, Charged, Drawn, Counted}
 use Rattle.engine_core.specs.declared.outcome.Why.TheVariants.{Denied, Short, Over}
+use Rattle.engine_core.proofs.AnswerLaws.{deciding-within}
 use Rattle.engine_core.proofs.MarkLemmas.{note_of-marked, note_of-marked-other, other_marks-marked}
 
 -- what is left of the bucket
@@ -316,3 +324,183 @@ stays_true-step entry level moment old new left outcome (was_counted is past out
 stays_true-step entry level moment old new left outcome (counts is past out same l) e one h = marked-true entry e marks.Counted old new same one (own-noted entry marks.Counted old (λ v. refl) (rw is tt)) h
 stays_true-step entry level moment old new left outcome (is_clear clears is same_tree out same l) e one h = same-true e old new same h
 stays_true-step entry level moment old new left outcome (redacts clears is other_tree out form less fits taken l) e one h = redacted-true e old new taken h
+
+-- ---- what becomes of the marks
+
+-- they stay, or the engine's own is set, by a note or since its access policy allows the call, or a redaction takes away those of access engines
+data Became (policy : Policy) (attach version : ℕ) (old new : StandingCall) (outcome : Outcome) : Type 0 where
+  stays : new ≡ old → Became policy attach version old new outcome
+  noted : (n : Note) → new ≡ with_mark attach n old → ((v : ℕ) → is_allowed_by v (Some n) ≡ false) → noted_in outcome ≢ Nothing → Became policy attach version old new outcome
+  allowed : new ≡ with_mark attach (marks.Allowed version) old → IsAccess policy → outcome ≡ Passed Nothing → Became policy attach version old new outcome
+  unallowed : IsUnallowed old.marks new.marks → Became policy attach version old new outcome
+
+became-step : (policy : Policy) (attach version level moment : ℕ) (old new : StandingCall) (left : ℕ) (outcome : Outcome)
+    → Steps policy attach version level moment old new left outcome
+    → Became policy attach version old new outcome
+became-step policy attach version level moment old new left outcome (was_allowed p is marked out same l) = stays same
+became-step policy attach version level moment old new left outcome (allows p is unmarked allow out same l) = allowed same (rw is tt) out
+became-step policy attach version level moment old new left outcome (denies p is unmarked deny out same l) = stays same
+became-step policy attach version level moment old new left outcome (was_charged r is past out same l) = stays same
+became-step policy attach version level moment old new left outcome (charges r is past enough out same l) = noted marks.Charged same (λ v. refl) (rw out (λ none. cc))
+became-step policy attach version level moment old new left outcome (holds r is past less mode out same l) = stays same
+became-step policy attach version level moment old new left outcome (refuses r is past less mode out same l) = stays same
+became-step policy attach version level moment old new left outcome (is_within t per cap ticket is past less out same l) = stays same
+became-step policy attach version level moment old new left outcome (is_over t per cap ticket is past more out same l) = stays same
+became-step policy attach version level moment old new left outcome (draws_within t per cap ticket is past less out same l) = noted (marks.Drawn ticket) same (λ v. refl) (rw out (λ none. cc))
+became-step policy attach version level moment old new left outcome (draws_over t per cap ticket is past more out same l) = noted (marks.Drawn ticket) same (λ v. refl) (rw out (λ none. cc))
+became-step policy attach version level moment old new left outcome (was_counted is past out same l) = stays same
+became-step policy attach version level moment old new left outcome (counts is past out same l) = noted marks.Counted same (λ v. refl) (rw out (λ none. cc))
+became-step policy attach version level moment old new left outcome (is_clear clears is same_tree out same l) = stays same
+became-step policy attach version level moment old new left outcome (redacts clears is other_tree out form less fits taken l) = unallowed taken
+
+equal : (a b : ℕ) → (a == b) ≡ true → b ≡ a
+equal a b same = grind (arith, nat_tests, common_steps)
+
+apart : {b : Bool} {X : Type 0} → b ≡ false → b ≡ true → X
+apart none some = absurd cc
+
+allowing_alone-became : (policy : Policy) (attach version : ℕ) (old new : StandingCall) (outcome : Outcome) → Became policy attach version old new outcome
+    → (v : ℕ) → is_allowed old.marks attach v ≡ false → is_allowed new.marks attach v ≡ true → IsAllowance policy outcome × (v ≡ version)
+allowing_alone-became policy attach version old new outcome (stays same) v before after = apart before (rw same at after)
+allowing_alone-became policy attach version old new outcome (noted n same none some) v before after = apart (none v) (rw (same, note_of-marked attach n old.marks) at after)
+allowing_alone-became policy attach version old new outcome (allowed same access passed) v before after = ((access, passed), equal version v (rw (same, note_of-marked attach (marks.Allowed version) old.marks) at after))
+allowing_alone-became policy attach version old new outcome (unallowed taken) v before after = apart (taken.none attach v) after
+
+none-became : (policy : Policy) (attach version : ℕ) (old new : StandingCall) (outcome : Outcome) → Became policy attach version old new outcome
+    → noted_in outcome ≡ Nothing → (IsAllowance policy outcome → ⊥) → note_of old.marks attach ≡ None → note_of new.marks attach ≡ None
+none-became policy attach version old new outcome (stays same) nothing_noted other none = rw same none
+none-became policy attach version old new outcome (noted n same by some) nothing_noted other none = absurd (some nothing_noted)
+none-became policy attach version old new outcome (allowed same access passed) nothing_noted other none = absurd (other (access, passed))
+none-became policy attach version old new outcome (unallowed taken) nothing_noted other none = taken.unmarked attach none
+
+others_none-became : (policy : Policy) (attach version : ℕ) (old new : StandingCall) (outcome : Outcome) → Became policy attach version old new outcome
+    → (a : ℕ) → a ≢ attach → note_of old.marks a ≡ None → note_of new.marks a ≡ None
+others_none-became policy attach version old new outcome (stays same) a other none = rw same none
+others_none-became policy attach version old new outcome (noted n same by some) a other none = rw (same, note_of-marked-other attach a n old.marks other) none
+others_none-became policy attach version old new outcome (allowed same access passed) a other none = rw (same, note_of-marked-other attach a (marks.Allowed version) old.marks other) none
+others_none-became policy attach version old new outcome (unallowed taken) a other none = taken.unmarked a none
+
+-- ---- the rule of a denial
+
+rule-step : (policy : Policy) (attach version level moment : ℕ) (old new : StandingCall) (left : ℕ) (outcome : Outcome)
+    → Steps policy attach version level moment old new left outcome
+    → (p : AccessPolicy) (n : Noted) (rule : ℕ) → policy ≡ Access p → outcome ≡ Refused n (Denied rule) → rule ≤ length p.rules
+rule-step policy attach version level moment old new left outcome (was_allowed q is marked out same l) p n rule access refused = absurd cc
+rule-step policy attach version level moment old new left outcome (allows q is unmarked allow out same l) p n rule access refused = absurd cc
+rule-step policy attach version level moment old new left outcome (denies q is unmarked deny out same l) p n rule access refused =
+    let policies : q ≡ p = cc in
+    let rules : (verdict q old.call).rule ≡ rule = cc in
+    subst (λ (r : AccessPolicy). rule ≤ length r.rules) policies (rw (← rules) (deciding-within q old.call))
+rule-step policy attach version level moment old new left outcome (was_charged r is past out same l) p n rule access refused = absurd cc
+rule-step policy attach version level moment old new left outcome (charges r is past enough out same l) p n rule access refused = absurd cc
+rule-step policy attach version level moment old new left outcome (holds r is past less mode out same l) p n rule access refused = absurd cc
+rule-step policy attach version level moment old new left outcome (refuses r is past less mode out same l) p n rule access refused = absurd cc
+rule-step policy attach version level moment old new left outcome (is_within t per cap ticket is past less out same l) p n rule access refused = absurd cc
+rule-step policy attach version level moment old new left outcome (is_over t per cap ticket is past more out same l) p n rule access refused = absurd cc
+rule-step policy attach version level moment old new left outcome (draws_within t per cap ticket is past less out same l) p n rule access refused = absurd cc
+rule-step policy attach version level moment old new left outcome (draws_over t per cap ticket is past more out same l) p n rule access refused = absurd cc
+rule-step policy attach version level moment old new left outcome (was_counted is past out same l) p n rule access refused = absurd cc
+rule-step policy attach version level moment old new left outcome (counts is past out same l) p n rule access refused = absurd cc
+rule-step policy attach version level moment old new left outcome (is_clear clears is same_tree out same l) p n rule access refused = absurd cc
+rule-step policy attach version level moment old new left outcome (redacts clears is other_tree out form less fits taken l) p n rule access refused = absurd cc
+
+-- ---- the past of a bucket
+
+kept-past : (before after : EngineParts) (outcome : Outcome) (first : RatePolicy) (start : ℕ) (past : List BucketHappening) → HasPast before first start past
+    → after.level ≡ before.level → after.last ≡ before.last → after.entry ≡ before.entry → past_behind (noted_in outcome) past ≡ past
+    → HasPast after first start (past_behind (noted_in outcome) past)
+kept-past before after outcome first start past h level last entry same = rw same (record {
+  policy = ap (λ (e : Entry). e.policy) entry ∙ h.policy;
+  level = level ∙ h.level;
+  last = last ∙ h.last;
+  paid = h.paid;
+})
+
+charged-past : (before after : EngineParts) (r : RatePolicy) (first : RatePolicy) (start : ℕ) (past : List BucketHappening) → HasPast before first start past
+    → before.entry.policy ≡ Rate r → r.per ≤ before.level
+    → after.level ≡ before.level - r.per → after.last ≡ before.last → after.entry ≡ before.entry
+    → HasPast after first start (charge ∷ past)
+charged-past before after r first start past h is enough level last entry =
+    let rate : r ≡ rate_after first past = same_rate (sym is ∙ h.policy) in
+    record {
+      policy = ap (λ (e : Entry). e.policy) entry ∙ h.policy;
+      level = level ∙ (ap (λ (l : ℕ). l - r.per) h.level ∙ ap (λ (s : RatePolicy). bucket.level first start past - s.per) rate);
+      last = last ∙ h.last;
+      paid = (subst (λ (s : RatePolicy). s.per ≤ bucket.level first start past) rate (rw h.level at enough), h.paid);
+    }
+  where
+    same_rate : {a b : RatePolicy} → Rate a ≡ Rate b → a ≡ b
+    same_rate same = cc
+
+past-step : (before after : EngineParts) (moment : ℕ) (old new : StandingCall) (outcome : Outcome)
+    → Steps before.entry.policy before.entry.attach before.entry.version before.level moment old new after.level outcome
+    → after.last ≡ before.last → after.entry ≡ before.entry
+    → (first : RatePolicy) (start : ℕ) (past : List BucketHappening) → HasPast before first start past → HasPast after first start (past_behind (noted_in outcome) past)
+past-step before after moment old new outcome (was_allowed p is marked out same l) last entry first start past h = kept-past before after outcome first start past h l last entry (rw out refl)
+past-step before after moment old new outcome (allows p is unmarked allow out same l) last entry first start past h = kept-past before after outcome first start past h l last entry (rw out refl)
+past-step before after moment old new outcome (denies p is unmarked deny out same l) last entry first start past h = kept-past before after outcome first start past h l last entry (rw out refl)
+past-step before after moment old new outcome (was_charged r is noted_before out same l) last entry first start past h = kept-past before after outcome first start past h l last entry (rw out refl)
+past-step before after moment old new outcome (charges r is none enough out same l) last entry first start past h = rw out (charged-past before after r first start past h is enough l last entry)
+past-step before after moment old new outcome (holds r is noted_before less mode out same l) last entry first start past h = kept-past before after outcome first start past h l last entry (rw out refl)
+past-step before after moment old new outcome (refuses r is noted_before less mode out same l) last entry first start past h = kept-past before after outcome first start past h l last entry (rw out refl)
+past-step before after moment old new outcome (is_within t per cap ticket is noted_before less out same l) last entry first start past h = kept-past before after outcome first start past h l last entry (rw out refl)
+past-step before after moment old new outcome (is_over t per cap ticket is noted_before more out same l) last entry first start past h = kept-past before after outcome first start past h l last entry (rw out refl)
+past-step before after moment old new outcome (draws_within t per cap ticket is noted_before less out same l) last entry first start past h = kept-past before after outcome first start past h l last entry (rw out refl)
+past-step before after moment old new outcome (draws_over t per cap ticket is noted_before more out same l) last entry first start past h = kept-past before after outcome first start past h l last entry (rw out refl)
+past-step before after moment old new outcome (was_counted is noted_before out same l) last entry first start past h = kept-past before after outcome first start past h l last entry (rw out refl)
+past-step before after moment old new outcome (counts is noted_before out same l) last entry first start past h = kept-past before after outcome first start past h l last entry (rw out refl)
+past-step before after moment old new outcome (is_clear clears is same_tree out same l) last entry first start past h = kept-past before after outcome first start past h l last entry (rw out refl)
+past-step before after moment old new outcome (redacts clears is other_tree out form less fits taken l) last entry first start past h = kept-past before after outcome first start past h l last entry (rw out refl)
+
+-- ---- together
+
+pub turn-step : (e : EngineParts) (moment : ℕ) (old new : StandingCall) (left : ℕ) (outcome : Outcome)
+    → Steps e.entry.policy e.entry.attach e.entry.version e.level moment old new left outcome → IsTurn e moment old outcome
+turn-step e moment old new left outcome step = record {
+  comes = comes-step _ _ _ _ _ _ _ _ _ step;
+  allowed = allowed-step _ _ _ _ _ _ _ _ _ step;
+  rule = rule-step _ _ _ _ _ _ _ _ _ step;
+}
+
+pub engine-step : (before after : EngineParts) (moment : ℕ) (old new : StandingCall) (outcome : Outcome)
+    → Steps before.entry.policy before.entry.attach before.entry.version before.level moment old new after.level outcome
+    → after.last ≡ before.last → after.entry ≡ before.entry → LeavesEngine outcome before after
+engine-step before after moment old new outcome step last entry = record {
+  level = level-step _ _ _ _ _ _ _ _ _ step;
+  last = last;
+  entry = entry;
+  past = past-step before after moment old new outcome step last entry;
+}
+
+pub call-step : (policy : Policy) (attach version level moment : ℕ) (old new : StandingCall) (left : ℕ) (outcome : Outcome)
+    → Steps policy attach version level moment old new left outcome
+    → LeavesCall policy outcome old.call new.call
+call-step policy attach version level moment old new left outcome step = record {
+  form = form-step _ _ _ _ _ _ _ _ _ step;
+  smaller = smaller-step _ _ _ _ _ _ _ _ _ step;
+  fits = fits-step _ _ _ _ _ _ _ _ _ step;
+}
+
+pub marks-step : (entry : Entry) (level moment : ℕ) (old new : StandingCall) (left : ℕ) (outcome : Outcome)
+    → Steps entry.policy entry.attach entry.version level moment old new left outcome → LeavesMarks entry outcome old new
+marks-step entry level moment old new left outcome step =
+    let became = became-step _ _ _ _ _ _ _ _ _ step in
+    record {
+      noted = noted-step _ _ _ _ _ _ _ _ _ step;
+      others = others-step _ _ _ _ _ _ _ _ _ step;
+      allowing = allowing-step _ _ _ _ _ _ _ _ _ step;
+      allowing_alone = allowing_alone-became _ _ _ _ _ _ became;
+      others_allowing = others_allowing-step _ _ _ _ _ _ _ _ _ step;
+      none = none-became _ _ _ _ _ _ became;
+      others_none = others_none-became _ _ _ _ _ _ became;
+      room = room-step _ _ _ _ _ _ _ _ _ step;
+      stays_true = stays_true-step entry _ _ _ _ _ _ step;
+    }
+
+-- what knows the tenant of a policy before a turn knows it after
+pub known-after : {Before After : ℕ → Type 0} (p : Policy) → ((t : ℕ) → Before t → After t) → KnowsTenantOf Before p → KnowsTenantOf After p
+known-after (Access p) more known = tt
+known-after (Rate r) more known = tt
+known-after (Quota tenant per cap) more known = more tenant known
+known-after Count more known = tt
+known-after (Redact clears) more known = tt

@@ -1,5 +1,6 @@
 -- The chain of a connection's policies, and the change that an operator's step makes (this project's own).
-use Rattle.std.specs.Prelude.{◌≡◌, ℕ, ◌+◌, ◌<◌, ◌≤◌, false, List, ◌∷◌, ◌++◌, length, map, All, Contains}
+use Rattle.std.specs.Prelude.{◌≡◌, ℕ, ◌+◌, ◌<◌, ◌≤◌, Bool, false, not, if◌then◌else◌, List, ◌∷◌, ◌++◌, length, map, filter, take, drop, All, Contains}
+use Rattle.std.specs.Str.{bytes_eq}
 use Rattle.mrpc_table.specs.Valid.{AreDistinct}
 use Rattle.engine_core.specs.Policies.{is_same_kind}
 use Rattle.engine_core.specs.declared.policy.Policy.{Policy}
@@ -112,3 +113,22 @@ pub data Makes (before : Chain) (op : Op) (after : Chain) : Type 0 where
 pub record Changes (before : Chain) (op : Op) (after : Chain) : Type 0 where
   pub free : (refusal : Refusal) → IsAgainst before.entries op refusal → ⊥
   pub makes : Makes before op after
+
+-- the entry has the name
+abbrev pub is_named : List ℕ → Entry → Bool
+is_named name e = bytes_eq e.name name
+
+-- what a step makes of a chain that doesn't refuse it
+abbrev pub changed : Op → Chain → Chain
+changed (Attach at name label policy) chain = record {
+  entries = take at chain.entries ++ new_entry name (chain.attached + 1) policy ∷ drop at chain.entries;
+  attached = chain.attached + 1;
+}
+changed (Detach name) chain = record {
+  entries = filter (λ e. not (is_named name e)) chain.entries;
+  attached = chain.attached;
+}
+changed (Upgrade name label policy) chain = record {
+  entries = map (λ e. if is_named name e then upgraded e policy else e) chain.entries;
+  attached = chain.attached;
+}

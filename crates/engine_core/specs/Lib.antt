@@ -5,3 +5,4 @@ pub mod Marks
 pub mod Turns
 pub mod Engines
 pub mod Steps
+pub mod Working

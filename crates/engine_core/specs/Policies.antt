@@ -15,6 +15,13 @@ abbrev pub IsAccess : Policy → Type 0
 IsAccess (Access p) = Unit {0}
 IsAccess _ = ⊥
 
+-- something is noted of each call that a policy lets pass
+abbrev pub IsNoting : Policy → Type 0
+IsNoting (Rate r) = Unit {0}
+IsNoting (Quota tenant per cap) = Unit {0}
+IsNoting Count = Unit {0}
+IsNoting _ = ⊥
+
 -- two policies are of one kind; the tenant of a quota belongs to its kind
 abbrev pub is_same_kind : Policy → Policy → Bool
 is_same_kind (Access p) (Access q) = true

@@ -1,5 +1,5 @@
 -- What an engine does, branch by branch. No public clause cites this module.
-use Rattle.std.specs.Prelude.{◌≡◌, ◌≢◌, ℕ, ◌-◌, ◌/◌, ◌<◌, ◌≤◌, min, true, false, List, [], ◌∷◌, ◌++◌, length}
+use Rattle.std.specs.Prelude.{◌≡◌, ◌≢◌, ℕ, ◌-◌, ◌/◌, ◌<◌, ◌≤◌, min, true, false, List, [], ◌∷◌, ◌++◌, length, None}
 use Rattle.mrpc_table.specs.Weight.{weight}
 use Rattle.mrpc_table.specs.declared.table.Table.{Table}
 use Rattle.mrpc_table.specs.Calls.{IsCallOf}
@@ -8,7 +8,7 @@ use Rattle.policy_rate.specs.declared.rate.Rate.{Rate as RatePolicy}
 use Rattle.policy_redact.specs.Redacting.{cleared, cleared_call}
 use Rattle.policy_redact.specs.declared.redact.Clear.{Clear}
 use Rattle.engine_core.specs.Answers.{nothing, drawn}
-use Rattle.engine_core.specs.Marks.{StandingCall, past_of, is_allowed, other_marks}
+use Rattle.engine_core.specs.Marks.{StandingCall, note_of, past_of, is_allowed, other_marks}
 use Rattle.engine_core.specs.declared.policy.Policy.{Policy}
 use Rattle.engine_core.specs.declared.policy.Policy.TheVariants.{Access, Rate, Quota, Count, Redact}
 use Rattle.engine_core.specs.declared.mark.Mark.{Mark}
@@ -30,6 +30,7 @@ with_mark attach note s = record { call = s.call; marks = marked attach note s.m
 pub record IsUnallowed (before after : List Mark) : Type 0 where
   pub pasts : (attach : ℕ) → past_of after attach ≡ past_of before attach
   pub none : (attach version : ℕ) → is_allowed after attach version ≡ false
+  pub unmarked : (attach : ℕ) → note_of before attach ≡ None → note_of after attach ≡ None
   pub no_more : (attach : ℕ) → length (other_marks attach after) ≤ length (other_marks attach before)
 
 pub data Steps (policy : Policy) (attach version level moment : ℕ) (old new : StandingCall) (left : ℕ)

@@ -1,6 +1,6 @@
 //! Engines, and the states that they are moved in.
 
-ghost use Rattle.std.specs.Prelude.{◌≡◌, ◌≢◌, ◌+◌, ◌-◌, ◌<◌, ◌≤◌, ◌^◌, ℕ, true, false, if◌then◌else◌, max, length, IfSome, IfNone};
+ghost use Rattle.std.specs.Prelude.{◌≡◌, ◌+◌, ◌-◌, ◌<◌, ◌≤◌, ◌^◌, ℕ, true, false, max, List, [], ◌∷◌, length, IfSome, IfNone};
 
 use crate::outcome::{Noted, Outcome};
 use crate::policy::Policy;
@@ -23,14 +23,10 @@ pub struct Engine {
     bucket: Bucket,
 }
 
-/// What an engine is decomposed to. It is moved, and can't be copied.
+/// What an engine is decomposed to: it does nothing until it is restored. It is moved, and can't be copied.
 #[derive(Drop)]
 pub struct State {
-    name: Name,
-    attach: u32,
-    version: u32,
-    policy: Policy,
-    bucket: Bucket,
+    engine: Engine,
 }
 
 impl Model for Engine {
@@ -50,29 +46,24 @@ impl Model for Engine {
 
 impl Model for State {
     ghost use Rattle.engine_core.specs.Engines.{EngineParts};
-    ghost use Rattle.engine_core.specs.Policies.{IsPolicy};
 
     ghost Value = { EngineParts };
 
-    ghost view = { λ e. record {
-      entry = record { name = e.name; attach = e.attach; version = e.version; policy = e.policy };
-      level = e.bucket.level;
-      last = e.bucket.last;
-    } };
-
-    ghost invariant = { λ e. IsPolicy e.policy };
+    ghost view = { λ s. s.engine };
 }
 
 impl Engine {
-    ghost use Rattle.mrpc_table.specs.Weight.{weight};
-    ghost use Rattle.mrpc_table.specs.declared.table.Table.{Table as TheTable};
     ghost use Rattle.mrpc_table.specs.Calls.{IsCallOf};
-    ghost use Rattle.engine_core.specs.Policies.{IsAccess, IsPolicy, KnowsTenantOf, first_level, is_same_kind, level_at, level_under};
-    ghost use Rattle.engine_core.specs.Chains.{Entry, new_entry, upgraded};
-    ghost use Rattle.engine_core.specs.Answers.{Answers, hold, level_left, past_after};
-    ghost use Rattle.engine_core.specs.Marks.{IsAllowing, IsSilent, IsTrueFor, StandingCall, is_allowed, other_marks, past_of};
+    ghost use Rattle.policy_rate.specs.Level.{BucketHappening, moment, upgrade};
+    ghost use Rattle.policy_rate.specs.declared.rate.Rate.{Rate as RatePolicy};
+    ghost use Rattle.engine_core.specs.Policies.{IsPolicy, KnowsTenantOf, first_level, is_same_kind, level_at, level_under};
+    ghost use Rattle.engine_core.specs.Chains.{new_entry, upgraded};
+    ghost use Rattle.engine_core.specs.Engines.{HasPast};
+    ghost use Rattle.engine_core.specs.Answers.{Answers, hold};
+    ghost use Rattle.engine_core.specs.Marks.{IsTrueFor, StandingCall, other_marks, past_of};
     ghost use Rattle.engine_core.specs.Steps.{Steps};
-    ghost use Rattle.engine_core.specs.Turns.{ComesOut, IsElsewhere, TellsDraw, form_after, is_draw, is_redacted_by, noted_in};
+    ghost use Rattle.engine_core.specs.Turns.{IsElsewhere, TellsDraw, is_draw, noted_in};
+    ghost use Rattle.engine_core.specs.Working.{IsTurn, LeavesCall, LeavesEngine, LeavesMarks, LeavesTickets};
 
     /// An engine for a policy that is attached at this moment, in milliseconds: it has version 1 and a
     /// full bucket. It takes no memory, as no call of an engine does.
@@ -81,10 +72,11 @@ impl Engine {
         ensures entry { result.entry ≡ new_entry name attach policy }
         ensures level { result.level ≡ first_level policy }
         ensures last { result.last ≡ now }
+        ensures past { (rate : RatePolicy) → policy ≡ Policy.Rate rate → HasPast result rate now [] }
     {
         let bucket = match &policy {
             Policy::Rate(rate) => Bucket::full(rate, now),
-            _ => Bucket {
+            Policy::Access(_) | Policy::Quota { .. } | Policy::Count | Policy::Redact(_) => Bucket {
                 level: 0,
                 last: now,
             },
@@ -132,10 +124,14 @@ impl Engine {
         ensures level { self.new.level ≡ level_at self.old.entry.policy self.old.level (now - self.old.last) }
         ensures last { self.new.last ≡ max self.old.last now }
         ensures entry { self.new.entry ≡ self.old.entry }
+        ensures past { (first : RatePolicy) (start : ℕ) (past : List BucketHappening)
+            → HasPast self.old first start past → HasPast self.new first start (moment now ∷ past) }
     {
         match &self.policy {
             Policy::Rate(rate) => self.bucket.clock(rate, now),
-            _ => self.bucket.last = self.bucket.last.max(now),
+            Policy::Access(_) | Policy::Quota { .. } | Policy::Count | Policy::Redact(_) => {
+                self.bucket.last = self.bucket.last.max(now);
+            }
         }
     }
 
@@ -153,50 +149,13 @@ impl Engine {
         requires room { length (other_marks self.old.entry.attach call.old.marks) ≤ 7 }
         requires known { KnowsTenantOf (Q.knows tickets.old) self.old.entry.policy }
 
-        // Where this policy allows a call of which a mark says that it did, the turn is that of an entry of which
-        // the marks say what was noted.
-        ensures comes { (is_allowed call.old.marks self.old.entry.attach self.old.entry.version ≡ true
-            → IsAllowing self.old.entry.policy call.old.call)
-            → ComesOut self.old.entry.policy self.old.level now call.old.call
-            (past_of call.old.marks self.old.entry.attach) result }
-
-        // A call that this policy has allowed passes, whatever the policy says of it.
-        ensures allowed { is_allowed call.old.marks self.old.entry.attach self.old.entry.version ≡ true
-            → IsAccess self.old.entry.policy
-            → result ≡ Outcome.Passed Noted.Nothing }
-
-        // What is left of the bucket; the rest of the engine stays.
-        ensures level { self.new.level ≡ level_left (noted_in result) self.old.level }
-        ensures last { self.new.last ≡ self.old.last }
-        ensures entry { self.new.entry ≡ self.old.entry }
-
-        // The call stays but for its redaction, which makes it smaller, and keeps it one of the table.
-        ensures form { call.new.call ≡ form_after result self.old.entry.policy call.old.call }
-        ensures smaller { result ≡ Outcome.Redacted → weight call.new.call.tree < weight call.old.call.tree }
-        ensures fits { (T : TheTable) → IsCallOf T call.old.call → IsCallOf T call.new.call }
-
-        // What was noted stays, and the note of this turn joins it. A call that an access policy allowed
-        // has its mark, and a redaction takes all such marks away. The marks stay true.
-        ensures noted { IsSilent self.old.entry.policy (past_of call.old.marks self.old.entry.attach)
-            → past_of call.new.marks self.old.entry.attach
-            ≡ past_after (noted_in result) (past_of call.old.marks self.old.entry.attach) }
-        ensures others { (a : ℕ) → a ≢ self.old.entry.attach → past_of call.new.marks a ≡ past_of call.old.marks a }
-        ensures allowing { IsAccess self.old.entry.policy → result ≡ Outcome.Passed Noted.Nothing
-            → is_allowed call.new.marks self.old.entry.attach self.old.entry.version ≡ true }
-        ensures others_allowing { (a v : ℕ) → a ≢ self.old.entry.attach
-            → is_allowed call.new.marks a v ≡ (if is_redacted_by result then false else is_allowed call.old.marks a v) }
-        ensures room { length (other_marks self.old.entry.attach call.new.marks)
-            ≤ length (other_marks self.old.entry.attach call.old.marks) }
-        ensures stays_true { (e : Entry) → (e.attach ≡ self.old.entry.attach → e ≡ self.old.entry)
-            → IsTrueFor e call.old → IsTrueFor e call.new }
-
-        // Of the tickets, the one that was drawn is new.
-        ensures drawn { TellsDraw (Q.drawn tickets.old) (Q.drawn tickets.new) self.old.entry.policy (noted_in result) }
-        ensures elsewhere { (t w : ℕ) → Q.knows tickets.old t → w < WINDOWS
-            → IsElsewhere self.old.entry.policy (noted_in result) t w
-            → Q.drawn tickets.new t w ≡ Q.drawn tickets.old t w }
-        ensures knows { (t : ℕ) → Q.knows tickets.old t → Q.knows tickets.new t }
-        ensures undrawn { is_draw (noted_in result) ≡ false → tickets.new ≡ tickets.old }
+        // How it comes out, and what it leaves.
+        ensures comes_out { IsTurn self.old now call.old result }
+        ensures engine { LeavesEngine result self.old self.new }
+        ensures call { LeavesCall self.old.entry.policy result call.old.call call.new.call }
+        ensures marks { LeavesMarks self.old.entry result call.old call.new }
+        ensures tickets { LeavesTickets Q.knows Q.drawn Q.since self.old.entry.policy (noted_in result)
+            tickets.old tickets.new }
     {
         self.turn(call, table, now, tickets)
     }
@@ -222,6 +181,7 @@ impl Engine {
             → Q.drawn tickets.new t w ≡ Q.drawn tickets.old t w }
         ensures knows { (t : ℕ) → Q.knows tickets.old t → Q.knows tickets.new t }
         ensures undrawn { is_draw (noted_in result) ≡ false → tickets.new ≡ tickets.old }
+        ensures since { (first : Q) → Q.since first tickets.old → Q.since first tickets.new }
     {
         match &self.policy {
             Policy::Access(access) => judge(access, self.attach, self.version, call, table),
@@ -251,7 +211,11 @@ impl Engine {
                 }
                 Some((self.bucket.level, rate.per))
             }
-            _ => None,
+            Policy::Access(_)
+            | Policy::Rate(_)
+            | Policy::Quota { .. }
+            | Policy::Count
+            | Policy::Redact(_) => None,
         }
     }
 
@@ -259,13 +223,7 @@ impl Engine {
     pub fn decompose(self) -> State
         ensures { result ≡ self }
     {
-        State {
-            name: self.name,
-            attach: self.attach,
-            version: self.version,
-            policy: self.policy,
-            bucket: self.bucket,
-        }
+        State { engine: self }
     }
 
     /// The engine of a state, with a policy of the same kind: it has the next version, its level pays for
@@ -277,18 +235,30 @@ impl Engine {
         ensures entry { result.entry ≡ upgraded state.entry policy }
         ensures level { result.level ≡ level_under state.entry.policy policy state.level }
         ensures last { result.last ≡ state.last }
+        ensures past { (first rate : RatePolicy) (start : ℕ) (past : List BucketHappening)
+            → policy ≡ Policy.Rate rate → HasPast state first start past
+            → HasPast result first start (upgrade rate ∷ past) }
 
         // No mark says that the new version has allowed a call.
         ensures stays_true { (s : StandingCall) → IsTrueFor state.entry s → IsTrueFor result.entry s }
     {
-        let mut bucket = state.bucket;
-        if let (Policy::Rate(old), Policy::Rate(new)) = (&state.policy, &policy) {
-            bucket.convert(old, new);
+        let old = state.engine;
+        let mut bucket = old.bucket;
+        match (&old.policy, &policy) {
+            (Policy::Rate(before), Policy::Rate(after)) => bucket.convert(before, after),
+            (
+                Policy::Access(_)
+                | Policy::Rate(_)
+                | Policy::Quota { .. }
+                | Policy::Count
+                | Policy::Redact(_),
+                _,
+            ) => {}
         }
         Engine {
-            name: state.name,
-            attach: state.attach,
-            version: state.version + 1,
+            name: old.name,
+            attach: old.attach,
+            version: old.version + 1,
             policy,
             bucket,
         }

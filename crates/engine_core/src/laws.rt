@@ -1,14 +1,22 @@
 //! What holds of answers, of marks and of chains. These functions do nothing; their clauses hold.
 
-ghost use Rattle.std.specs.Prelude.{◌≡◌, ◌⊎◌, ℕ, None};
+ghost use Rattle.std.specs.Prelude.{◌≡◌, ◌+◌, ◌-◌, ◌*◌, ◌/◌, ◌≤◌, ◌++◌, ◌⊎◌, ℕ, List, None, length};
 ghost use Rattle.mrpc_table.specs.declared.call.Call.{Call};
-ghost use Rattle.engine_core.specs.Answers.{Answer, Answers, Past, ticket_in};
-ghost use Rattle.engine_core.specs.Chains.{Chain, Changes, Entry, IsChain, Refusal, Refuses};
+ghost use Rattle.policy_access.specs.Verdict.{AccessPolicy};
+ghost use Rattle.policy_rate.specs.Level.{BucketHappening, HasNoUpgrade, charges, rate_after};
+ghost use Rattle.policy_rate.specs.declared.rate.Rate.{Rate};
+ghost use Rattle.engine_core.specs.Answers.{Allows, Answer, Answers, Past, deny, note, past_after, ticket_in};
+ghost use Rattle.engine_core.specs.Chains.{Chain, Changes, Entry, IsChain, Refusal, Refuses, changed};
+ghost use Rattle.engine_core.specs.Engines.{EngineParts, HasPast};
 ghost use Rattle.engine_core.specs.Marks.{IsTrueFor, StandingCall, note_of};
+ghost use Rattle.engine_core.specs.Policies.{IsNoting, IsPolicy};
 ghost use Rattle.engine_core.specs.Turns.{ComesOut, noted_in};
 ghost use Rattle.engine_core.specs.declared.op.Op.{Op};
+ghost use Rattle.engine_core.specs.declared.outcome.Noted.{Noted};
 ghost use Rattle.engine_core.specs.declared.outcome.Outcome.{Outcome};
 ghost use Rattle.engine_core.specs.declared.policy.Policy.{Policy};
+
+use policy_rate::bounded_charges;
 
 /// An entry has one answer to a call, but for the ticket of a draw, which may be any.
 pub fn one_answer()
@@ -18,6 +26,47 @@ pub fn one_answer()
     ensures at_least { (policy : Policy) (level moment : ℕ) (form : Call) (past : Past)
         → (answer : Answer) × Answers policy level moment form past answer }
 {}
+
+/// A turn comes out in one way, but for the ticket of a draw, which may be any.
+pub fn one_outcome()
+    ensures { (policy : Policy) (level moment : ℕ) (form : Call) (past : Past) (a b : Outcome)
+        → ComesOut policy level moment form past a → ComesOut policy level moment form past b
+        → ticket_in (note (noted_in a)) ≡ ticket_in (note (noted_in b)) → a ≡ b }
+{}
+
+/// A call that passed is allowed behind the turn, with what was noted of it.
+pub fn passed_is_allowed()
+    ensures { (policy : Policy) (level moment other later : ℕ) (form : Call) (past : Past) (noted : Noted)
+        → ComesOut policy level moment form past (Outcome.Passed noted)
+        → Allows policy other later form (past_after noted past) }
+{}
+
+/// Whether an entry allows a call depends neither on the level of its bucket nor on the moment, and for a policy that
+/// notes calls on what was noted alone.
+pub fn allows_at_any_time()
+    ensures at_any_time { (policy : Policy) (level moment other later : ℕ) (form : Call) (past : Past)
+        → Allows policy level moment form past → Allows policy other later form past }
+    ensures by_notes { (policy : Policy) (level moment other later : ℕ) (form another : Call) (past : Past)
+        → IsNoting policy → Allows policy level moment form past → Allows policy other later another past }
+{}
+
+/// An access policy denies a call by one of its rules, or by the default behind them.
+pub fn denied_by_a_rule()
+    ensures { (p : AccessPolicy) (level moment rule : ℕ) (form : Call) (past : Past)
+        → Answers (Policy.Access p) level moment form past (deny rule) → rule ≤ length p.rules }
+{}
+
+/// Between two moments without an upgrade, an engine of a rate policy charges no more calls than a full bucket and the
+/// time between them pay for.
+pub fn bounded_charges_of_engines()
+    ensures { (before after : EngineParts) (first : Rate) (start : ℕ) (past recent : List BucketHappening)
+        → IsPolicy before.entry.policy → HasPast before first start past → HasPast after first start (recent ++ past)
+        → HasNoUpgrade recent
+        → let rate = rate_after first past in
+        charges recent ≤ (rate.burst * rate.per + rate.amount * (after.last - before.last)) / rate.per }
+{
+    bounded_charges();
+}
 
 /// A call without a mark of an entry's attachment has true marks for it.
 pub fn unmarked_is_true()
@@ -38,4 +87,12 @@ pub fn one_change()
 /// A step leaves at most eight entries, whose names and attachments are distinct.
 pub fn stays_chain()
     ensures { (before after : Chain) (op : Op) → IsChain before → Changes before op after → IsChain after }
+{}
+
+/// What a step makes of a chain is `changed`, where nothing stands against the step.
+pub fn change_is_changed()
+    ensures only { (before after : Chain) (op : Op) → IsChain before → Changes before op after
+        → after ≡ changed op before }
+    ensures unless_refused { (before : Chain) (op : Op) → IsChain before
+        → ((refusal : Refusal) → Refuses before op refusal → ⊥) → Changes before op (changed op before) }
 {}

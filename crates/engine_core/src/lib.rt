@@ -20,7 +20,10 @@ mod standing;
 mod work;
 
 pub use engine::{Engine, State};
-pub use laws::{one_answer, one_change, stays_chain, unmarked_is_true};
+pub use laws::{
+    allows_at_any_time, bounded_charges_of_engines, change_is_changed, denied_by_a_rule,
+    one_answer, one_change, one_outcome, passed_is_allowed, stays_chain, unmarked_is_true,
+};
 pub use op::Op;
 pub use outcome::{Noted, Outcome, Why};
 pub use policy::Policy;

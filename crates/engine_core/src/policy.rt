@@ -38,15 +38,14 @@ impl Policy {
     pub fn is_same_kind(&self, other: &Policy) -> bool
         ensures { result ≡ is_same_kind self.now other.now }
     {
-        match (self, other) {
-            (Policy::Access(_), Policy::Access(_)) => true,
-            (Policy::Rate(_), Policy::Rate(_)) => true,
-            (Policy::Quota { tenant: ours, .. }, Policy::Quota { tenant: theirs, .. }) => {
-                ours == theirs
+        match self {
+            Policy::Access(_) => matches!(other, Policy::Access(_)),
+            Policy::Rate(_) => matches!(other, Policy::Rate(_)),
+            Policy::Quota { tenant: ours, .. } => {
+                matches!(other, Policy::Quota { tenant: theirs, .. } if ours == theirs)
             }
-            (Policy::Count, Policy::Count) => true,
-            (Policy::Redact(_), Policy::Redact(_)) => true,
-            _ => false,
+            Policy::Count => matches!(other, Policy::Count),
+            Policy::Redact(_) => matches!(other, Policy::Redact(_)),
         }
     }
 

@@ -88,6 +88,7 @@ pub(crate) fn draw<Q: Tickets>(
         → Q.drawn tickets.new t w ≡ Q.drawn tickets.old t w }
     ensures knows { (t : ℕ) → Q.knows tickets.old t → Q.knows tickets.new t }
     ensures untouched { is_draw (noted_in result) ≡ false → tickets.new ≡ tickets.old }
+    ensures since { (first : Q) → Q.since first tickets.old → Q.since first tickets.new }
 {
     if let Some(ticket) = ticket_of(call, attach) {
         return compared(Noted::Nothing, ticket, cap);

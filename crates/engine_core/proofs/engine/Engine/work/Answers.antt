@@ -1,38 +1,24 @@
-use Rattle.engine_core.proofs.Turning.{level-step, form-step, comes-step, allowed-step, smaller-step, fits-step, noted-step, others-step, allowing-step, others_allowing-step, room-step, stays_true-step}
+use Rattle.engine_core.proofs.Turning.{turn-step, engine-step, call-step, marks-step, known-after}
 use Rattle.engine_core.proofs.engine.Engine.work.Goals as goal
 
-pub returns-clause-comes : goal.returns-clause-comes
-returns-clause-comes g c = comes-step _ _ _ _ _ _ _ _ _ c.turn.ensures.step
+pub returns-clause-comes_out : goal.returns-clause-comes_out
+returns-clause-comes_out g c = turn-step c.args.self.now _ _ _ _ _ c.turn.ensures.step
 
-pub returns-clause-allowed : goal.returns-clause-allowed
-returns-clause-allowed g c = allowed-step _ _ _ _ _ _ _ _ _ c.turn.ensures.step
+pub returns-clause-engine : goal.returns-clause-engine
+returns-clause-engine g c = engine-step c.args.self.now c.turn.new.self _ _ _ _ c.turn.ensures.step c.turn.ensures.last c.turn.ensures.entry
 
-pub returns-clause-level : goal.returns-clause-level
-returns-clause-level g c = level-step _ _ _ _ _ _ _ _ _ c.turn.ensures.step
+pub returns-clause-call : goal.returns-clause-call
+returns-clause-call g c = call-step _ _ _ _ _ _ _ _ _ c.turn.ensures.step
 
-pub returns-clause-form : goal.returns-clause-form
-returns-clause-form g c = form-step _ _ _ _ _ _ _ _ _ c.turn.ensures.step
+pub returns-clause-marks : goal.returns-clause-marks
+returns-clause-marks g c = marks-step c.args.self.now.entry _ _ _ _ _ _ c.turn.ensures.step
 
-pub returns-clause-smaller : goal.returns-clause-smaller
-returns-clause-smaller g c = smaller-step _ _ _ _ _ _ _ _ _ c.turn.ensures.step
-
-pub returns-clause-fits : goal.returns-clause-fits
-returns-clause-fits g c = fits-step _ _ _ _ _ _ _ _ _ c.turn.ensures.step
-
-pub returns-clause-noted : goal.returns-clause-noted
-returns-clause-noted g c = noted-step _ _ _ _ _ _ _ _ _ c.turn.ensures.step
-
-pub returns-clause-others : goal.returns-clause-others
-returns-clause-others g c = others-step _ _ _ _ _ _ _ _ _ c.turn.ensures.step
-
-pub returns-clause-allowing : goal.returns-clause-allowing
-returns-clause-allowing g c = allowing-step _ _ _ _ _ _ _ _ _ c.turn.ensures.step
-
-pub returns-clause-others_allowing : goal.returns-clause-others_allowing
-returns-clause-others_allowing g c = others_allowing-step _ _ _ _ _ _ _ _ _ c.turn.ensures.step
-
-pub returns-clause-stays_true : goal.returns-clause-stays_true
-returns-clause-stays_true g c = stays_true-step c.args.self.now.entry _ _ _ _ _ _ c.turn.ensures.step
-
-pub returns-clause-room : goal.returns-clause-room
-returns-clause-room g c = room-step _ _ _ _ _ _ _ _ _ c.turn.ensures.step
+pub returns-clause-tickets : goal.returns-clause-tickets
+returns-clause-tickets g c = record {
+  drawn = c.turn.ensures.drawn;
+  elsewhere = c.turn.ensures.elsewhere;
+  knows = c.turn.ensures.knows;
+  known = λ p known. known-after p c.turn.ensures.knows known;
+  undrawn = c.turn.ensures.undrawn;
+  since = c.turn.ensures.since;
+}

@@ -1,0 +1,92 @@
+-- What a turn of an engine makes of the engine, of the call with its marks, and of the tickets.
+use Rattle.std.specs.Prelude.{◌≡◌, ◌≢◌, ℕ, ◌<◌, ◌≤◌, true, false, if◌then◌else◌, List, length, Option, None}
+use Rattle.mrpc_base.specs.declared.tickets.TheConstants.{WINDOWS}
+use Rattle.mrpc_table.specs.Calls.{IsCallOf}
+use Rattle.mrpc_table.specs.Weight.{weight}
+use Rattle.mrpc_table.specs.declared.call.Call.{Call}
+use Rattle.mrpc_table.specs.declared.table.Table.{Table}
+use Rattle.policy_access.specs.Verdict.{AccessPolicy}
+use Rattle.policy_rate.specs.Level.{BucketHappening}
+use Rattle.policy_rate.specs.declared.rate.Rate.{Rate as RatePolicy}
+use Rattle.engine_core.specs.Answers.{level_left, past_after}
+use Rattle.engine_core.specs.Chains.{Entry}
+use Rattle.engine_core.specs.Engines.{EngineParts, HasPast, past_behind}
+use Rattle.engine_core.specs.Marks.{IsAllowing, IsSilent, IsTrueFor, StandingCall, is_allowed, note_of, other_marks, past_of}
+use Rattle.engine_core.specs.Policies.{IsAccess, KnowsTenantOf}
+use Rattle.engine_core.specs.Turns.{ComesOut, IsElsewhere, TellsDraw, form_after, is_draw, is_redacted_by, noted_in}
+use Rattle.engine_core.specs.declared.policy.Policy.{Policy}
+use Rattle.engine_core.specs.declared.policy.Policy.TheVariants.{Access}
+use Rattle.engine_core.specs.declared.outcome.Noted.{Noted}
+use Rattle.engine_core.specs.declared.outcome.Noted.TheVariants.{Nothing}
+use Rattle.engine_core.specs.declared.outcome.Why.TheVariants.{Denied}
+use Rattle.engine_core.specs.declared.outcome.Outcome.{Outcome}
+use Rattle.engine_core.specs.declared.outcome.Outcome.TheVariants.{Passed, Refused, Redacted}
+
+-- a turn of an engine, for a call with its marks
+pub record IsTurn (e : EngineParts) (moment : ℕ) (s : StandingCall) (outcome : Outcome) : Type 0 where
+  -- where the policy allows a call of which a mark says that it did, the turn is that of an entry of which the marks
+  -- say what was noted
+  pub comes : (is_allowed s.marks e.entry.attach e.entry.version ≡ true → IsAllowing e.entry.policy s.call)
+      → ComesOut e.entry.policy e.level moment s.call (past_of s.marks e.entry.attach) outcome
+  -- a call that the policy has allowed passes, whatever the policy says of it
+  pub allowed : is_allowed s.marks e.entry.attach e.entry.version ≡ true → IsAccess e.entry.policy
+      → outcome ≡ Passed Nothing
+  -- a call is denied by one of the rules, or by the default behind them
+  pub rule : (p : AccessPolicy) (noted : Noted) (rule : ℕ) → e.entry.policy ≡ Access p
+      → outcome ≡ Refused noted (Denied rule) → rule ≤ length p.rules
+
+-- of its engine a turn leaves all but what a charge takes from the bucket
+pub record LeavesEngine (outcome : Outcome) (before after : EngineParts) : Type 0 where
+  pub level : after.level ≡ level_left (noted_in outcome) before.level
+  pub last : after.last ≡ before.last
+  pub entry : after.entry ≡ before.entry
+  -- a charge joins the past of a bucket
+  pub past : (first : RatePolicy) (start : ℕ) (past : List BucketHappening) → HasPast before first start past
+      → HasPast after first start (past_behind (noted_in outcome) past)
+
+-- the call stays but for its redaction, which makes it smaller, and keeps it one of its table
+pub record LeavesCall (policy : Policy) (outcome : Outcome) (before after : Call) : Type 0 where
+  pub form : after ≡ form_after outcome policy before
+  pub smaller : outcome ≡ Redacted → weight after.tree < weight before.tree
+  pub fits : (T : Table) → IsCallOf T before → IsCallOf T after
+
+-- an access policy allowed the call in this turn, or had allowed it
+abbrev pub IsAllowance : Policy → Outcome → Type 0
+IsAllowance policy outcome = IsAccess policy × (outcome ≡ Passed Nothing)
+
+-- what a turn of an engine of this entry makes of the marks
+pub record LeavesMarks (entry : Entry) (outcome : Outcome) (before after : StandingCall) : Type 0 where
+  -- what was noted for the entry stays, and the note of this turn joins it
+  pub noted : IsSilent entry.policy (past_of before.marks entry.attach)
+      → past_of after.marks entry.attach ≡ past_after (noted_in outcome) (past_of before.marks entry.attach)
+  pub others : (a : ℕ) → a ≢ entry.attach → past_of after.marks a ≡ past_of before.marks a
+  -- a call that an access policy allowed has its mark, which no other turn leaves
+  pub allowing : IsAccess entry.policy → outcome ≡ Passed Nothing
+      → is_allowed after.marks entry.attach entry.version ≡ true
+  pub allowing_alone : (version : ℕ) → is_allowed before.marks entry.attach version ≡ false
+      → is_allowed after.marks entry.attach version ≡ true
+      → IsAllowance entry.policy outcome × (version ≡ entry.version)
+  -- such marks of others stay, and a redaction takes them all away
+  pub others_allowing : (a version : ℕ) → a ≢ entry.attach
+      → is_allowed after.marks a version
+      ≡ (if is_redacted_by outcome then false else is_allowed before.marks a version)
+  -- a turn that neither notes nor allows leaves no mark where there was none, and no turn leaves one of another engine
+  pub none : noted_in outcome ≡ Nothing → (IsAllowance entry.policy outcome → ⊥)
+      → note_of before.marks entry.attach ≡ None → note_of after.marks entry.attach ≡ None
+  pub others_none : (a : ℕ) → a ≢ entry.attach → note_of before.marks a ≡ None → note_of after.marks a ≡ None
+  -- there are no more marks of others
+  pub room : length (other_marks entry.attach after.marks) ≤ length (other_marks entry.attach before.marks)
+  -- marks that are true for an entry stay so
+  pub stays_true : (e : Entry) → (e.attach ≡ entry.attach → e ≡ entry) → IsTrueFor e before → IsTrueFor e after
+
+-- what a turn makes of tickets, of which it is known whose they are, which were drawn and which come after which: of
+-- the tickets, the one that was drawn is new
+pub record LeavesTickets {Q : Type 0} (Knows : Q → ℕ → Type 0) (drawn_of : Q → ℕ → ℕ → Option (List ℕ))
+    (Since : Q → Q → Type 0) (policy : Policy) (noted : Noted) (before after : Q) : Type 0 where
+  pub drawn : TellsDraw (drawn_of before) (drawn_of after) policy noted
+  pub elsewhere : (tenant window : ℕ) → Knows before tenant → window < WINDOWS
+      → IsElsewhere policy noted tenant window → drawn_of after tenant window ≡ drawn_of before tenant window
+  pub knows : (tenant : ℕ) → Knows before tenant → Knows after tenant
+  pub known : (p : Policy) → KnowsTenantOf (Knows before) p → KnowsTenantOf (Knows after) p
+  pub undrawn : is_draw noted ≡ false → after ≡ before
+  pub since : (first : Q) → Since first before → Since first after
