@@ -7,7 +7,7 @@ use Rattle.receive_core.specs.Opening.{IsReading}
 use Rattle.receive_core.specs.Turns.{IsFirst}
 use Rattle.receive_core.specs.declared.opened.Reading.{Reading}
 use Rattle.receive_core.proofs.Turned.{dropped_turns, ok_from}
-use Rattle.receive_core.proofs.inbound.Inbound.turn.Goals as goal
+use Rattle.receive_core.proofs.inbound.Inbound.answer.Goals as goal
 
 pub returns-in-Some-Dropped-clause-turns : goal.returns-in-Some-Dropped-clause-turns
 returns-in-Some-Dropped-clause-turns g c =
