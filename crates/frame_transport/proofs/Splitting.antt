@@ -8,7 +8,7 @@ use Rattle.std.specs.Prelude.{All}
 use Rattle.byteorder.specs.Endian.{big_number}
 use Rattle.byteorder.specs.Numbers.{big_from-lt}
 use Rattle.frame_transport.specs.Bytes.{header_bytes}
-use Rattle.frame_transport.specs.Frames.{IsKind, HasVersion, IsFrame, bytes_of, joined, StandFrom, IsPartial, length_in, IsFaultAt, HasFault, Splits, Ends, AlwaysSplits, SplitsOnce, FaultStays, AlwaysEnds}
+use Rattle.frame_transport.specs.Frames.{IsKind, HasVersion, IsFrame, bytes_of, joined, StandFrom, IsPartial, length_in, IsFaultAt, HasFault, Splits, Ends, AlwaysSplits, SplitsOnce, FaultStays, AlwaysEnds, StaysShort}
 use Rattle.frame_transport.specs.declared.format.Frame.{Frame}
 use Rattle.frame_transport.specs.declared.fault.FeedFault.{FeedFault}
 use Rattle.frame_transport.proofs.HeaderBytes.{length-header_bytes, length_in-header, kind-header, version-header, method-header, conn-header, number-header, drop-header, AreBytes, AreBytes-drop, read_header}
@@ -237,3 +237,17 @@ always_ends place stream h =
     let s = always_splits place stream h in
     let first = fault_or_none (place + length (joined s.0)) s.1 in
     (first.0, record { frames = s.0; rest = s.1; splits = s.2; first = first.1 })
+
+-- bytes of a frame that has begun and has no fault
+pub stays_short : StaysShort
+stays_short place bs h partial none = elim (cases_lt (length bs) 16) [
+  | inl less ↦ omega arith
+  | inr more ↦
+      let facts = no_fault place bs (omega arith) none in
+      elim (cases_lt (length bs) (16 + length_in bs)) [
+        | inl short ↦ omega (arith, facts.0)
+        | inr enough ↦
+            let front = frame_at_front place bs (are_bytes bs h) none enough in
+            absurd (partial (frame_at place bs) (drop (16 + length_in bs) bs) front.0 front.1)
+      ]
+]

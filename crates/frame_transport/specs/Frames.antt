@@ -5,7 +5,7 @@ use Rattle.std.specs.List.{flat_map}
 use Rattle.byteorder.specs.Endian.{big_number}
 use Rattle.frame_transport.specs.Bytes.{frame_bytes}
 use Rattle.frame_transport.specs.declared.format.Frame.{Frame}
-use Rattle.frame_transport.specs.declared.format.TheConstants.{MAX_PAYLOAD, VERSION, HELLO_VERSION, REQUEST, HELLO}
+use Rattle.frame_transport.specs.declared.format.TheConstants.{HEADER_LEN, MAX_PAYLOAD, VERSION, HELLO_VERSION, REQUEST, HELLO}
 use Rattle.frame_transport.specs.declared.fault.FeedFault.{FeedFault}
 use Rattle.frame_transport.specs.declared.fault.FeedFault.TheVariants.{Version, Kind, TooLong}
 
@@ -109,3 +109,8 @@ AlwaysEnds = (place : ℕ) (stream : List ℕ) → All (λ byte. byte < 256) str
 abbrev pub EndsOnce : Type 0
 EndsOnce = (place : ℕ) (stream : List ℕ) (fault other : Option FeedFault) → Ends place stream fault
     → Ends place stream other → fault ≡ other
+
+-- bytes with neither a whole frame nor a fault are fewer than those of a frame with the largest payload
+abbrev pub StaysShort : Type 0
+StaysShort = (place : ℕ) (bytes : List ℕ) → All (λ byte. byte < 256) bytes → IsPartial bytes → HasFault place bytes None
+    → length bytes < HEADER_LEN + MAX_PAYLOAD

@@ -1,7 +1,7 @@
 //! What holds of all streams.
 
 ghost use Rattle.std.specs.Prelude.{◌≡◌, ◌<◌, ◌+◌, ◌++◌, ℕ, List, [], length, All};
-ghost use Rattle.frame_transport.specs.Frames.{AlwaysSplits, SplitsOnce, FaultStays, AlwaysEnds, EndsOnce, IsFrame, bytes_of, joined, StandFrom, IsPartial, IsFaultAt, Splits};
+ghost use Rattle.frame_transport.specs.Frames.{AlwaysSplits, SplitsOnce, FaultStays, AlwaysEnds, EndsOnce, StaysShort, IsFrame, bytes_of, joined, StandFrom, IsPartial, IsFaultAt, Splits};
 ghost use Rattle.frame_transport.specs.declared.format.Frame.{Frame};
 ghost use Rattle.frame_transport.specs.declared.format.TheConstants.{HEADER_LEN};
 ghost use Rattle.frame_transport.specs.declared.fault.FeedFault.{FeedFault};
@@ -18,7 +18,7 @@ pub fn one_split()
 {}
 
 /// The bytes of a frame in front of others determine it. It has a header of 16 bytes, and nothing is at fault before a
-/// length is there.
+/// length is there. A frame that has begun without a fault isn't longer than one with the largest payload.
 pub fn one_frame()
     ensures once { (f g : Frame) (more others : List ℕ) → IsFrame f → IsFrame g
         → bytes_of f ++ more ≡ bytes_of g ++ others
@@ -27,6 +27,7 @@ pub fn one_frame()
     ensures nothing { IsPartial [] }
     ensures short { (place : ℕ) (bytes : List ℕ) → length bytes < 4 → (fault : FeedFault) → IsFaultAt place bytes fault
         → ⊥ }
+    ensures begun { StaysShort }
 {}
 
 /// Frames and those behind them are frames one behind another.

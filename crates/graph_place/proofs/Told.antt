@@ -1,5 +1,5 @@
 -- What is told of a message that was placed.
-use Rattle.std.proofs.Common.{◌≡◌, ℕ, ◌+◌, ◌≤◌, [], sym, subst, ◌∙◌, arith}
+use Rattle.std.proofs.Common.{◌≡◌, ℕ, ◌+◌, ◌≤◌, [], length, sym, ap, subst, ◌∙◌, arith}
 use Rattle.mrpc_table.specs.Node.{Node}
 use Rattle.mrpc_table.specs.Normal.{depth}
 use Rattle.mrpc_table.specs.declared.table.Table.{Table}
@@ -9,7 +9,7 @@ use Rattle.graph_form.specs.Forgotten.{tree_of}
 use Rattle.graph_form.specs.declared.placed.Placed.{Placed as PlacedWords}
 use Rattle.graph_place.specs.Laid.{Puts}
 use Rattle.graph_place.specs.Size.{tree_words}
-use Rattle.graph_place.specs.Stored.{HoldsTree, StandWithin, StandApart}
+use Rattle.graph_place.specs.Stored.{StandsIn, StandWithin, StandApart}
 use Rattle.graph_place.proofs.Beginning.{Loads}
 use Rattle.graph_place.proofs.Items.{NodePut}
 use Rattle.graph_place.proofs.Spreads.{spread_within, apart_distinct}
@@ -26,18 +26,20 @@ laid_out T H msg at d free t before words none first puts within deep =
 words_are : (T : Table) (H msg at d : ℕ) (t : Node) (words : Loads) (p : LaidOut T H msg at d t words) → words ≡ loads p.placed
 words_are T H msg at d t words p = p.words
 
-pub holds : (T : Table) (H msg at d : ℕ) (t : Node) (words : Loads) (told : PlacedWords) → 1 ≤ at → at + tree_words T msg t ≤ H → told.address ≡ at → told.words ≡ words → LaidOut T H msg at d t words → HoldsTree T H msg t told
-holds T H msg at d t words told from within address same p =
+pub stands : (T : Table) (H msg at d : ℕ) (t : Node) (words : Loads) (told : PlacedWords) → 1 ≤ at → at + tree_words T msg t ≤ H → d ≡ at + tree_words T msg t
+    → told.address ≡ at → told.words ≡ words → LaidOut T H msg at d t words → StandsIn T H msg t at (tree_words T msg t) told
+stands T H msg at d t words told from within size address same p =
     let root : LiesIn H at (size_words T msg) = record { from_one = from; to_end = omega (arith, within) } in
     let sound : IsSound T H msg at p.placed = record { root = root; words = p.sound } in
+    let are : told.words ≡ loads p.placed = same ∙ words_are T H msg at d t words p in
+    let few = p.spread.few in
+    let long : length told.words ≡ length (loads p.placed) = ap length are in
     record {
-      placed = p.placed;
-      words_of = record { sound = subst (λ a. IsSound T H msg a p.placed) (sym address) sound; words = same ∙ words_are T H msg at d t words p };
-      tree = p.made;
+      tree = p.placed;
+      loaded = record { sound = subst (λ a. IsSound T H msg a p.placed) (sym address) sound; words = are };
+      means = p.made;
+      address = address;
+      within = subst (StandWithin at (tree_words T msg t)) (sym are) (spread_within at d (tree_words T msg t) (loads p.placed) size p.spread);
+      apart = subst StandApart (sym are) (apart_distinct (loads p.placed) p.spread.apart);
+      few = omega (arith, few, long, size);
     }
-
-pub stands_within : (T : Table) (H msg at d : ℕ) (t : Node) (words : Loads) → d ≡ at + tree_words T msg t → LaidOut T H msg at d t words → StandWithin at (tree_words T msg t) words
-stands_within T H msg at d t words size p = subst (StandWithin at (tree_words T msg t)) (sym (words_are T H msg at d t words p)) (spread_within at d (tree_words T msg t) (loads p.placed) size p.spread)
-
-pub stands_apart : (T : Table) (H msg at d : ℕ) (t : Node) (words : Loads) → LaidOut T H msg at d t words → StandApart words
-stands_apart T H msg at d t words p = subst StandApart (sym (words_are T H msg at d t words p)) (apart_distinct (loads p.placed) p.spread.apart)

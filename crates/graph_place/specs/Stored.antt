@@ -1,5 +1,5 @@
 -- What stands where a message was placed.
-use Rattle.std.specs.Prelude.{◌≡◌, ℕ, ◌+◌, ◌<◌, ◌≤◌, List, map, All}
+use Rattle.std.specs.Prelude.{◌≡◌, ℕ, ◌+◌, ◌<◌, ◌≤◌, List, map, All, length}
 use Rattle.mrpc_table.specs.Node.{Node}
 use Rattle.mrpc_table.specs.Valid.{AreDistinct}
 use Rattle.mrpc_table.specs.declared.table.Table.{Table}
@@ -7,12 +7,6 @@ use Rattle.graph_form.specs.Placed.{Placed}
 use Rattle.graph_form.specs.Forgotten.{tree_of}
 use Rattle.graph_form.specs.Stored.{AreWordsOf}
 use Rattle.graph_form.specs.declared.placed.Placed.{Placed as PlacedWords}
-
--- the words are what is loaded of a sound placed tree of the message in a heap of H words, and its tree is this one
-pub record HoldsTree (T : Table) (H msg : ℕ) (t : Node) (words : PlacedWords) : Type 0 where
-  pub placed : Placed
-  pub words_of : AreWordsOf T H msg placed words
-  pub tree : tree_of T msg placed ≡ t
 
 -- the places of words
 abbrev pub places : List (ℕ × ℕ) → List ℕ
@@ -25,3 +19,15 @@ StandWithin at words xs = All (λ word. (at ≤ word.0) × (word.0 < at + words)
 -- no two words stand at one place
 abbrev pub StandApart : List (ℕ × ℕ) → Type 0
 StandApart xs = AreDistinct (places xs)
+
+-- A message stands in words of a heap that has so many: they are those that a copy from `at` loads, in that order, the
+-- node first and each content behind it, of a sound placed tree whose tree is this one. All of them lie within so many
+-- places from `at` on, no two at one place.
+pub record StandsIn (T : Table) (words msg : ℕ) (t : Node) (at span : ℕ) (placed : PlacedWords) : Type 0 where
+  pub tree : Placed
+  pub loaded : AreWordsOf T words msg tree placed
+  pub means : tree_of T msg tree ≡ t
+  pub address : placed.address ≡ at
+  pub within : StandWithin at span placed.words
+  pub apart : StandApart placed.words
+  pub few : length placed.words ≤ span

@@ -1,12 +1,16 @@
 //! Placing a message into a heap: first all its words are laid out, then they are stored.
 
 ghost use Rattle.std.specs.Prelude.{◌≡◌, ◌≤◌, ◌<◌, ◌+◌, ◌^◌, ◌++◌, ℕ, length, All, IfOk, OnErr};
+ghost use Rattle.mrpc_base.specs.Heap.{word_after};
+ghost use Rattle.mrpc_table.specs.Node.{Node};
 ghost use Rattle.mrpc_table.specs.Normal.{IsNormal};
 ghost use Rattle.mrpc_table.specs.Valid.{IsValid};
+ghost use Rattle.mrpc_table.specs.declared.table.Table.{Table as TheTable};
 ghost use Rattle.graph_place.specs.Size.{tree_words};
-ghost use Rattle.graph_place.specs.Stored.{HoldsTree, StandWithin, StandApart};
+ghost use Rattle.graph_place.specs.Stored.{StandsIn};
 
 use crate::builder::Builder;
+use crate::laws::stored_words_stand;
 use crate::size::place_words;
 use graph_form::{Loads, Placed};
 use mrpc_base::{Room, Stores};
@@ -33,17 +37,14 @@ pub fn place<H: Stores>(
     requires in_heap { at + tree_words table.now msg tree.now ≤ H.words heap.old }
     requires few { length (H.stores heap.old) + tree_words table.now msg tree.now ≤ 2 ^ 63 }
 
-    // The words are the loads of a sound placed tree at `at`, whose tree is this one, and they are what is stored.
-    ensures tree { IfOk result (λ placed. HoldsTree table.now (H.words heap.old) msg tree.now placed) }
-    ensures address { IfOk result (λ placed. placed.address ≡ at) }
+    // The message stands in these words, and they are what is stored.
+    ensures stands { IfOk result (StandsIn table.now (H.words heap.old) msg tree.now at
+        (tree_words table.now msg tree.now)) }
     ensures stores { IfOk result (λ placed. H.stores heap.new ≡ H.stores heap.old ++ placed.words) }
-
-    // They take no other places, and each place once.
-    ensures within { IfOk result (λ placed. StandWithin at (tree_words table.now msg tree.now) placed.words) }
-    ensures apart { IfOk result (λ placed. StandApart placed.words) }
 
     ensures memory { OnErr result (H.stores heap.new ≡ H.stores heap.old) }
     ensures size { H.words heap.new ≡ H.words heap.old }
+    ensures same_heap { (first : H) → H.since first heap.old → H.since first heap.new }
 {
     // A heap's size is a u64, so each of these places is one.
     let _size = heap.size();
@@ -75,16 +76,9 @@ pub fn layout(
     requires from_one { 1 ≤ at }
     requires in_range { at + tree_words table.now msg tree.now < 2 ^ 64 }
 
-    // In each heap that has these places, the words are the loads of a sound placed tree at `at`, whose tree is this
-    // one.
-    ensures tree { IfOk result (λ placed. (H : ℕ) → at + tree_words table.now msg tree.now ≤ H
-        → HoldsTree table.now H msg tree.now placed) }
-    ensures address { IfOk result (λ placed. placed.address ≡ at) }
-
-    // They take no other places, and each place once.
-    ensures within { IfOk result (λ placed. StandWithin at (tree_words table.now msg tree.now) placed.words) }
-    ensures apart { IfOk result (λ placed. StandApart placed.words) }
-    ensures few { IfOk result (λ placed. length placed.words ≤ tree_words table.now msg tree.now) }
+    // In each heap that has these places, the message stands in these words.
+    ensures stands { IfOk result (λ placed. (words : ℕ) → at + tree_words table.now msg tree.now ≤ words
+        → StandsIn table.now words msg tree.now at (tree_words table.now msg tree.now) placed) }
 {
     let room = place_words(tree, table, msg);
     let mut builder = Builder::new(alloc, at, room)?;
@@ -101,8 +95,14 @@ pub fn store<H: Stores>(heap: &mut H, placed: &Placed)
     requires few { length (H.stores heap.old) + length placed.now.words ≤ 2 ^ 63 }
     requires room { length placed.now.words ≤ H.room heap.old }
     ensures stores { H.stores heap.new ≡ H.stores heap.old ++ placed.now.words }
+    // Where a message stands in the words, each of their places has its word.
+    ensures found { (T : TheTable) (msg at span : ℕ) (tree : Node)
+        → StandsIn T (H.words heap.old) msg tree at span placed.now
+        → All (λ word. word_after (H.stores heap.new) word.0 ≡ word.1) placed.now.words }
     ensures size { H.words heap.new ≡ H.words heap.old }
+    ensures same_heap { (first : H) → H.since first heap.old → H.since first heap.new }
 {
+    stored_words_stand();
     let words = placed.words.as_slice();
     for word in words {
         heap.store(word.0, word.1);

@@ -1,5 +1,6 @@
 mod Fated
 mod Firsts
+mod Living
 mod Ordered
 mod Rows
 mod Taken

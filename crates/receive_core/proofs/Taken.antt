@@ -1,4 +1,5 @@
 -- What was taken in.
+use Rattle.std.specs.Prelude.{All}
 use Rattle.std.proofs.Common.{◌≡◌, ℕ, ◌+◌, ◌<◌, ◌≤◌, List, [], ◌∷◌, ◌++◌, sym, ap, subst, ◌∙◌, arith}
 use Rattle.std.proofs.lemmas.List.Elements.{All-weaker}
 use Rattle.mrpc_table.specs.Calls.{message_at}
@@ -12,7 +13,7 @@ use Rattle.receive_heap.specs.Layout.{Layout, IsFirstFit}
 use Rattle.receive_heap.specs.declared.extents.Block.{Block}
 use Rattle.receive_core.specs.Fates.{message_of, block_words}
 use Rattle.receive_core.specs.Opening.{IsOpened}
-use Rattle.graph_place.specs.Stored.{HoldsTree, StandWithin}
+use Rattle.graph_place.specs.Stored.{StandsIn, StandWithin}
 use Rattle.receive_core.specs.Turns.{IsPlaced}
 use Rattle.receive_core.specs.declared.opened.Opened.{Opened}
 
@@ -31,12 +32,14 @@ wider at words more xs le all =
 pub placed_is : (T : Table) (msg : ℕ) (tree : Node) (old new : Layout) (stores after : List (ℕ × ℕ)) (block : Block) (placed : PlacedWords) (at words : ℕ)
     → block.words ≡ words → words ≡ capped (block_words T msg tree) → at + words ≤ old.words → old.words ≤ 65536
     → block.number ≡ old.next → IsFirstFit old.holes words block.at → block.at ≡ at
-    → new.held ≡ old.held ++ block ∷ [] → new.next ≡ old.next + 1 → new.words ≡ old.words → placed.address ≡ at
-    → ((H : ℕ) → at + tree_words T msg tree ≤ H → HoldsTree T H msg tree placed) → StandWithin at (tree_words T msg tree) placed.words
+    → new.held ≡ old.held ++ block ∷ [] → new.next ≡ old.next + 1 → new.words ≡ old.words
+    → ((H : ℕ) → at + tree_words T msg tree ≤ H → StandsIn T H msg tree at (tree_words T msg tree) placed)
     → after ≡ stores ++ placed.words → IsPlaced T msg tree old new stores after block
-placed_is T msg tree old new stores after block placed at words is cap inside small number front same held next size address holds within stored =
+placed_is T msg tree old new stores after block placed at words is cap inside small number front same held next size stands stored =
     let exact : words ≡ block_words T msg tree = uncapped (block_words T msg tree) words cap (omega (arith, inside, small)) in
     let most : tree_words T msg tree ≤ words = omega (arith, exact) in
+    let here = stands old.words (omega (arith, inside, most)) in
+    let few = here.few in
     record {
       words = is ∙ exact;
       number = number;
@@ -45,9 +48,28 @@ placed_is T msg tree old new stores after block placed at words is cap inside sm
       next = next;
       size = size;
       placed = placed;
-      address = address ∙ sym same;
-      holds = holds old.words (omega (arith, inside, most));
-      within = subst (λ a. StandWithin a block.words placed.words) (sym same)
-          (wider at (tree_words T msg tree) block.words placed.words (omega (arith, most, is)) within);
+      stands = record {
+        tree = here.tree;
+        loaded = here.loaded;
+        means = here.means;
+        address = here.address ∙ sym same;
+        within = subst (λ a. StandWithin a block.words placed.words) (sym same)
+            (wider at (tree_words T msg tree) block.words placed.words (omega (arith, most, is)) here.within);
+        apart = here.apart;
+        few = omega (arith, few, most, is);
+      };
       stored = stored;
     }
+
+-- the message of a call whose block lies in the heap lies there
+pub fits_in : (T : Table) (conn : ℕ) (f : Frame) (o : Opened) (at words : ℕ) → IsOpened T conn f o → at + o.words ≤ words → words ≤ 65536
+    → at + tree_words T (message_of T f) o.call.tree ≤ words
+fits_in T conn f o at words is inside small =
+    let exact : o.words ≡ block_words T (message_of T f) o.call.tree = uncapped (block_words T (message_of T f) o.call.tree) o.words is.words (omega (arith, inside, small)) in
+    omega (arith, exact, inside)
+
+-- and so do its words
+pub inside_heap : (T : Table) (H msg : ℕ) (t : Node) (at span size : ℕ) (placed : PlacedWords) → StandsIn T H msg t at span placed → 1 ≤ at → at + span ≤ size
+    → All (λ word. (1 ≤ word.0) × (word.0 < size)) placed.words
+inside_heap T H msg t at span size placed stands from within =
+    All-weaker (λ (w : ℕ × ℕ). (at ≤ w.0) × (w.0 < at + span)) (λ (w : ℕ × ℕ). (1 ≤ w.0) × (w.0 < size)) (λ w h. (omega (arith, h.0, from), omega (arith, h.1, within))) placed.words stands.within

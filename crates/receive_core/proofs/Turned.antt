@@ -2,6 +2,7 @@
 use Rattle.std.proofs.Common.{◌≡◌, ℕ, ◌<◌, ◌≤◌, ◌↔◌, List, false, Option, Some, None, Result, Ok, Err, refl, sym, ap, subst, ◌∙◌, arith, ⊎_elim}
 use Rattle.std.specs.Prelude.{All, IfOk}
 use Rattle.mrpc_table.specs.Node.{Node}
+use Rattle.mrpc_table.specs.Normal.{IsNormal}
 use Rattle.mrpc_table.specs.declared.memory.Memory.{Memory}
 use Rattle.mrpc_table.specs.declared.table.Table.{Table}
 use Rattle.frame_transport.specs.Feed.{Fed, Gives}
@@ -72,15 +73,17 @@ waiting_turns T policy old new stores f o largest a small first is allowed none 
     )
 
 pub taken_turns : (T : Table) (policy : Option AccessPolicy) (old new : Receiving) (stores after : List (ℕ × ℕ)) (f : Frame) (o : Opened) (a : Arrival)
-    → IsFate T policy old.conn old.heap.words f (arrives o.call.tree) → TakesCall T old new f o stores after a → Turns T policy old new stores after a
-taken_turns T policy old new stores after f o NoFrame fate takes = absurd takes
-taken_turns T policy old new stores after f o (Dropped kind method number why) fate takes = absurd takes
-taken_turns T policy old new stores after f o (Waiting need largest) fate takes = absurd takes
-taken_turns T policy old new stores after f o (Arrived kind method number block tree) fate takes = record {
+    → IsFate T policy old.conn old.heap.words f (arrives o.call.tree) → IsNormal T (message_of T f) o.call.tree → TakesCall T old new f o stores after a
+    → Turns T policy old new stores after a
+taken_turns T policy old new stores after f o NoFrame fate normal takes = absurd takes
+taken_turns T policy old new stores after f o (Dropped kind method number why) fate normal takes = absurd takes
+taken_turns T policy old new stores after f o (Waiting need largest) fate normal takes = absurd takes
+taken_turns T policy old new stores after f o (Arrived kind method number block tree) fate normal takes = record {
   frame = f;
   taken = takes.0;
   says = takes.1;
   fate = subst (λ (t : Node). IsFate T policy old.conn old.heap.words f (arrives t)) (sym takes.2) fate;
+  normal = subst (IsNormal T (message_of T f)) (sym takes.2) normal;
   placed = takes.3;
 }
 
@@ -98,7 +101,7 @@ pub ok_taken : (T : Table) (policy : Option AccessPolicy) (old new : Receiving) 
     → IfOk r (λ a. (g : Frame) → IsFirst old.fed g → IsOpened T old.conn g o → TakesCall T old new g o stores after a)
     → IfOk r (Turns T policy old new stores after)
 ok_taken T policy old new stores after f o (Ok a) small first is allowed takes =
-    taken_turns T policy old new stores after f o a (allowed_fate T policy old.conn old.heap.words f o small is allowed) (takes f first is)
+    taken_turns T policy old new stores after f o a (allowed_fate T policy old.conn old.heap.words f o small is allowed) is.normal (takes f first is)
 ok_taken T policy old new stores after f o (Err e) small first is allowed takes = tt
 
 -- ---- what was read of the first frame counts for nothing in a turn
@@ -142,6 +145,7 @@ turns_from T policy old mid new stores after f (Arrived kind method number block
   taken = subst (λ (fed : Fed). Gives fed t.frame new.fed) stays.fed t.taken;
   says = t.says;
   fate = fate_from T policy old mid t.frame (arrives tree) stays t.fate;
+  normal = t.normal;
   placed = subst (λ (h : Layout). IsPlaced T (message_of T t.frame) tree h new.heap stores after block) stays.heap t.placed;
 }
 

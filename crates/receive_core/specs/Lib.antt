@@ -1,4 +1,5 @@
 pub mod Fates
+pub mod Life
 pub mod Opening
 pub mod Order
 pub mod Turns

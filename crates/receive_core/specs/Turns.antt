@@ -1,9 +1,10 @@
 -- What a connection's receiver holds, and what a turn makes of it.
 use Rattle.std.specs.Prelude.{◌≡◌, ℕ, ◌+◌, ◌<◌, List, [], ◌∷◌, ◌++◌, All, Option, IfSome}
 use Rattle.mrpc_table.specs.Node.{Node}
+use Rattle.mrpc_table.specs.Normal.{IsNormal}
 use Rattle.mrpc_table.specs.declared.table.Table.{Table}
 use Rattle.graph_form.specs.declared.placed.Placed.{Placed as PlacedWords}
-use Rattle.graph_place.specs.Stored.{HoldsTree, StandWithin}
+use Rattle.graph_place.specs.Stored.{StandsIn}
 use Rattle.receive_core.specs.Opening.{IsOpened}
 use Rattle.frame_transport.specs.Feed.{Fed, Gives}
 use Rattle.frame_transport.specs.Frames.{IsFrame, IsPartial, Splits, bytes_of}
@@ -61,8 +62,7 @@ pub record LetsWait (T : Table) (policy : Option AccessPolicy) (old new : Receiv
   pub stays : new.fed ≡ old.fed
   pub heap : new.heap ≡ old.heap
 
--- A message was placed: its block is the front of the first hole that fits, and the words that were stored are those
--- of a placed tree of it, all of them within the block.
+-- A message was placed: its block is the front of the first hole that fits, it stands there, and its words were stored.
 pub record IsPlaced (T : Table) (msg : ℕ) (tree : Node) (old new : Layout) (stores after : List (ℕ × ℕ))
     (block : Block) : Type 0 where
   pub words : block.words ≡ block_words T msg tree
@@ -72,9 +72,7 @@ pub record IsPlaced (T : Table) (msg : ℕ) (tree : Node) (old new : Layout) (st
   pub next : new.next ≡ old.next + 1
   pub size : new.words ≡ old.words
   pub placed : PlacedWords
-  pub address : placed.address ≡ block.at
-  pub holds : HoldsTree T old.words msg tree placed
-  pub within : StandWithin block.at block.words placed.words
+  pub stands : StandsIn T old.words msg tree block.at block.words placed
   pub stored : after ≡ stores ++ placed.words
 
 -- The first frame arrives, and its message was placed.
@@ -84,6 +82,7 @@ pub record TakesIn (T : Table) (policy : Option AccessPolicy) (old new : Receivi
   pub taken : Gives old.fed frame new.fed
   pub says : (frame.kind ≡ kind) × (frame.method ≡ method) × (frame.number ≡ number)
   pub fate : IsFate T policy old.conn old.heap.words frame (arrives tree)
+  pub normal : IsNormal T (message_of T frame) tree
   pub placed : IsPlaced T (message_of T frame) tree old.heap new.heap stores after block
 
 -- what a turn answers, and what it makes of the receiver and of the stores to its heap

@@ -1,6 +1,7 @@
 //! A connection's receiver.
 
 ghost use Rattle.std.specs.Prelude.{◌≡◌, ◌≢◌, ◌<◌, ◌≤◌, ◌+◌, ◌-◌, ◌++◌, ◌^◌, ◌↔◌, ◌⊎◌, [], ◌∷◌, ℕ, List, length, All, IfOk, OnOk, IfErr, OnErr, IsErr, IsErrOf, IfSome, IfNone, Some, None, Ok, Err, slice_get};
+ghost use Rattle.std.specs.List.{flat_map};
 ghost use Rattle.std.specs.Option.{option_copied};
 ghost use Rattle.mrpc_table.specs.Valid.{IsValid};
 ghost use Rattle.mrpc_table.specs.declared.limits.TheConstants.{MAX_HEAP, MIN_HEAP};
@@ -8,14 +9,16 @@ ghost use Rattle.mrpc_table.specs.declared.table.Table.{Table as TheTable};
 ghost use Rattle.frame_transport.specs.Feed.{total, Gives, GoesOn, StopsAt};
 ghost use Rattle.frame_transport.specs.Frames.{Ends, IsPartial, Splits};
 ghost use Rattle.frame_transport.specs.declared.format.Frame.{Frame as TheFrame};
+ghost use Rattle.frame_transport.specs.declared.format.TheConstants.{HELLO};
 ghost use Rattle.frame_transport.specs.declared.fault.FeedFault.{FeedFault as TheFault};
-ghost use Rattle.receive_heap.specs.Layout.{IsFirstFit, IsLargest, IsWithout};
+ghost use Rattle.receive_heap.specs.Layout.{IsFirstFit, IsLargest, IsSound, IsWithout};
 ghost use Rattle.receive_core.specs.Opening.{IsOpened, IsReading};
+ghost use Rattle.receive_core.specs.Life.{Life as TheLife, Fated, Lives, no_life, fed, greeted, fated, Tells, stores_of};
 ghost use Rattle.receive_core.specs.Turns.{Receiving, IsFirst, IsSplit, IsReady, Turns, TakesCall, HasStayed};
 
 use crate::arrival::{Arrival, DropCause};
 use crate::opened::{Opened, Reading, read_frame, refusal};
-use frame_transport::{Feed, FeedFault, Frame, one_frame, one_split};
+use frame_transport::{Feed, FeedFault, Frame, HELLO, frames_join, one_frame, one_split};
 use graph_place::{layout, store};
 use mrpc_base::{Room, Stores};
 use mrpc_table::{Memory, Table};
@@ -64,12 +67,16 @@ impl Inbound {
         ensures held { IfOk result (λ inbound. inbound.heap.held ≡ []) }
         ensures next { IfOk result (λ inbound. inbound.heap.next ≡ 1) }
         ensures ready { IfOk result (λ inbound. (T : TheTable) → IsReady T inbound) }
+        ensures life { IfOk result (λ inbound. (T : TheTable) → Lives T no_life inbound) }
     {
+        one_frame();
+        let extents = Extents::open(alloc, words)?;
+        extents.partition();
         Ok(Inbound {
             alloc,
             conn,
             feed: Feed::new(alloc),
-            extents: Extents::open(alloc, words)?,
+            extents,
             opened: None,
         })
     }
@@ -90,6 +97,15 @@ impl Inbound {
         ensures stops { IfErr result (λ fault. (fault ≡ FeedFault.Memory)
             ⊎ StopsAt self.old.fed piece.now fault self.new.fed) }
         ensures memory { IsErrOf result FeedFault.Memory → self.new ≡ self.old }
+        ensures again { (fault : TheFault) → Ends self.old.fed.place self.old.fed.bytes (Some fault)
+            → result ≡ Err fault }
+
+        // The receiver lives on, with the piece behind its stream.
+        ensures life { (T : TheTable) (life : TheLife) → Lives T life self.old
+            → OnOk result (Lives T (fed life piece.now None) self.new) }
+        ensures life_at_fault { (T : TheTable) (life : TheLife) → Lives T life self.old
+            → IfErr result (λ fault. (fault ≡ FeedFault.Memory)
+            ⊎ Lives T (fed life piece.now (Some fault)) self.new) }
 
         ensures total { total self.new.fed ≤ total self.old.fed + length piece.now }
         ensures conn { self.new.conn ≡ self.old.conn }
@@ -98,7 +114,44 @@ impl Inbound {
     {
         one_split();
         one_frame();
+        frames_join();
         self.feed.feed(piece)
+    }
+
+    /// The first whole frame that waits, or None where none does. It takes no memory.
+    pub fn first(&self) -> Option<&Frame>
+        ensures some { IfSome result (λ frame. IsFirst self.now.fed frame.now) }
+        ensures none { IfNone result (IsPartial self.now.fed.bytes) }
+    {
+        first_of(&self.feed)
+    }
+
+    /// Takes the first whole frame where it is a hello, which then has no fate; it opens a connection as the first frame
+    /// of its stream. None where the first whole frame is another one, or none waits. It takes no memory.
+    pub fn take_hello(&mut self) -> Option<Frame>
+        ensures hello { IfSome result (λ frame. frame.kind ≡ HELLO) }
+        ensures taken { IfSome result (λ frame. Gives self.old.fed frame self.new.fed) }
+        ensures none { IfNone result ((f : TheFrame) → IsFirst self.old.fed f → f.kind ≢ HELLO) }
+        ensures same { IfNone result (self.new ≡ self.old) }
+
+        ensures conn { self.new.conn ≡ self.old.conn }
+        ensures heap { self.new.heap ≡ self.old.heap }
+        ensures total { total self.new.fed ≡ total self.old.fed }
+        ensures ready { (T : TheTable) → IsReady T self.old → IsReady T self.new }
+
+        // The receiver lives on, where no frame had its fate before.
+        ensures life { IfSome result (λ frame. (T : TheTable) (life : TheLife) → Lives T life self.old
+            → life.hello ≡ None → life.fates ≡ [] → Lives T (greeted life frame) self.new) }
+    {
+        one_frame();
+        one_split();
+        frames_join();
+        let frame = first_of(&self.feed)?;
+        if frame.kind != HELLO {
+            return None;
+        }
+        self.opened = None;
+        Some(self.take_first())
     }
 
     /// Gives the first whole frame its fate, under a table and a policy, and tells it. A message that arrives is placed
@@ -121,8 +174,17 @@ impl Inbound {
             (H.stores heap.old) (H.stores heap.new)) }
         ensures none { (result ≡ Ok Arrival.None) ↔ IsPartial self.old.fed.bytes }
 
+        // The receiver lives on, and its heap with it.
+        ensures life { (life : TheLife) → Lives table.now life self.old → IfOk result (λ arrival. (more : List Fated)
+            × Tells (option_copied policy.entry) arrival more
+            × (H.stores heap.new ≡ H.stores heap.old ++ flat_map stores_of more)
+            × Lives table.now (fated life more) self.new) }
+        ensures few_stores { length (H.stores heap.new) ≤ length (H.stores heap.old) + (self.old.heap.words - 1) }
+
         ensures memory { OnErr result (HasStayed self.old self.new) }
         ensures no_store { OnErr result (H.stores heap.new ≡ H.stores heap.old) }
+        ensures life_stays { (life : TheLife) → Lives table.now life self.old
+            → OnErr result (Lives table.now life self.new) }
 
         ensures total { total self.new.fed ≡ total self.old.fed }
         ensures conn { self.new.conn ≡ self.old.conn }
@@ -130,12 +192,14 @@ impl Inbound {
         ensures next { self.new.heap.next ≤ self.old.heap.next + 1 }
         ensures ready { IsReady table.now self.new }
         ensures words { H.words heap.new ≡ H.words heap.old }
+        ensures same_heap { (first : H) → H.since first heap.old → H.since first heap.new }
     {
-        match self.read_first(table)? {
-            None => Ok(Arrival::None),
-            Some(Reading::Dropped(why)) => Ok(self.drop_first(why)),
-            Some(Reading::Call(opened)) => self.judge_first(opened, table, policy, heap),
-        }
+        one_frame();
+        one_split();
+        frames_join();
+        let arrival = self.answer(table, policy, heap);
+        self.partition();
+        arrival
     }
 
     /// Takes a block back by its number, as [`Extents::reclaim`] does. It takes no memory.
@@ -150,8 +214,13 @@ impl Inbound {
         ensures conn { self.new.conn ≡ self.old.conn }
         ensures fed { self.new.fed ≡ self.old.fed }
         ensures ready { (T : TheTable) → IsReady T self.old → IsReady T self.new }
+
+        // The receiver lives on.
+        ensures life { (T : TheTable) (life : TheLife) → Lives T life self.old → Lives T life self.new }
     {
-        self.extents.reclaim(block)
+        let taken_back = self.extents.reclaim(block);
+        self.partition();
+        taken_back
     }
 
     /// The kind, the method and the number of the whole frame behind `i` others that have no fate yet, or None where no
@@ -173,6 +242,45 @@ impl Inbound {
             → result ≡ length rest + self.now.fed.behind }
     {
         self.feed.left_over()
+    }
+
+    // What the heap is in each receiver; it does nothing.
+    fn partition(&self)
+        ensures { IsSound self.now.heap }
+    {
+        self.extents.partition();
+    }
+
+    // What a turn does.
+    fn answer<H: Stores>(
+        &mut self,
+        table: &Table,
+        policy: Option<&Access>,
+        heap: &mut H,
+    ) -> Result<Arrival, Memory>
+        requires valid { IsValid table.now }
+        requires ready { IsReady table.now self.old }
+        requires size { H.words heap.old ≡ self.old.heap.words }
+        requires few { length (H.stores heap.old) ≤ 2 ^ 62 }
+        requires blocks { self.old.heap.next < 2 ^ 32 }
+        ensures turns { IfOk result (Turns table.now (option_copied policy.entry) self.old self.new
+            (H.stores heap.old) (H.stores heap.new)) }
+        ensures none { (result ≡ Ok Arrival.None) ↔ IsPartial self.old.fed.bytes }
+        ensures memory { OnErr result (HasStayed self.old self.new) }
+        ensures no_store { OnErr result (H.stores heap.new ≡ H.stores heap.old) }
+        ensures total { total self.new.fed ≡ total self.old.fed }
+        ensures conn { self.new.conn ≡ self.old.conn }
+        ensures places { self.new.heap.words ≡ self.old.heap.words }
+        ensures next { self.new.heap.next ≤ self.old.heap.next + 1 }
+        ensures ready { IsReady table.now self.new }
+        ensures words { H.words heap.new ≡ H.words heap.old }
+        ensures same_heap { (first : H) → H.since first heap.old → H.since first heap.new }
+    {
+        match self.read_first(table)? {
+            None => Ok(Arrival::None),
+            Some(Reading::Dropped(why)) => Ok(self.drop_first(why)),
+            Some(Reading::Call(opened)) => self.judge_first(opened, table, policy, heap),
+        }
     }
 
     // What the first frame is read as, or None where no whole frame waits. Its call is read once: it is kept while it
@@ -223,6 +331,7 @@ impl Inbound {
         ensures next { self.new.heap.next ≤ self.old.heap.next + 1 }
         ensures ready { IsReady table.now self.new }
         ensures words { H.words heap.new ≡ H.words heap.old }
+        ensures same_heap { (first : H) → H.since first heap.old → H.since first heap.new }
     {
         if let Some(why) = refusal(&opened, table, policy, heap.size()) {
             return Ok(self.drop_first(why));
@@ -311,6 +420,7 @@ impl Inbound {
         ensures next { self.new.heap.next ≤ self.old.heap.next + 1 }
         ensures opened { self.new.opened ≡ None }
         ensures words { H.words heap.new ≡ H.words heap.old }
+        ensures same_heap { (first : H) → H.since first heap.old → H.since first heap.new }
     {
         let Opened { call, words } = opened;
         let message = table.message_at(call.method, call.number);

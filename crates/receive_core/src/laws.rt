@@ -1,6 +1,7 @@
 //! What holds of all frames.
 
 ghost use Rattle.receive_core.specs.Fates.{HasFate, HasOneFate};
+ghost use Rattle.receive_core.specs.Life.{TakesEach, StreamIsShort, StoresAreFew};
 ghost use Rattle.receive_core.specs.Order.{BeginsSo, GoesOnSo, StopsSo, TakesSo, AreFirst};
 
 use frame_transport::{frames_join, one_frame, one_split};
@@ -29,4 +30,16 @@ pub fn frames_in_order()
     frames_join();
     one_frame();
     one_split();
+}
+
+/// What the life of a receiver tells the layer above, whatever pieces and turns it had. Where no whole frame waits, each
+/// whole frame of the stream had its fate, but for a hello that was taken, and a stream without a fault is shorter than
+/// these frames and one more. For each fate at most the words of the heap behind its first were stored.
+/// The call does nothing.
+pub fn life_of_receiver()
+    ensures each { TakesEach }
+    ensures short { StreamIsShort }
+    ensures stores { StoresAreFew }
+{
+    one_frame();
 }

@@ -1,4 +1,5 @@
 mod Calls
 mod Joins
 mod Kept
+mod OneLayout
 mod Places

@@ -76,3 +76,8 @@ pub record IsSound (layout : Layout) : Type 0 where
   pub block_words : All (λ block. 1 ≤ block.words) layout.held
   pub numbers : IsStrictlyIncreasing (map (λ block. block.number) layout.held)
   pub numbered : All (λ block. (1 ≤ block.number) × (block.number < layout.next)) layout.held
+
+-- so the held blocks of a heap determine its holes
+abbrev pub HeldDetermineHoles : Type 0
+HeldDetermineHoles = (one other : Layout) → IsSound one → IsSound other → one.words ≡ other.words
+    → one.held ≡ other.held → one.holes ≡ other.holes

@@ -2,6 +2,7 @@
 
 ghost use Rattle.std.specs.Prelude.{◌≤◌};
 
+use frame_transport::FeedFault;
 use mrpc_base::{PlainWords, Stores};
 use mrpc_table::{Bytes, Lines, Memory, Table};
 use policy_access::{Access, read_access};
@@ -82,11 +83,16 @@ impl Scene {
 
     /// Feeds a piece of a stream, of 1000 bytes at most; whether there is no fault so far.
     pub fn feed(&mut self, piece: &[u8]) -> bool {
+        self.fault_at(piece).is_none()
+    }
+
+    /// Feeds a piece of a stream, of 1000 bytes at most; the fault that it answers.
+    pub fn fault_at(&mut self, piece: &[u8]) -> Option<FeedFault> {
         if self.calls > 1000 || piece.len() > 1000 {
-            return false;
+            return Some(FeedFault::Memory);
         }
         self.calls += 1;
-        self.inbound.bytes(piece).is_ok()
+        self.inbound.bytes(piece).err()
     }
 
     // What one turn tells.
@@ -126,6 +132,18 @@ impl Scene {
     /// The whole frame behind so many others.
     pub fn waiting(&self, others: u64) -> Option<(u8, u16, u32)> {
         self.inbound.waiting(others)
+    }
+
+    /// The version and the length of the payload of the hello in front, which is taken.
+    pub fn take_hello(&mut self) -> Option<(u8, usize)> {
+        let hello = self.inbound.take_hello()?;
+        Some((hello.version, hello.payload.len()))
+    }
+
+    /// The version of the first whole frame.
+    pub fn first_version(&self) -> Option<u8> {
+        let first = self.inbound.first()?;
+        Some(first.version)
     }
 
     /// How many bytes lie in no whole frame.

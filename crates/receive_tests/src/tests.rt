@@ -1,6 +1,7 @@
 //! Frames that become messages in a heap.
 
 use crate::scene::{Scene, Told};
+use frame_transport::FeedFault;
 use receive_core::DropCause;
 use receive_heap::{Block, NotHeld};
 use std::alloc::Global;
@@ -64,6 +65,15 @@ fn a_frame_waits_for_a_hole(rt: HostRuntime) {
     assert!(rt; scene.reclaim(1).is_ok());
     scene.tells(&rt, Told::Arrived(1, first_block(2, 2)));
     assert!(rt; matches!(scene.reclaim(1), Err(NotHeld { number: 1 })));
+    scene.tells(&rt, Told::Nothing);
+}
+
+#[test]
+fn a_message_of_five_words_is_too_large_for_a_heap_of_four(rt: HostRuntime) {
+    let mut scene = Scene::open(&rt, rt.alloc(), NUMBERS, 4);
+    assert!(rt; scene.feed(LONG_REQUEST));
+    let why = DropCause::Oversize { need: 5, words: 4 };
+    scene.tells(&rt, Told::Dropped(1, why));
     scene.tells(&rt, Told::Nothing);
 }
 
@@ -149,4 +159,55 @@ fn a_fault_comes_behind_the_frames_before_it(rt: HostRuntime) {
     assert!(rt; !scene.feed(b"\0\x04\0\x01\x01"));
     scene.tells(&rt, Told::Arrived(1, first_block(1, 2)));
     scene.tells(&rt, Told::Nothing);
+}
+
+// A request, and behind it a header of kind 4.
+const FAULTY: &[u8] =
+    b"\0\0\0\x03\x01\x01\0\0\0\0\0\x01\0\0\0\x01\x08\x96\x01\0\0\0\0\x04\x01\0\0\0\0\0\x01\0\0\0\x02";
+
+// The fault of kind 4, which stands behind the request and the length of four bytes.
+fn is_kind_four(fault: Option<FeedFault>) -> bool {
+    matches!(
+        fault,
+        Some(FeedFault::Kind {
+            place: 23,
+            value: 4
+        })
+    )
+}
+
+// A stream with a fault comes in two pieces, cut at a place. Its fault is told with the piece that has the kind, and
+// again from then on; the request in front of it arrives.
+fn check_faulty_cut(rt: &impl Abort, alloc: Global, at: usize) {
+    let mut scene = Scene::open(rt, alloc, SMALL, 16);
+    let (front, back) = FAULTY.split_at(at.min(FAULTY.len()));
+    let first = scene.fault_at(front);
+    assert!(rt; first.is_some() == (at > 23));
+    assert!(rt; first.is_none() || is_kind_four(first));
+    assert!(rt; is_kind_four(scene.fault_at(back)));
+    assert!(rt; is_kind_four(scene.fault_at(b"")));
+    scene.tells(rt, Told::Arrived(1, first_block(1, 2)));
+    scene.tells(rt, Told::Nothing);
+    assert!(rt; is_kind_four(scene.fault_at(REQUEST)));
+    scene.tells(rt, Told::Nothing);
+}
+
+#[test]
+fn a_stream_with_a_fault_may_be_cut_anywhere(rt: HostRuntime) {
+    for at in 0..FAULTY.len() + 1 {
+        check_faulty_cut(&rt, rt.alloc(), at);
+    }
+}
+
+#[test]
+fn a_hello_in_front_is_taken(rt: HostRuntime) {
+    let mut scene = Scene::open(&rt, rt.alloc(), SMALL, 16);
+    assert!(rt; scene.take_hello().is_none());
+    assert!(rt; scene.feed(b"\0\0\0\x02\x03\x02\0\0\0\0\0\x01\0\0\0\0hi"));
+    assert!(rt; scene.feed(REQUEST));
+    assert!(rt; scene.first_version() == Some(2));
+    assert!(rt; scene.take_hello() == Some((2, 2)));
+    assert!(rt; scene.first_version() == Some(1));
+    assert!(rt; scene.take_hello().is_none());
+    scene.tells(&rt, Told::Arrived(1, first_block(1, 2)));
 }

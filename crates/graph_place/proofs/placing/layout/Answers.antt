@@ -1,28 +1,14 @@
-use Rattle.std.proofs.Common.{◌≡◌, ◌+◌, refl, sym, ap, subst, ◌∙◌, arith}
+use Rattle.std.proofs.Common.{◌≡◌, ◌+◌, refl, ap, ◌∙◌, arith}
 use Rattle.graph_place.specs.Size.{tree_words}
-use Rattle.graph_place.specs.Stored.{StandWithin, StandApart}
-use Rattle.graph_place.proofs.Told.{laid_out, holds, stands_within, stands_apart}
+use Rattle.graph_place.proofs.Told.{laid_out, stands}
 use Rattle.graph_place.proofs.placing.layout.Goals as goal
 
-pub returns-clause-tree : goal.returns-clause-tree
-returns-clause-tree c = λ H within.
-    let T = c.args.table.now in
-    let t = c.args.tree.now in
-    let size : c.node.new.self.free ≡ c.args.at + tree_words c.args.table.now c.args.msg c.args.tree.now = c.in_ok-node.ensures.free ∙ ap (λ e. e + tree_words c.args.table.now c.args.msg c.args.tree.now) c.in_ok-builder.ensures.free in
-    holds T H c.args.msg c.args.at c.node.new.self.free t c.node.new.self.words.items (record { address = c.args.at; words = c.from_vec.result }) c.requires.from_one within refl c.from_vec.ensures
-    (laid_out T H c.args.msg c.args.at c.node.new.self.free c.in_ok-builder.builder.free t c.in_ok-builder.builder.words.items c.node.new.self.words.items c.in_ok-builder.ensures.words c.in_ok-builder.ensures.free c.in_ok-node.ensures.puts (omega (arith, size, within)) (omega (arith, c.requires.normal.depth)))
-
-pub returns-clause-within : goal.returns-clause-within
-returns-clause-within c =
-    let T = c.args.table.now in
-    let t = c.args.tree.now in
-    let size : c.node.new.self.free ≡ c.args.at + tree_words c.args.table.now c.args.msg c.args.tree.now = c.in_ok-node.ensures.free ∙ ap (λ e. e + tree_words c.args.table.now c.args.msg c.args.tree.now) c.in_ok-builder.ensures.free in
-    let laid = laid_out T c.node.new.self.free c.args.msg c.args.at c.node.new.self.free c.in_ok-builder.builder.free t c.in_ok-builder.builder.words.items c.node.new.self.words.items c.in_ok-builder.ensures.words c.in_ok-builder.ensures.free c.in_ok-node.ensures.puts (omega arith) (omega (arith, c.requires.normal.depth)) in
-    subst (StandWithin c.args.at (tree_words c.args.table.now c.args.msg c.args.tree.now)) (sym c.from_vec.ensures) (stands_within T c.node.new.self.free c.args.msg c.args.at c.node.new.self.free t c.node.new.self.words.items size laid)
-
-pub returns-clause-apart : goal.returns-clause-apart
-returns-clause-apart c =
-    let T = c.args.table.now in
-    let t = c.args.tree.now in
-    let laid = laid_out T c.node.new.self.free c.args.msg c.args.at c.node.new.self.free c.in_ok-builder.builder.free t c.in_ok-builder.builder.words.items c.node.new.self.words.items c.in_ok-builder.ensures.words c.in_ok-builder.ensures.free c.in_ok-node.ensures.puts (omega arith) (omega (arith, c.requires.normal.depth)) in
-    subst StandApart (sym c.from_vec.ensures) (stands_apart T c.node.new.self.free c.args.msg c.args.at c.node.new.self.free t c.node.new.self.words.items laid)
+pub returns : goal.returns
+returns c = record {
+  stands = λ H within.
+      let T = c.args.table.now in
+      let t = c.args.tree.now in
+      let size : c.node.new.self.free ≡ c.args.at + tree_words c.args.table.now c.args.msg c.args.tree.now = c.in_ok-node.ensures.free ∙ ap (λ e. e + tree_words c.args.table.now c.args.msg c.args.tree.now) c.in_ok-builder.ensures.free in
+      stands T H c.args.msg c.args.at c.node.new.self.free t c.node.new.self.words.items (record { address = c.args.at; words = c.from_vec.result }) c.requires.from_one within size refl c.from_vec.ensures
+      (laid_out T H c.args.msg c.args.at c.node.new.self.free c.in_ok-builder.builder.free t c.in_ok-builder.builder.words.items c.node.new.self.words.items c.in_ok-builder.ensures.words c.in_ok-builder.ensures.free c.in_ok-node.ensures.puts (omega (arith, size, within)) (omega (arith, c.requires.normal.depth)));
+}

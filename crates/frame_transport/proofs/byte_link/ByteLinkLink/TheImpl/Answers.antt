@@ -8,6 +8,7 @@ receive-tells g c =
       count = rw c.ensures.end tt;
       appended = rw c.ensures.end tt;
       kept = rw c.ensures.end refl;
+      silent = λ none. none;
       ends = λ _. c.ensures.ended;
       same_ended = λ other. absurd (other c.ensures.end);
       same_handed = c.ensures.same_handed;

@@ -1,29 +1,25 @@
-use Rattle.std.proofs.Common.{Option, sym, subst, ◌∙◌}
 use Rattle.std.specs.Option.{option_copied}
-use Rattle.std.specs.Prelude.{IfSome}
-use Rattle.frame_transport.specs.Feed.{Fed, Gives}
-use Rattle.frame_transport.specs.declared.format.Frame.{Frame}
-use Rattle.receive_core.specs.Opening.{IsReading}
-use Rattle.receive_core.specs.Turns.{IsFirst}
-use Rattle.receive_core.specs.declared.opened.Reading.{Reading}
-use Rattle.receive_core.proofs.Turned.{dropped_turns, ok_from}
+use Rattle.receive_core.proofs.Living.{Known, ok_adds, err_stays, few_stores}
 use Rattle.receive_core.proofs.inbound.Inbound.turn.Goals as goal
 
-pub returns-in-Some-Dropped-clause-turns : goal.returns-in-Some-Dropped-clause-turns
-returns-in-Some-Dropped-clause-turns g c =
-    let T = c.args.table.now in
-    let old = c.args.self.now in
-    let policy = option_copied c.args.policy in
-    let read = subst (λ (o : Option Reading). IfSome o (λ r. (f : Frame) × IsFirst old.fed f × IsReading T old.conn f r)) c.in-Some-Dropped.is c.in_ok-read_first.ensures.some in
-    let fates = subst (IsReading T old.conn read.0) c.in-Some-Dropped.field-0-is read.2 in
-    let stays = c.read_first.ensures.stays in
-    let dropped = c.drop_first.ensures.frame read.0 (subst (λ (fed : Fed). IsFirst fed read.0) (sym stays.fed) read.1) in
-    dropped_turns T policy old c.drop_first.new.self _ read.0 c.in-Some-Dropped.why c.drop_first.result (fates policy old.heap.words)
-    (subst (λ (fed : Fed). Gives fed read.0 c.drop_first.new.self.fed) stays.fed dropped.1) (c.drop_first.ensures.heap ∙ stays.heap) dropped.0
+pub returns-clause-life : goal.returns-clause-life
+returns-clause-life g c life lives =
+    let known : Known = record {
+      stays = c.one_split.ensures.stays;
+      once = c.one_split.ensures.once;
+      ends = c.one_split.ensures.one_end;
+      frame = c.one_frame.ensures.once;
+      places = c.frames_join.ensures.places;
+      sizes = c.frames_join.ensures.size;
+      splits = c.frames_join.ensures.splits;
+    } in
+    ok_adds known c.args.table.now (option_copied c.args.policy) life c.args.self.now c.answer-arrival.new.self _ _ c.answer-arrival.result lives c.answer-arrival.ensures.conn
+    c.answer-arrival.ensures.places c.partition.ensures c.answer-arrival.ensures.ready c.answer-arrival.ensures.turns
 
-pub returns-in-Some-Call-clause-turns : goal.returns-in-Some-Call-clause-turns
-returns-in-Some-Call-clause-turns g c =
-    let T = c.args.table.now in
-    let old = c.args.self.now in
-    let read = subst (λ (o : Option Reading). IfSome o (λ r. (f : Frame) × IsFirst old.fed f × IsReading T old.conn f r)) c.in-Some-Call.is c.in_ok-read_first.ensures.some in
-    ok_from T (option_copied c.args.policy) old c.read_first.new.self c.judge_first.new.self _ _ read.0 c.judge_first.result c.read_first.ensures.stays read.1 c.judge_first.ensures.turns
+pub returns-clause-few_stores : goal.returns-clause-few_stores
+returns-clause-few_stores g c =
+    few_stores c.args.table.now (option_copied c.args.policy) c.args.self.now c.answer-arrival.new.self _ _ c.answer-arrival.result c.answer-arrival.ensures.turns c.answer-arrival.ensures.no_store
+
+pub returns-clause-life_stays : goal.returns-clause-life_stays
+returns-clause-life_stays g c life lives =
+    err_stays c.args.table.now life c.args.self.now c.answer-arrival.new.self c.answer-arrival.result lives c.answer-arrival.ensures.ready c.answer-arrival.ensures.memory

@@ -1,0 +1,135 @@
+-- The life of a receiver: what was fed to it, and what became of the frames in it.
+use Rattle.std.specs.Prelude.{◌≡◌, ℕ, ◌+◌, ◌*◌, ◌-◌, ◌<◌, ◌≤◌, List, [], ◌∷◌, ◌++◌, length, map, All, Option, Some, None}
+use Rattle.std.specs.List.{flat_map}
+use Rattle.mrpc_table.specs.Node.{Node}
+use Rattle.mrpc_table.specs.Normal.{IsNormal}
+use Rattle.mrpc_table.specs.declared.table.Table.{Table}
+use Rattle.graph_form.specs.declared.placed.Placed.{Placed as PlacedWords}
+use Rattle.graph_place.specs.Stored.{StandsIn}
+use Rattle.frame_transport.specs.Feed.{total}
+use Rattle.frame_transport.specs.Frames.{Splits, HasFault, IsPartial, joined}
+use Rattle.frame_transport.specs.declared.format.Frame.{Frame}
+use Rattle.frame_transport.specs.declared.format.TheConstants.{HEADER_LEN, MAX_PAYLOAD}
+use Rattle.frame_transport.specs.declared.fault.FeedFault.{FeedFault}
+use Rattle.policy_access.specs.Verdict.{AccessPolicy}
+use Rattle.receive_heap.specs.Layout.{IsSound}
+use Rattle.receive_heap.specs.declared.extents.Block.{Block}
+use Rattle.receive_core.specs.Fates.{drops, arrives, IsFate, message_of}
+use Rattle.receive_core.specs.Order.{HasTaken}
+use Rattle.receive_core.specs.Turns.{Receiving, IsReady}
+use Rattle.receive_core.specs.declared.arrival.Arrival.{Arrival}
+use Rattle.receive_core.specs.declared.arrival.Arrival.TheVariants.{None as NoFrame, Arrived, Dropped, Waiting}
+use Rattle.receive_core.specs.declared.arrival.DropCause.{DropCause}
+
+-- A frame that had its fate, with the policy under which it was judged: it was dropped for a cause, or its message was
+-- placed in a block, and stands in words of the heap.
+pub data Fated : Type 0 where
+  was_dropped : Frame → Option AccessPolicy → DropCause → Fated
+  was_placed : Frame → Option AccessPolicy → Node → Block → PlacedWords → Fated
+
+abbrev pub frame_of : Fated → Frame
+frame_of (was_dropped f policy why) = f
+frame_of (was_placed f policy t block placed) = f
+
+-- the words that were stored for it
+abbrev pub stores_of : Fated → List (ℕ × ℕ)
+stores_of (was_dropped f policy why) = []
+stores_of (was_placed f policy t block placed) = placed.words
+
+-- a frame arrived, and its message stands in its block
+pub record HasArrived (T : Table) (policy : Option AccessPolicy) (conn words : ℕ) (f : Frame) (t : Node)
+    (block : Block) (placed : PlacedWords) : Type 0 where
+  pub fate : IsFate T policy conn words f (arrives t)
+  pub normal : IsNormal T (message_of T f) t
+  pub stands : StandsIn T words (message_of T f) t block.at block.words placed
+  pub inside : block.words ≤ words - 1
+
+-- it is the frame's own fate, on a connection and a heap of so many words
+abbrev pub HasItsFate : Table → ℕ → ℕ → Fated → Type 0
+HasItsFate T conn words (was_dropped f policy why) = IsFate T policy conn words f (drops why)
+HasItsFate T conn words (was_placed f policy t block placed) = HasArrived T policy conn words f t block placed
+
+-- a stream from a place on is these whole frames, and behind them it has this first fault, or none so far
+pub record Reads (place : ℕ) (stream : List ℕ) (frames : List Frame) (fault : Option FeedFault) : Type 0 where
+  pub rest : List ℕ
+  pub splits : Splits place stream frames rest
+  pub first : HasFault (place + length (joined frames)) rest fault
+
+-- what a receiver has lived through
+pub record Life : Type 0 where
+  -- the bytes that were fed, and their first fault, or none so far
+  pub stream : List ℕ
+  pub fault : Option FeedFault
+  -- the hello in front, where it was taken as such
+  pub hello : Option Frame
+  -- the frames behind it that had their fates, in order
+  pub fates : List Fated
+
+abbrev pub hello_in : Option Frame → List Frame
+hello_in None = []
+hello_in (Some f) = f ∷ []
+
+-- the frames that were taken of the stream, in order
+abbrev pub frames_of : Life → List Frame
+frames_of life = hello_in life.hello ++ map frame_of life.fates
+
+-- A receiver has lived so. The frames that were taken, and behind them those that wait, are the whole frames of its
+-- stream, in order and each once, and the bytes behind the taken ones are kept up to the first fault or further. Each
+-- frame behind the hello has its fate. Held blocks and holes are a partition of the places of the heap from 1 on, and no
+-- more blocks were given than there were fates.
+pub record Lives (T : Table) (life : Life) (r : Receiving) : Type 0 where
+  pub waiting : List Frame
+  pub all : Reads 0 life.stream (frames_of life ++ waiting) life.fault
+  pub kept : Reads r.fed.place r.fed.bytes waiting life.fault
+  pub taken : HasTaken life.stream (frames_of life) r.fed
+  pub counted : total r.fed ≡ length life.stream
+  pub bytes : All (λ byte. byte < 256) life.stream
+  pub ready : IsReady T r
+  pub fates : All (HasItsFate T r.conn r.heap.words) life.fates
+  pub sound : IsSound r.heap
+  pub blocks : r.heap.next ≤ length life.fates + 1
+
+-- at first nothing has come
+abbrev pub no_life : Life
+no_life = record { stream = []; fault = None; hello = None; fates = [] }
+
+-- a piece was fed, and this is the first fault of the stream, or none so far
+abbrev pub fed : Life → List ℕ → Option FeedFault → Life
+fed life piece fault = record { stream = life.stream ++ piece; fault = fault; hello = life.hello; fates = life.fates }
+
+-- the first frame of all was taken as the hello
+abbrev pub greeted : Life → Frame → Life
+greeted life f = record { stream = life.stream; fault = life.fault; hello = Some f; fates = life.fates }
+
+-- more frames had their fates
+abbrev pub fated : Life → List Fated → Life
+fated life more =
+    record { stream = life.stream; fault = life.fault; hello = life.hello; fates = life.fates ++ more }
+
+-- what an answer tells of a frame
+abbrev pub IsTold : Frame → ℕ → ℕ → ℕ → Type 0
+IsTold f kind method number = (f.kind ≡ kind) × (f.method ≡ method) × (f.number ≡ number)
+
+-- the frames to which a turn under a policy gave their fates: that of its answer, or none
+abbrev pub Tells : Option AccessPolicy → Arrival → List Fated → Type 0
+Tells policy NoFrame more = more ≡ []
+Tells policy (Waiting need largest) more = more ≡ []
+Tells policy (Dropped kind method number why) more = (f : Frame) × IsTold f kind method number
+    × (more ≡ was_dropped f policy why ∷ [])
+Tells policy (Arrived kind method number block tree) more = (f : Frame) × IsTold f kind method number
+    × (placed : PlacedWords) × (more ≡ was_placed f policy tree block placed ∷ [])
+
+-- where no whole frame waits, each whole frame of the stream was taken
+abbrev pub TakesEach : Type 0
+TakesEach = (T : Table) (life : Life) (r : Receiving) → Lives T life r → IsPartial r.fed.bytes
+    → Reads 0 life.stream (frames_of life) life.fault
+
+-- and while there is no fault, the stream is shorter than a hello, the frames that had their fates, and one more
+abbrev pub StreamIsShort : Type 0
+StreamIsShort = (T : Table) (life : Life) (r : Receiving) → Lives T life r → IsPartial r.fed.bytes
+    → life.fault ≡ None → length life.stream < (length life.fates + 2) * (HEADER_LEN + MAX_PAYLOAD)
+
+-- For each fate at most the words of the heap behind its first were stored.
+abbrev pub StoresAreFew : Type 0
+StoresAreFew = (T : Table) (life : Life) (r : Receiving) → Lives T life r
+    → length (flat_map stores_of life.fates) ≤ length life.fates * (r.heap.words - 1)
