@@ -4,5 +4,6 @@ pub mod Answers
 pub mod Marks
 pub mod Turns
 pub mod Engines
+pub mod Moves
 pub mod Steps
 pub mod Working
