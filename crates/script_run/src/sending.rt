@@ -120,7 +120,14 @@ fn call_frame(
         Sort::Request => seq,
         Sort::Reply => number,
     };
-    let bytes = frame(alloc, kind_of(sort), method, conn, named, payload.as_slice())?;
+    let bytes = frame(
+        alloc,
+        kind_of(sort),
+        method,
+        conn,
+        named,
+        payload.as_slice(),
+    )?;
     Ok(bytes)
 }
 
