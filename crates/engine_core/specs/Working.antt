@@ -50,7 +50,7 @@ pub record LeavesCall (policy : Policy) (outcome : Outcome) (before after : Call
   pub smaller : outcome ≡ Redacted → weight after.tree < weight before.tree
   pub fits : (T : Table) → IsCallOf T before → IsCallOf T after
 
--- an access policy allowed the call in this turn, or had allowed it
+-- the turn is one in which an access policy allowed the call, or had allowed it
 abbrev pub IsAllowance : Policy → Outcome → Type 0
 IsAllowance policy outcome = IsAccess policy × (outcome ≡ Passed Nothing)
 
@@ -79,8 +79,8 @@ pub record LeavesMarks (entry : Entry) (outcome : Outcome) (before after : Stand
   -- marks that are true for an entry stay so
   pub stays_true : (e : Entry) → (e.attach ≡ entry.attach → e ≡ entry) → IsTrueFor e before → IsTrueFor e after
 
--- what a turn makes of tickets, of which it is known whose they are, which were drawn and which come after which: of
--- the tickets, the one that was drawn is new
+-- what a turn makes of the tickets: the one that was drawn is new, and where none was, nothing changes. `Knows` says
+-- whose tickets there are, `drawn_of` which were drawn, and `Since` that the second are the first, later on
 pub record LeavesTickets {Q : Type 0} (Knows : Q → ℕ → Type 0) (drawn_of : Q → ℕ → ℕ → Option (List ℕ))
     (Since : Q → Q → Type 0) (policy : Policy) (noted : Noted) (before after : Q) : Type 0 where
   pub drawn : TellsDraw (drawn_of before) (drawn_of after) policy noted
