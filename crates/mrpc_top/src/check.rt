@@ -116,16 +116,14 @@ fn table_of_set(alloc: Global, text: &[u8]) -> Result<Table, CheckFault>
                 word: "Bundle",
             });
         }
-        Err(BundleFault::Path { file }) => {
-            return Err(CheckFault::At {
-                spot: Spot::OfFile(u64::from(file)),
-                word: "Path",
-            });
-        }
         Err(BundleFault::Memory) => return Err(CheckFault::Memory),
     };
     match resolve_files(alloc, files.as_slice()) {
         Ok(table) => Ok(table),
+        Err(FilesFault::Path { file }) => Err(CheckFault::At {
+            spot: Spot::OfFile(file as u64 + 1),
+            word: "Path",
+        }),
         Err(FilesFault::At { file, line, reason }) => Err(CheckFault::At {
             spot: Spot::InFile {
                 file: file as u64 + 1,
