@@ -7,7 +7,7 @@ ghost use Rattle.engine_core.specs.Policies.{IsPolicy, KnowsTenantOf};
 
 use engine_core::{Engine, Noted, Outcome, Policy, Standing, Why};
 use mrpc_base::PlainTickets;
-use mrpc_table::{Bytes, Call, FieldValue, Lines, Table, Tree, Value, fits};
+use mrpc_table::{Bytes, Call, FieldValue, Lines, Sort, Table, Tree, Value, fits};
 use policy_access::read_access;
 use policy_rate::Rate;
 use policy_redact::read_redact;
@@ -74,7 +74,7 @@ fn assert_is_of(rt: &impl Abort, call: &Standing, table: &Table)
 {
     let call = call.call();
     assert!(rt; (call.method as usize) < table.methods.len());
-    let message = table.message_at(call.method, call.number);
+    let message = table.message_of(call.method, Sort::of_number(call.number));
     assert!(rt; fits(&call.tree, table, message));
 }
 
@@ -197,6 +197,54 @@ fn time_lets_a_held_call_pass(rt: HostRuntime) {
     discard_call(third);
 }
 
+// A call a second, and one at once.
+const DENYING: Rate = Rate {
+    amount: 1,
+    per: 1000,
+    burst: 1,
+    hold: false,
+};
+
+#[test]
+fn a_rate_that_denies_refuses_what_comes_short(rt: HostRuntime) {
+    let mut first = request(&rt, rt.alloc(), 1);
+    let mut second = request(&rt, rt.alloc(), 2);
+    let table = small_table(&rt, rt.alloc());
+    let mut scene = on_table(&rt, rt.alloc(), table, b"rl", Policy::Rate(DENYING));
+    scene.assert_turn(&rt, &mut first, charged(0));
+    let short = Why::Short {
+        level: 0,
+        cost: 1000,
+    };
+    scene.assert_turn(&rt, &mut second, Outcome::Refused(Noted::Nothing, short));
+    discard(scene);
+    discard_call(first);
+    discard_call(second);
+}
+
+// Two calls a second, and ten at once.
+const FASTER: Rate = Rate {
+    amount: 1,
+    per: 500,
+    burst: 10,
+    hold: true,
+};
+
+// Its level pays for as many calls as before, and by its attachment it knows the call that it charged.
+#[test]
+fn a_restored_rate_keeps_its_calls_and_converts_its_level(rt: HostRuntime) {
+    let mut first = request(&rt, rt.alloc(), 1);
+    let mut second = request(&rt, rt.alloc(), 2);
+    let mut scene = a_rate_engine(&rt, rt.alloc());
+    scene.assert_turn(&rt, &mut first, charged(1000));
+    let mut scene = scene.restore(&rt, Policy::Rate(FASTER));
+    scene.assert_turn(&rt, &mut first, NOTHING);
+    scene.assert_turn(&rt, &mut second, charged(0));
+    discard(scene);
+    discard_call(first);
+    discard_call(second);
+}
+
 // ---- quotas
 
 // Quotas of the first tenant, in seconds.
@@ -289,21 +337,32 @@ fn a_redacting_engine_clears_a_call_once(rt: HostRuntime) {
     discard_call(call);
 }
 
-// A policy that denies requests with 150.
-fn no150(rt: &impl Abort, alloc: Global, table: &Table) -> Policy
+// A policy of one rule, which allows what the rule doesn't match.
+fn ruled(rt: &impl Abort, alloc: Global, table: &Table, rule: &[u8]) -> Policy
     requires { IsValid table.now }
     ensures ranges { IsPolicy result }
     ensures known { KnowsTenantOf (λ t. t < 1) result }
 {
     let mut lines = Lines::new(alloc);
-    put_line(
-        rt,
-        alloc,
-        &mut lines,
-        b"rule no150 deny method 0 where 1 eq 150",
-    );
+    put_line(rt, alloc, &mut lines, rule);
     put_line(rt, alloc, &mut lines, b"default allow");
     Policy::Access(read_access(alloc, &lines, table).expect(rt, "a policy"))
+}
+
+const NO_150: &[u8] = b"rule no150 deny method 0 where 1 eq 150";
+
+const NO_151: &[u8] = b"rule no151 deny method 0 where 1 eq 151";
+
+#[test]
+fn an_access_engine_passes_a_call_that_it_allowed(rt: HostRuntime) {
+    let mut call = request(&rt, rt.alloc(), 1);
+    let table = small_table(&rt, rt.alloc());
+    let policy = ruled(&rt, rt.alloc(), &table, NO_151);
+    let mut scene = on_table(&rt, rt.alloc(), table, b"acl", policy);
+    scene.assert_turn(&rt, &mut call, NOTHING);
+    scene.assert_turn(&rt, &mut call, NOTHING);
+    discard(scene);
+    discard_call(call);
 }
 
 fn assert_upgraded(rt: &impl Abort, engine: &Engine) {
@@ -315,7 +374,7 @@ fn assert_upgraded(rt: &impl Abort, engine: &Engine) {
 fn an_access_engine_is_restored(rt: HostRuntime) {
     let mut call = request(&rt, rt.alloc(), 1);
     let table = small_table(&rt, rt.alloc());
-    let policy = no150(&rt, rt.alloc(), &table);
+    let policy = ruled(&rt, rt.alloc(), &table, NO_150);
     let again = policy.copied(rt.alloc()).expect(&rt, "memory");
     let mut scene = on_table(&rt, rt.alloc(), table, b"acl", policy).restore(&rt, again);
     assert_upgraded(&rt, &scene.engine);

@@ -1,14 +1,15 @@
 -- The files at the front of an input, and what stands behind them.
 use Rattle.std.proofs.Common.{◌≡◌, ℕ, zero, suc, ◌+◌, ◌<◌, ◌≤◌, List, [], ◌∷◌, ◌++◌, length, take, drop, ◌⊎◌, inl, inr, refl, ap, sym, subst, ◌∙◌, arith, append_assoc, length-append}
-use Rattle.std.specs.Prelude.{All}
+use Rattle.std.specs.Prelude.{All, codes}
 use Rattle.std.specs.List.{flat_map, AllByRecursion}
 use Rattle.std.proofs.lemmas.Bool.{cases_lt}
 use Rattle.std.proofs.lemmas.Grind.{flat_map-append}
 use Rattle.std.proofs.lemmas.List.{append-nil, append_cancel_left, length-take-le, take-append-drop}
 use Rattle.std.proofs.lemmas.List.Concat.{flat_map-cons}
 use Rattle.std.proofs.lemmas.List.Elements.{recursion_from_All, All-from_recursion}
-use Rattle.file_bundle.specs.Bundle.{File, paths_of, first_line, header_line, file_text, bundle_text, IsWord, IsBundle, Spells}
-use Rattle.file_bundle.specs.Faults.{BreaksOff, no_file, too_many, no_header, too_few, IsBundleFault}
+use Rattle.file_bundle.specs.Bundle.{File, paths_of, first_line, header_line, file_text, bundle_text, IsWord, IsBundle, whole_line, no_line_feed, Spells}
+use Rattle.file_bundle.specs.Faults
+use Rattle.file_bundle.specs.Faults.{BreaksOff, no_file, too_many, no_header, too_few, BreaksBehind, IsBundleFault}
 use Rattle.file_bundle.specs.Parts.{HasFile, HasNoFile}
 use Rattle.file_bundle.proofs.Cuts.{head_is}
 use Rattle.file_bundle.proofs.Headers.{header_once, header_or_none}
@@ -160,16 +161,33 @@ broken files rest (too_few fewer few) e some = absurd (nothing (sym few.text ∙
     nothing : header_line few.path few.size ++ few.behind ≡ [] → ⊥
     nothing d = absurd cc
 
-pub never_both : (input : List ℕ) (files : List File) (k : ℕ) → Spells input files → IsBundleFault input k → ⊥
-never_both input files k s b =
+-- no files stand in the first line without its line feed
+none_unended : (input : List ℕ) (files : List File) (rest : List ℕ) → input ≡ bundle_text files ++ rest → input ≡ codes "mrpc-files 1" → ⊥
+none_unended input files rest e d = not_there (texts_of files ++ rest) (sym d ∙ e ∙ append_assoc first_line (texts_of files) rest)
+  where
+    not_there : (behind : List ℕ) → codes "mrpc-files 1" ≡ first_line ++ behind → ⊥
+    not_there behind e = absurd cc
+
+never_behind : (input : List ℕ) (files : List File) (k : ℕ) → Spells input files → BreaksBehind input k → ⊥
+never_behind input files k s b =
     let same = front_once input files b.files [] b.rest (are_words files s.words) (are_words b.files b.words) (stops files s.few) (no_further b.files b.rest b.ends)
     (none_behind input files s.text) b.text in
     broken b.files b.rest b.ends (sym same.1) (subst (λ (fs : List File). 1 ≤ length fs) same.0 s.some)
 
-pub breaks_once : (input : List ℕ) (k j : ℕ) → IsBundleFault input k → IsBundleFault input j → k ≡ j
-breaks_once input k j a b =
+pub never_both : (input : List ℕ) (files : List File) (k : ℕ) → Spells input files → IsBundleFault input k → ⊥
+never_both input files k s (Faults.breaks_off b) = never_behind input files k s b
+never_both input files k s (Faults.no_line_feed e n) = none_unended input files [] (none_behind input files s.text) e
+
+behind_once : (input : List ℕ) (k j : ℕ) → BreaksBehind input k → BreaksBehind input j → k ≡ j
+behind_once input k j a b =
     let same = (front_once input a.files b.files a.rest b.rest (are_words a.files a.words) (are_words b.files b.words) (no_further a.files a.rest a.ends) (no_further b.files b.rest b.ends) a.text b.text).0 in
     a.number ∙ ap (λ (fs : List File). length fs + 1) same ∙ sym b.number
+
+pub breaks_once : (input : List ℕ) (k j : ℕ) → IsBundleFault input k → IsBundleFault input j → k ≡ j
+breaks_once input k j (Faults.breaks_off a) (Faults.breaks_off b) = behind_once input k j a b
+breaks_once input k j (Faults.breaks_off a) (Faults.no_line_feed e n) = absurd (none_unended input a.files a.rest a.text e)
+breaks_once input k j (Faults.no_line_feed e n) (Faults.breaks_off b) = absurd (none_unended input b.files b.rest b.text e)
+breaks_once input k j (Faults.no_line_feed e n) (Faults.no_line_feed d m) = n ∙ sym m
 
 -- ---- nor neither
 
@@ -177,7 +195,7 @@ abbrev pub SpelledOrBroken : List ℕ → Type 0
 SpelledOrBroken input = ((files : List File) × Spells input files) ⊎ ((k : ℕ) × IsBundleFault input k)
 
 break_at : (input : List ℕ) (files : List File) (rest : List ℕ) → input ≡ bundle_text files ++ rest → AreWords files → BreaksOff files rest → SpelledOrBroken input
-break_at input files rest e w ends = inr (length files + 1, record { files = files; rest = rest; text = e; words = all_words files w; ends = ends; number = refl })
+break_at input files rest e w ends = inr (length files + 1, Faults.breaks_off (record { files = files; rest = rest; text = e; words = all_words files w; ends = ends; number = refl }))
 
 ended : (input : List ℕ) (files : List File) → input ≡ bundle_text files ++ [] → AreWords files → length files ≤ 64 → SpelledOrBroken input
 ended input [] e w few = break_at input [] [] e w (no_file refl refl)
@@ -199,4 +217,5 @@ go_on (suc left) input files (c ∷ cs) n e w = elim (header_or_none (c ∷ cs))
 ]
 
 pub spelled_or_broken : (input : List ℕ) → IsBundle input → SpelledOrBroken input
-spelled_or_broken input b = go_on 64 input [] b.behind refl (b.text ∙ ap (λ (t : List ℕ). t ++ b.behind) (sym (append-nil first_line))) tt
+spelled_or_broken input (whole_line behind text) = go_on 64 input [] behind refl (text ∙ ap (λ (t : List ℕ). t ++ behind) (sym (append-nil first_line))) tt
+spelled_or_broken input (no_line_feed e) = inr (1, Faults.no_line_feed e refl)

@@ -121,9 +121,9 @@ contained_or_not paths path false e = inr (λ c. let yes = (found_or_not paths p
 right_on : (before later : List File) → HaveRightPaths before → HaveRightPaths (before ++ later) ⊎ ((k : ℕ) × IsFirstRefused (before ++ later) k)
 right_on before [] r = inl (subst HaveRightPaths (sym (append-nil before)) r)
 right_on before (f ∷ fs) r = elim (path_or_not f.0) [
-  | inr none ↦ inr (length before + 1, record { before = before; file = f; later = fs; order = refl; right = r; refused = no_path none; number = refl })
+  | inr none ↦ inr (length before, record { before = before; file = f; later = fs; order = refl; right = r; refused = no_path none; number = refl })
   | inl is ↦ elim (contained_or_not (paths_of before) f.0 (list_any (λ p. bytes_eq p f.0) (paths_of before)) refl) [
-    | inl has ↦ inr (length before + 1, record { before = before; file = f; later = fs; order = refl; right = r; refused = second has; number = refl })
+    | inl has ↦ inr (length before, record { before = before; file = f; later = fs; order = refl; right = r; refused = second has; number = refl })
     | inr new ↦
         let on = right_on (before ++ f ∷ []) fs (right_push before f r is new) in
         let same : (before ++ f ∷ []) ++ fs ≡ before ++ f ∷ fs = append_assoc before (f ∷ []) fs in
@@ -146,7 +146,7 @@ parted ps i d within =
     sym (append_assoc (take i ps) (get_or ps i d ∷ []) (drop (i + 1) ps)) ∙ ap (λ (t : List Packed). t ++ drop (i + 1) ps) (sym (take_more ps i d within)) ∙ take-append-drop (i + 1) ps in
     ap files_of (sym whole) ∙ map-append file_of (take i ps) (get_or ps i d ∷ drop (i + 1) ps)
 
-refused_first : (ps : List Packed) (i : ℕ) (d : Packed) → i < length ps → HaveRightPaths (files_of (take i ps)) → IsRefused (files_of (take i ps)) (get_or ps i d).path.now → IsFirstRefused (files_of ps) (i + 1)
+refused_first : (ps : List Packed) (i : ℕ) (d : Packed) → i < length ps → HaveRightPaths (files_of (take i ps)) → IsRefused (files_of (take i ps)) (get_or ps i d).path.now → IsFirstRefused (files_of ps) i
 refused_first ps i d within right refused = record {
   before = files_of (take i ps);
   file = file_of (get_or ps i d);
@@ -157,11 +157,11 @@ refused_first ps i d within right refused = record {
   number = let long : length (files_of (take i ps)) ≡ i = length-map (take i ps) file_of ∙ length-take-le i ps (omega (arith, within)) in omega (arith, long);
 }
 
-pub no_path_first : (ps : List Packed) (i : ℕ) (d : Packed) (r : Bool) → i < length ps → HaveRightPaths (files_of (take i ps)) → (IsTrue r ↔ IsPath (get_or ps i d).path.now) → r ≡ false → IsFirstRefused (files_of ps) (i + 1)
+pub no_path_first : (ps : List Packed) (i : ℕ) (d : Packed) (r : Bool) → i < length ps → HaveRightPaths (files_of (take i ps)) → (IsTrue r ↔ IsPath (get_or ps i d).path.now) → r ≡ false → IsFirstRefused (files_of ps) i
 no_path_first ps i d r within right tells is = refused_first ps i d within right (no_path (λ p. let yes : r ≡ true = tells.1 p in cc))
 
 pub second_first : (ps : List Packed) (i : ℕ) (d : Packed) → i < length ps → HaveRightPaths (files_of (take i ps)) → true ≡ list_any (λ f. bytes_eq f.path.now (get_or ps i d).path.now) (take i ps)
-    → IsFirstRefused (files_of ps) (i + 1)
+    → IsFirstRefused (files_of ps) i
 second_first ps i d within right found =
     refused_first ps i d within right (second ((found_or_not (paths_of (files_of (take i ps))) (get_or ps i d).path.now).0 (sym (any_path (take i ps) (get_or ps i d).path.now) ∙ sym found)))
 

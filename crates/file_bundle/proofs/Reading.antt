@@ -2,8 +2,9 @@
 use Rattle.std.proofs.Common.{◌≡◌, ◌≢◌, ℕ, ◌+◌, ◌<◌, ◌≤◌, ◌==◌, true, false, List, [], ◌∷◌, ◌++◌, length, inl, inr, refl, ap, sym, ◌∙◌, arith}
 use Rattle.std.proofs.lemmas.Bool.{eq-eqb}
 use Rattle.std.proofs.lemmas.List.{append-nil, length-map}
-use Rattle.file_bundle.specs.Bundle.{File, bundle_text, Spells}
-use Rattle.file_bundle.specs.Faults.{BreaksOff, too_many, no_header, too_few, IsBundleFault}
+use Rattle.file_bundle.specs.Bundle.{File, bundle_text, first_line, IsBundle, whole_line, no_line_feed, Spells}
+use Rattle.file_bundle.specs.Faults
+use Rattle.file_bundle.specs.Faults.{BreaksOff, too_many, no_header, too_few, IsBundleFault, breaks_off}
 use Rattle.file_bundle.specs.Packed.{file_of, files_of}
 use Rattle.file_bundle.specs.Parts.{HasNoFile}
 use Rattle.file_bundle.specs.declared.packed.Packed.{Packed}
@@ -19,20 +20,20 @@ pub length-files : (packed : List Packed) → length (files_of packed) ≡ lengt
 length-files packed = length-map packed file_of
 
 breaks : (input : List ℕ) (packed : List Packed) (rest : List ℕ) (n : ℕ) → StandInFront input (files_of packed) rest → BreaksOff (files_of packed) rest → n ≡ length packed → IsBundleFault input (n + 1)
-breaks input packed rest n s ends is = record {
+breaks input packed rest n s ends is = breaks_off (record {
   files = files_of packed;
   rest = rest;
   text = s.text;
   words = all_words (files_of packed) s.words;
   ends = ends;
   number = ap (λ (k : ℕ). k + 1) (is ∙ sym (length-files packed));
-}
+})
 
 pub breaks_full : (input : List ℕ) (packed : List Packed) (rest : List ℕ) (n : ℕ) → StandInFront input (files_of packed) rest → rest ≢ [] → n ≡ length packed → n ≡ 64 → IsBundleFault input (n + 1)
 breaks_full input packed rest n s some is all = breaks input packed rest n s (too_many (length-files packed ∙ sym is ∙ all) some) is
 
-pub breaks_off : (input : List ℕ) (packed : List Packed) (rest : List ℕ) (n : ℕ) → StandInFront input (files_of packed) rest → rest ≢ [] → HasNoFile rest → n ≡ length packed → n ≢ 64 → IsBundleFault input (n + 1)
-breaks_off input packed rest n s some none is other =
+pub breaks_here : (input : List ℕ) (packed : List Packed) (rest : List ℕ) (n : ℕ) → StandInFront input (files_of packed) rest → rest ≢ [] → HasNoFile rest → n ≡ length packed → n ≢ 64 → IsBundleFault input (n + 1)
+breaks_here input packed rest n s some none is other =
     let fewer : length (files_of packed) < 64 = omega (arith, s.few, length-files packed, is, other) in
     elim none [
       | inl lacking ↦ breaks input packed rest n s (no_header fewer some lacking) is
@@ -50,3 +51,8 @@ spelled input (p ∷ ps) rest s nothing some = record {
   some = omega arith;
   few = s.few;
 }
+
+-- without its line feed the first line is all of the input
+pub unended : (input : List ℕ) → IsBundle input → ((rest : List ℕ) → input ≢ first_line ++ rest) → IsBundleFault input 1
+unended input (whole_line behind e) none = absurd (none behind e)
+unended input (no_line_feed e) none = Faults.no_line_feed e refl

@@ -5,13 +5,12 @@ use Rattle.std.specs.List.{list_all}
 use Rattle.std.proofs.lemmas.List.Elements.{All-nil, All-cons, All-replicate}
 use Rattle.std.proofs.lemmas.List.{append-nil}
 use Rattle.mrpc_table.specs.Lines.{number_of}
-use Rattle.file_bundle.specs.Bundle.{File, paths_of, decimal_word, first_line, header_line, bundle_text, IsWord, IsBundle, Spells}
-use Rattle.file_bundle.specs.Faults.{IsSet, HasNoHeader, HasTooFew, no_file, too_many, no_header, too_few, IsBundleFault, IsPathFault, IsFirstFault}
-use Rattle.file_bundle.specs.Paths.{IsPath, HaveRightPaths, no_path, second, is_path_byte}
-use Rattle.file_bundle.specs.declared.fault.BundleFault.TheVariants.{Bundle, Path}
+use Rattle.file_bundle.specs.Bundle.{File, paths_of, decimal_word, first_line, header_line, bundle_text, IsWord, IsBundle, whole_line, no_line_feed, Spells}
+use Rattle.file_bundle.specs.Faults
+use Rattle.file_bundle.specs.Faults.{HasNoHeader, HasTooFew, no_file, too_many, no_header, too_few, IsBundleFault, breaks_off}
+use Rattle.file_bundle.specs.Paths.{IsPath, HaveRightPaths, IsFirstRefused, no_path, second, is_path_byte}
 use Rattle.file_bundle.proofs.Cuts.{Lacks, IsCut}
 use Rattle.file_bundle.proofs.Decimals.{decimal_word-from}
-use Rattle.file_bundle.proofs.Fronts.{never_both}
 use Rattle.file_bundle.proofs.Headers.{is_word, none_without_feed, none_without_file, none_without_space, none_without_path, none_without_number}
 use Rattle.file_bundle.proofs.PathLemmas.{right_none, right_push}
 
@@ -48,14 +47,19 @@ empty_text : bundle_text (empty ∷ []) ≡ codes "mrpc-files 1\nfile a 0\n"
 empty_text = refl
 
 is_bundle : IsBundle (codes "mrpc-files 1\n")
-is_bundle = record { behind = []; text = refl }
+is_bundle = whole_line [] refl
 
--- the first line needs its line feed
-no_bundle : IsBundle (codes "mrpc-files 1") → ⊥
-no_bundle b = not_there b.behind b.text
+-- the first line may lack its line feed where nothing else stands there
+unended_bundle : IsBundle (codes "mrpc-files 1")
+unended_bundle = no_line_feed refl
+
+-- another first line
+no_bundle : IsBundle (codes "mrpc-files 10") → ⊥
+no_bundle (whole_line behind e) = not_there behind e
   where
-    not_there : (behind : List ℕ) → codes "mrpc-files 1" ≡ first_line ++ behind → ⊥
+    not_there : (behind : List ℕ) → codes "mrpc-files 10" ≡ first_line ++ behind → ⊥
     not_there behind e = absurd cc
+no_bundle (no_line_feed e) = absurd cc
 
 -- ---- paths
 
@@ -110,24 +114,22 @@ two_right =
     right_push ((codes "a", codes "x") ∷ []) (codes "b/c", codes "yz")
     (right_push [] (codes "a", codes "x") right_none a_path (λ c. omega (arith, c.1))) bc_path another
 
-two_set : IsSet (codes "mrpc-files 1\nfile a 1\nxfile b/c 2\nyz") two
-two_set = record { spelled = two_spelled; paths = two_right }
-
 empty_spelled : Spells (codes "mrpc-files 1\nfile a 0\n") (empty ∷ [])
 empty_spelled = record { text = refl; words = All-cons IsWord (codes "a") [] a_word (All-nil IsWord); some = omega arith; few = omega arith }
-
-empty_set : IsSet (codes "mrpc-files 1\nfile a 0\n") (empty ∷ [])
-empty_set = record { spelled = empty_spelled; paths = right_push [] empty right_none a_path (λ c. omega (arith, c.1)) }
 
 -- ---- a file isn't there
 
 -- the input ends behind the first line
 nothing_there : IsBundleFault (codes "mrpc-files 1\n") 1
-nothing_there = record { files = []; rest = []; text = refl; words = All-nil IsWord; ends = no_file refl refl; number = refl }
+nothing_there = breaks_off (record { files = []; rest = []; text = refl; words = All-nil IsWord; ends = no_file refl refl; number = refl })
+
+-- or before its line feed
+no_feed_there : IsBundleFault (codes "mrpc-files 1") 1
+no_feed_there = Faults.no_line_feed refl refl
 
 -- the first header line isn't of its form
 first_at_fault : (rest : List ℕ) → rest ≢ [] → HasNoHeader rest → IsBundleFault (first_line ++ rest) 1
-first_at_fault rest some none = record { files = []; rest = rest; text = refl; words = All-nil IsWord; ends = no_header (omega arith) some none; number = refl }
+first_at_fault rest some none = breaks_off (record { files = []; rest = rest; text = refl; words = All-nil IsWord; ends = no_header (omega arith) some none; number = refl })
 
 lacks_10_in_a : Lacks 10 (codes "file a ")
 lacks_10_in_a =
@@ -154,8 +156,8 @@ empty_path =
     first_at_fault (codes "file  0\n") (λ e. cc) (none_without_path (codes "file  0\n") (codes "file  0") [] (codes " 0") [] (codes "0") line refl words refl)
 
 -- it lacks its line feed
-no_line_feed : IsBundleFault (codes "mrpc-files 1\nfile a 0") 1
-no_line_feed =
+feed_lacks : IsBundleFault (codes "mrpc-files 1\nfile a 0") 1
+feed_lacks =
     first_at_fault (codes "file a 0") (λ e. cc)
     (none_without_feed (codes "file a 0")
     ((λ e. omega (arith, e)), ((λ e. omega (arith, e)), ((λ e. omega (arith, e)), ((λ e. omega (arith, e)), ((λ e. omega (arith, e)), ((λ e. omega (arith, e)), ((λ e. omega (arith, e)), ((λ e. omega (arith, e)), tt)))))))))
@@ -176,14 +178,14 @@ other_word =
 
 -- it says one byte more than there is
 one_more : IsBundleFault (codes "mrpc-files 1\nfile a 2\nx") 1
-one_more = record {
+one_more = breaks_off (record {
   files = [];
   rest = codes "file a 2\nx";
   text = refl;
   words = All-nil IsWord;
   ends = too_few (omega arith) (record { path = codes "a"; size = 2; behind = codes "x"; word = a_word; text = refl; fewer = omega arith });
   number = refl;
-}
+})
 
 -- a number above all that a word of 64 bits can say
 too_few_of : (digits : List ℕ) (n : ℕ) → number_of digits ≡ Some n → 0 < n → HasTooFew (codes "file a " ++ (digits ++ codes "\n"))
@@ -197,71 +199,53 @@ too_few_of digits n read some = record {
 }
 
 many_more : IsBundleFault (codes "mrpc-files 1\nfile a 100000000000000000000\n") 1
-many_more = record {
+many_more = breaks_off (record {
   files = [];
   rest = codes "file a 100000000000000000000\n";
   text = refl;
   words = All-nil IsWord;
   ends = too_few (omega arith) (too_few_of (codes "100000000000000000000") 100000000000000000000 refl (omega arith));
   number = refl;
-}
+})
 
 -- what stands behind the first file begins no header line
 byte_behind : IsBundleFault (codes "mrpc-files 1\nfile a 0\nx") 2
-byte_behind = record {
+byte_behind = breaks_off (record {
   files = empty ∷ [];
   rest = codes "x";
   text = refl;
   words = All-cons IsWord (codes "a") [] a_word (All-nil IsWord);
   ends = no_header (omega arith) (λ e. cc) (none_without_feed (codes "x") ((λ e. omega (arith, e)), tt));
   number = refl;
-}
+})
 
 -- a byte stands behind the 64th file
 sixty_fifth : IsBundleFault (bundle_text (replicate 64 empty) ++ codes "x") 65
-sixty_fifth = record {
+sixty_fifth = breaks_off (record {
   files = replicate 64 empty;
   rest = codes "x";
   text = refl;
   words = All-replicate IsWord 64 (codes "a") a_word;
   ends = too_many refl (λ e. cc);
   number = refl;
-}
+})
 
 -- ---- a path is refused
 
-first_refused : IsPathFault (codes "mrpc-files 1\nfile ~ 0\n") 1
-first_refused = record {
-  files = (codes "~", []) ∷ [];
-  spelled = record { text = refl; words = All-cons IsWord (codes "~") [] tilde_word (All-nil IsWord); some = omega arith; few = omega arith };
-  refused = record { before = []; file = (codes "~", []); later = []; order = refl; right = right_none; refused = no_path no_tilde; number = refl };
-}
+first_refused : IsFirstRefused ((codes "~", []) ∷ []) 0
+first_refused = record { before = []; file = (codes "~", []); later = []; order = refl; right = right_none; refused = no_path no_tilde; number = refl }
 
-same_twice : IsPathFault (codes "mrpc-files 1\nfile a 0\nfile a 0\n") 2
+same_twice : IsFirstRefused (empty ∷ empty ∷ []) 1
 same_twice = record {
-  files = empty ∷ empty ∷ [];
-  spelled = record { text = refl; words = All-cons IsWord (codes "a") (codes "a" ∷ []) a_word (All-cons IsWord (codes "a") [] a_word (All-nil IsWord)); some = omega arith; few = omega arith };
-  refused = record {
-    before = empty ∷ [];
-    file = empty;
-    later = [];
-    order = refl;
-    right = right_push [] empty right_none a_path (λ c. omega (arith, c.1));
-    refused = second (0, omega arith, refl);
-    number = refl;
-  };
-}
-
--- where a later file isn't there, that counts, and no path is at fault
-broken_first : IsFirstFault (codes "mrpc-files 1\nfile ~ 0\nx") (Bundle 2)
-broken_first = record {
-  files = (codes "~", []) ∷ [];
-  rest = codes "x";
-  text = refl;
-  words = All-cons IsWord (codes "~") [] tilde_word (All-nil IsWord);
-  ends = no_header (omega arith) (λ e. cc) (none_without_feed (codes "x") ((λ e. omega (arith, e)), tt));
+  before = empty ∷ [];
+  file = empty;
+  later = [];
+  order = refl;
+  right = right_push [] empty right_none a_path (λ c. omega (arith, c.1));
+  refused = second (0, omega arith, refl);
   number = refl;
 }
 
-not_its_path : IsFirstFault (codes "mrpc-files 1\nfile ~ 0\nx") (Path 1) → ⊥
-not_its_path p = never_both (codes "mrpc-files 1\nfile ~ 0\nx") p.files 2 p.spelled broken_first
+-- a path of another form is read
+tilde_spelled : Spells (codes "mrpc-files 1\nfile ~ 0\n") ((codes "~", []) ∷ [])
+tilde_spelled = record { text = refl; words = All-cons IsWord (codes "~") [] tilde_word (All-nil IsWord); some = omega arith; few = omega arith }

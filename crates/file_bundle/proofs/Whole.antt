@@ -1,54 +1,31 @@
--- Sets of files, and the first fault of an input.
-use Rattle.std.proofs.Common.{◌≡◌, ◌≢◌, ℕ, List, inl, inr, refl, ap, subst}
+-- What the reader answers of an input that spells files, and of one that breaks off.
+use Rattle.std.proofs.Common.{◌≡◌, ◌≢◌, ℕ, List, refl, ap, Ok, Err, Result}
+use Rattle.std.specs.Prelude.{IfOk, IfErr, MatchResult}
+use Rattle.std.specs.Global.{Vec}
+use Rattle.file_bundle.specs.Packed.{files_of}
+use Rattle.file_bundle.specs.declared.packed.Packed.{Packed}
 use Rattle.file_bundle.specs.Bundle.{File, Spells}
-use Rattle.file_bundle.specs.Faults.{IsSet, IsFirstFault}
-use Rattle.file_bundle.specs.Laws.{NeverSetAndFault, SetOrFault, OneFault}
-use Rattle.file_bundle.specs.Parts.{IsBreak}
-use Rattle.file_bundle.specs.Paths.{HaveRightPaths, IsFirstRefused}
+use Rattle.file_bundle.specs.Faults.{IsBundleFault, IsFaultOf}
 use Rattle.file_bundle.specs.declared.fault.BundleFault.{BundleFault}
-use Rattle.file_bundle.specs.declared.fault.BundleFault.TheVariants.{Bundle, Path, Memory}
-use Rattle.file_bundle.proofs.Fronts.{spells_once, never_both, breaks_once, spelled_or_broken}
-use Rattle.file_bundle.proofs.PathLemmas.{never_right_and_refused, refused_once, right_or_refused}
+use Rattle.file_bundle.specs.declared.fault.BundleFault.TheVariants.{Bundle, Memory}
+use Rattle.file_bundle.proofs.Fronts.{spells_once, never_both, breaks_once}
 
-pub never_set_and_fault : NeverSetAndFault
-never_set_and_fault input files (Bundle k) s f = never_both input files k s.spelled f
-never_set_and_fault input files (Path k) s f =
-    never_right_and_refused files k s.paths (subst (λ (fs : List File). IsFirstRefused fs k) (spells_once input f.files files f.spelled s.spelled) f.refused)
-never_set_and_fault input files Memory s f = f
+pub memory_alone : (input : List ℕ) (files : List File) (fault : BundleFault) → Spells input files → IsFaultOf input fault → fault ≡ Memory
+memory_alone input files (Bundle k) s b = absurd (never_both input files k s b)
+memory_alone input files Memory s b = refl
 
-pub one_fault : OneFault
-one_fault input (Bundle k) (Bundle j) f g = ap Bundle (breaks_once input k j f g)
-one_fault input (Bundle k) (Path j) f g = absurd (never_both input g.files k g.spelled f)
-one_fault input (Path k) (Bundle j) f g = absurd (never_both input f.files j f.spelled g)
-one_fault input (Path k) (Path j) f g =
-    ap Path (refused_once g.files k j (subst (λ (fs : List File). IsFirstRefused fs k) (spells_once input f.files g.files f.spelled g.spelled) f.refused) g.refused)
-one_fault input Memory g f h = absurd f
-one_fault input (Bundle k) Memory f g = absurd g
-one_fault input (Path k) Memory f g = absurd g
+pub first_found : (input : List ℕ) (k : ℕ) (fault : BundleFault) → IsBundleFault input k → IsFaultOf input fault → fault ≢ Memory → fault ≡ Bundle k
+first_found input k (Bundle j) f b other = ap Bundle (breaks_once input j k b f)
+first_found input k Memory f b other = absurd (other refl)
 
-pub set_or_fault : SetOrFault
-set_or_fault input b = elim (spelled_or_broken input b) [
-  | inr broken ↦ inr (Bundle broken.0, broken.1)
-  | inl spelled ↦ elim (right_or_refused spelled.0) [
-    | inl right ↦ inl (spelled.0, record { spelled = spelled.1; paths = right })
-    | inr refused ↦ inr (Path refused.0, record { files = spelled.0; spelled = spelled.1; refused = refused.1 })
-  ]
-]
+pub only_spelled : (input : List ℕ) (files : List File) (r : Result (Vec Packed) BundleFault) → Spells input files
+    → IfOk r (λ (read : Vec Packed). Spells input (files_of read.items)) → IfErr r (IsFaultOf input)
+    → MatchResult r (λ (read : Vec Packed). files_of read.items ≡ files) (λ fault. fault ≡ Memory)
+only_spelled input files (Ok v) s read fault = spells_once input (files_of v.items) files read s
+only_spelled input files (Err e) s read fault = memory_alone input files e s fault
 
--- ---- what the reader answers
-
-pub memory_of-set : (input : List ℕ) (files : List File) (fault : BundleFault) → IsSet input files → IsBreak input fault → fault ≡ Memory
-memory_of-set input files (Bundle k) s b = absurd (never_both input files k s.spelled b)
-memory_of-set input files (Path k) s b = absurd b
-memory_of-set input files Memory s b = refl
-
-pub first_of-break : (input : List ℕ) (first fault : BundleFault) → IsFirstFault input first → IsBreak input fault → fault ≢ Memory → fault ≡ first
-first_of-break input first (Bundle k) f b other = one_fault input (Bundle k) first b f
-first_of-break input first (Path k) f b other = absurd b
-first_of-break input first Memory f b other = absurd (other refl)
-
-pub refused_is : (input : List ℕ) (files shown : List File) (k : ℕ) → Spells input files → IsFirstRefused shown k → shown ≡ files → IsFirstFault input (Path k)
-refused_is input files shown k s r e = record { files = files; spelled = s; refused = subst (λ (fs : List File). IsFirstRefused fs k) e r }
-
-pub set_is : (input : List ℕ) (files shown : List File) → Spells input files → HaveRightPaths shown → shown ≡ files → IsSet input files
-set_is input files shown s r e = record { spelled = s; paths = subst HaveRightPaths e r }
+pub found_first : (input : List ℕ) (k : ℕ) (r : Result (Vec Packed) BundleFault) → IsBundleFault input k
+    → IfOk r (λ (read : Vec Packed). Spells input (files_of read.items)) → IfErr r (IsFaultOf input)
+    → MatchResult r (λ (_ : Vec Packed). ⊥) (λ fault. fault ≢ Memory → fault ≡ Bundle k)
+found_first input k (Ok v) f read fault = never_both input (files_of v.items) k read f
+found_first input k (Err e) f read fault = first_found input k e f fault

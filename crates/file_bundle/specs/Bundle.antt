@@ -34,10 +34,10 @@ pub record IsWord (word : List ℕ) : Type 0 where
   pub some : word ≢ []
   pub bytes : All (λ c. (c ≢ 32) × (c ≢ 10)) word
 
--- the first line stands there, whatever stands behind it
-pub record IsBundle (input : List ℕ) : Type 0 where
-  pub behind : List ℕ
-  pub text : input ≡ first_line ++ behind
+-- the first line stands there, whatever stands behind it, or all of it but its line feed and nothing else
+pub data IsBundle (input : List ℕ) : Type 0 where
+  whole_line : (behind : List ℕ) → input ≡ first_line ++ behind → IsBundle input
+  no_line_feed : input ≡ codes "mrpc-files 1" → IsBundle input
 
 -- the input is the text of these files
 pub record Spells (input : List ℕ) (files : List File) : Type 0 where

@@ -1,15 +1,9 @@
--- Sets of files, and the first fault of an input that is none.
-use Rattle.std.specs.Prelude.{◌≡◌, ◌≢◌, ℕ, ◌+◌, ◌<◌, List, [], ◌++◌, length, All}
-use Rattle.file_bundle.specs.Bundle.{File, paths_of, header_line, bundle_text, IsWord, Spells}
-use Rattle.file_bundle.specs.Paths.{HaveRightPaths, IsFirstRefused}
+-- Where an input that is no set of files breaks off.
+use Rattle.std.specs.Prelude.{◌≡◌, ◌≢◌, ℕ, ◌+◌, ◌<◌, List, [], ◌++◌, codes, length, All}
+use Rattle.file_bundle.specs.Bundle.{File, paths_of, header_line, bundle_text, IsWord}
 use Rattle.mrpc_table.specs.declared.limits.TheConstants.{MAX_FILES}
 use Rattle.file_bundle.specs.declared.fault.BundleFault.{BundleFault}
-use Rattle.file_bundle.specs.declared.fault.BundleFault.TheVariants.{Bundle, Path, Memory}
-
--- the input is the set of these files
-pub record IsSet (input : List ℕ) (files : List File) : Type 0 where
-  pub spelled : Spells input files
-  pub paths : HaveRightPaths files
+use Rattle.file_bundle.specs.declared.fault.BundleFault.TheVariants.{Bundle, Memory}
 
 -- the bytes begin with no header line
 abbrev pub HasNoHeader : List ℕ → Type 0
@@ -34,8 +28,8 @@ pub data BreaksOff (files : List File) (rest : List ℕ) : Type 0 where
   no_header : length files < MAX_FILES → rest ≢ [] → HasNoHeader rest → BreaksOff files rest
   too_few : length files < MAX_FILES → HasTooFew rest → BreaksOff files rest
 
--- the input breaks off at file k, counted from 1: behind the files in front of it
-pub record IsBundleFault (input : List ℕ) (k : ℕ) : Type 0 where
+-- the input breaks off at file k, counted from 1, behind the files in front of it
+pub record BreaksBehind (input : List ℕ) (k : ℕ) : Type 0 where
   pub files : List File
   pub rest : List ℕ
   pub text : input ≡ bundle_text files ++ rest
@@ -43,14 +37,12 @@ pub record IsBundleFault (input : List ℕ) (k : ℕ) : Type 0 where
   pub ends : BreaksOff files rest
   pub number : k ≡ length files + 1
 
--- the input is the text of files, and the path of file k is the first that is refused
-pub record IsPathFault (input : List ℕ) (k : ℕ) : Type 0 where
-  pub files : List File
-  pub spelled : Spells input files
-  pub refused : IsFirstRefused files k
+-- file k, counted from 1, doesn't stand there: the input breaks off there, or already at the end of the first line
+pub data IsBundleFault (input : List ℕ) (k : ℕ) : Type 0 where
+  breaks_off : BreaksBehind input k → IsBundleFault input k
+  no_line_feed : input ≡ codes "mrpc-files 1" → k ≡ 1 → IsBundleFault input k
 
--- running out of memory is no fault of an input
-abbrev pub IsFirstFault : List ℕ → BundleFault → Type 0
-IsFirstFault input (Bundle k) = IsBundleFault input k
-IsFirstFault input (Path k) = IsPathFault input k
-IsFirstFault input Memory = ⊥
+-- what a fault says of an input; running out of memory says nothing
+abbrev pub IsFaultOf : List ℕ → BundleFault → Type 0
+IsFaultOf input (Bundle k) = IsBundleFault input k
+IsFaultOf input Memory = Unit {0}

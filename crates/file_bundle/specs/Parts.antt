@@ -1,11 +1,9 @@
--- What the parts of the reader find: a header line and a file at the front of bytes, and where an input breaks off.
+-- What the parts of the reader find: a header line and a file at the front of bytes.
 use Rattle.std.specs.Prelude.{◌≡◌, ◌⊎◌, ℕ, List, ◌++◌}
 use Rattle.mrpc_table.specs.Lines.{in_64_bits}
 use Rattle.mrpc_table.specs.declared.words.Decimal.{Decimal}
 use Rattle.file_bundle.specs.Bundle.{File, header_line, file_text, IsWord}
-use Rattle.file_bundle.specs.Faults.{HasNoHeader, HasTooFew, IsBundleFault}
-use Rattle.file_bundle.specs.declared.fault.BundleFault.{BundleFault}
-use Rattle.file_bundle.specs.declared.fault.BundleFault.TheVariants.{Bundle, Path, Memory}
+use Rattle.file_bundle.specs.Faults.{HasNoHeader, HasTooFew}
 
 -- a header line of this path and this count stands first, and this behind it
 pub record HasHeader (bytes path : List ℕ) (count : Decimal) (behind : List ℕ) : Type 0 where
@@ -22,9 +20,3 @@ pub record HasFile (bytes : List ℕ) (file : File) (behind : List ℕ) : Type 0
 -- no file stands first
 abbrev pub HasNoFile : List ℕ → Type 0
 HasNoFile bytes = HasNoHeader bytes ⊎ HasTooFew bytes
-
--- the input breaks off at this file, or memory ran out
-abbrev pub IsBreak : List ℕ → BundleFault → Type 0
-IsBreak input (Bundle k) = IsBundleFault input k
-IsBreak input (Path k) = ⊥
-IsBreak input Memory = Unit {0}

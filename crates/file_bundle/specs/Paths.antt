@@ -1,5 +1,5 @@
 -- The paths of files: letters, digits, `_`, `-`, `.` and `/`, 255 bytes at most, and no two the same.
-use Rattle.std.specs.Prelude.{◌≡◌, ◌≢◌, ℕ, ◌+◌, ◌≤◌, ◌==◌, Bool, ◌||◌, IsTrue}
+use Rattle.std.specs.Prelude.{◌≡◌, ◌≢◌, ℕ, ◌≤◌, ◌==◌, Bool, ◌||◌, IsTrue}
 use Rattle.std.specs.Prelude.{List, ◌∷◌, ◌++◌, length, All, AllPairs, Contains}
 use Rattle.std.specs.List.{list_all}
 use Rattle.mrpc_table.specs.Names.{is_name_byte}
@@ -25,12 +25,12 @@ pub data IsRefused (before : List File) (path : List ℕ) : Type 0 where
   no_path : (IsPath path → ⊥) → IsRefused before path
   second : Contains (paths_of before) path → IsRefused before path
 
--- the path of file k, counted from 1, is the first that is refused
-pub record IsFirstRefused (files : List File) (k : ℕ) : Type 0 where
+-- the path of the file at this place, from 0, is the first that is refused
+pub record IsFirstRefused (files : List File) (place : ℕ) : Type 0 where
   pub before : List File
   pub file : File
   pub later : List File
   pub order : files ≡ before ++ file ∷ later
   pub right : HaveRightPaths before
   pub refused : IsRefused before file.0
-  pub number : k ≡ length before + 1
+  pub number : place ≡ length before

@@ -6,16 +6,13 @@ ghost use Rattle.file_bundle.specs.declared.fault.BundleFault.TheVariants.{Memor
 use std::alloc::AllocFailed;
 use thiserror::Error;
 
-/// Why no set of files was read. Files are counted from 1. A `Bundle` fault counts before each `Path` fault.
+/// Why no set of files was read. Files are counted from 1.
 #[derive(Clone, Copy, Debug, Error)]
 pub enum BundleFault {
     /// The first file that doesn't stand there: its header line isn't of its form, the bytes behind that are too few,
     /// no file is there at all (then `file` is 1), or it is the 65th, of which any byte is too much.
     #[error("file {file} doesn't stand there")]
     Bundle { file: u32 },
-    /// The first file whose path isn't of the form of a path, or is that of a file before it.
-    #[error("file {file} has a wrong path")]
-    Path { file: u32 },
     /// No memory was found.
     #[error("out of memory")]
     Memory,

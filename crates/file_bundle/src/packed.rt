@@ -3,7 +3,7 @@
 /// A file as it stands in a set: its path and its bytes, borrowed from the input.
 #[derive(Clone, Copy)]
 pub struct Packed<'a> {
-    /// The path. In a set that was read, [`is_path`](crate::is_path) holds of it.
+    /// The path, of any form: [`first_refused`](crate::first_refused) judges it.
     pub path: &'a [u8],
     /// The bytes of the file.
     pub text: &'a [u8],

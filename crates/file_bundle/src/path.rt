@@ -1,6 +1,6 @@
 //! Which paths files have.
 
-ghost use Rattle.std.specs.Prelude.{◌≡◌, ◌≤◌, ◌↔◌, length, IsTrue, IfSome, IfNone};
+ghost use Rattle.std.specs.Prelude.{◌≡◌, ◌↔◌, IsTrue, IfSome, IfNone};
 ghost use Rattle.std.specs.List.{list_all, list_any};
 ghost use Rattle.std.specs.Str.{bytes_eq};
 ghost use Rattle.file_bundle.specs.Packed.{files_of};
@@ -8,7 +8,6 @@ ghost use Rattle.file_bundle.specs.Paths.{IsPath, HaveRightPaths, IsFirstRefused
 
 use crate::limits::MAX_PATH;
 use crate::packed::Packed;
-use mrpc_table::MAX_FILES;
 
 /// Whether a path may be that of a file: 1 to 255 bytes of letters, digits, `_`, `-`, `.` and `/`.
 pub fn is_path(path: &[u8]) -> bool
@@ -29,15 +28,15 @@ fn is_path_byte(byte: u8) -> bool
     matches!(byte, b'A'..=b'Z' | b'a'..=b'z' | b'0'..=b'9' | b'_' | b'-' | b'.' | b'/')
 }
 
-/// The number, from 1, of the first file whose path is refused.
-pub(crate) fn first_refused(files: &[Packed]) -> Option<u32>
-    requires { length files.now ≤ MAX_FILES }
+/// The place, from 0, of the first file whose path is refused: it isn't of the form of a path, or is that of a file
+/// before it. It takes time in proportion to the bytes of the paths and the number of the files, squared.
+pub fn first_refused(files: &[Packed]) -> Option<usize>
     ensures first { IfSome result (IsFirstRefused (files_of files.now)) }
     ensures none { IfNone result (HaveRightPaths (files_of files.now)) }
 {
     for (i, file) in files.iter().enumerate() {
         if !is_path(file.path) || has_path(&files[..i], file.path) {
-            return Some(i as u32 + 1);
+            return Some(i);
         }
     }
     None

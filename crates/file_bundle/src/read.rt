@@ -2,58 +2,60 @@
 
 ghost use Rattle.std.specs.Prelude.{◌≡◌, ◌≢◌, ◌↔◌, ℕ, List, IsTrue, IfOk, IfErr, MatchResult};
 ghost use Rattle.file_bundle.specs.Bundle.{File, IsBundle, Spells};
-ghost use Rattle.file_bundle.specs.Faults.{IsSet, IsFirstFault};
+ghost use Rattle.file_bundle.specs.Faults.{IsBundleFault, IsFaultOf};
 ghost use Rattle.file_bundle.specs.Packed.{files_of};
-ghost use Rattle.file_bundle.specs.Parts.{IsBreak};
-ghost use Rattle.file_bundle.specs.declared.fault.BundleFault.{BundleFault as Fault};
-ghost use Rattle.file_bundle.specs.declared.fault.BundleFault.TheVariants.{Memory as NoMemory};
+ghost use Rattle.file_bundle.specs.declared.fault.BundleFault.TheVariants.{Bundle, Memory as NoMemory};
 
 use crate::fault::BundleFault;
 use crate::header::first_file;
+use crate::laws::one_bundle;
 use crate::packed::Packed;
-use crate::path::first_refused;
 use mrpc_table::MAX_FILES;
 use std::alloc::Global;
 
 /// The first line of a set of files.
 const FIRST_LINE: &[u8] = b"mrpc-files 1\n";
 
-/// Whether an input is a set of files: whether its first line, with its line feed, is `mrpc-files 1`.
+/// The first line without its line feed.
+const UNENDED_LINE: &[u8] = b"mrpc-files 1";
+
+/// Whether an input is meant as a set of files: whether its first line is `mrpc-files 1`, with its line feed, or as all
+/// of the input also without.
 pub fn is_bundle(input: &[u8]) -> bool
     ensures { IsTrue result ↔ IsBundle input.now }
 {
-    input.starts_with(FIRST_LINE)
+    input.starts_with(FIRST_LINE) || input == UNENDED_LINE
 }
 
-/// The files of a set, where they stand in the input. The first is the root. The error is the first fault of an input
-/// that is no set, or `Memory`.
+/// The files of a set, where they stand in the input. The first is the root. The error is the first file that doesn't
+/// stand there, or `Memory`. Paths may have any form here.
 pub fn read_bundle<'a>(alloc: Global, input: &'a [u8]) -> Result<Vec<Packed<'a>>, BundleFault>
     requires { IsBundle input.now }
-    // What is read is the set that the input is.
-    ensures read { IfOk result (λ read. IsSet input.now (files_of read.items)) }
-    // A set of files is read, unless memory runs out.
-    ensures only { (files : List File) → IsSet input.now files
+    // What is read is the set that the input spells.
+    ensures read { IfOk result (λ read. Spells input.now (files_of read.items)) }
+    // The set that an input spells is read, unless memory runs out.
+    ensures only { (files : List File) → Spells input.now files
         → MatchResult result (λ read. files_of read.items ≡ files) (λ fault. fault ≡ NoMemory) }
     // A fault is the first one.
-    ensures fault { IfErr result (λ fault. fault ≢ NoMemory → IsFirstFault input.now fault) }
+    ensures fault { IfErr result (IsFaultOf input.now) }
     // The first fault is found, unless memory runs out.
-    ensures found { (first : Fault) → IsFirstFault input.now first
-        → MatchResult result (λ _. ⊥) (λ fault. fault ≢ NoMemory → fault ≡ first) }
+    ensures found { (k : ℕ) → IsBundleFault input.now k
+        → MatchResult result (λ _. ⊥) (λ fault. fault ≢ NoMemory → fault ≡ Bundle k) }
 {
-    let files = read_files(alloc, input)?;
-    match first_refused(files.as_slice()) {
-        Some(file) => Err(BundleFault::Path { file }),
-        None => Ok(files),
-    }
+    one_bundle();
+    read_files(alloc, input)
 }
 
 fn read_files<'a>(alloc: Global, input: &'a [u8]) -> Result<Vec<Packed<'a>>, BundleFault>
     requires { IsBundle input.now }
     ensures read { IfOk result (λ read. Spells input.now (files_of read.items)) }
-    ensures fault { IfErr result (IsBreak input.now) }
+    ensures fault { IfErr result (IsFaultOf input.now) }
 {
+    let Some(behind) = input.strip_prefix(FIRST_LINE) else {
+        return Err(BundleFault::Bundle { file: 1 });
+    };
     let mut files = Vec::new(alloc);
-    let mut rest = &input[FIRST_LINE.len()..];
+    let mut rest = behind;
     while !rest.is_empty() {
         let file = files.len() as u32 + 1;
         if files.len() == MAX_FILES {

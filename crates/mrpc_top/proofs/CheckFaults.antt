@@ -1,10 +1,8 @@
 -- What a fault that was found says of a text.
-use Rattle.std.proofs.Common.{◌≡◌, ◌≢◌, ℕ, ◌+◌, List, subst}
+use Rattle.std.proofs.Common.{◌≡◌, ℕ, ◌+◌, List}
 use Rattle.std.specs.Prelude.{codes}
-use Rattle.file_bundle.specs.Bundle.{File as PackedFile, IsBundle}
-use Rattle.file_bundle.specs.Faults.{IsSet, IsFirstFault as IsBundleFault}
-use Rattle.file_bundle.specs.declared.fault.BundleFault.{BundleFault}
-use Rattle.file_bundle.specs.declared.fault.BundleFault.TheVariants.{Bundle, Path, Memory}
+use Rattle.file_bundle.specs.Bundle.{File as PackedFile, IsBundle, Spells}
+use Rattle.file_bundle.specs.Faults.{IsBundleFault}
 use Rattle.proto_file.specs.declared.file.File.{File}
 use Rattle.proto_file.specs.declared.file.Span.{Span}
 use Rattle.proto_schema.specs.Faults.{IsTextOf, HasFault}
@@ -14,8 +12,9 @@ use Rattle.schema_offences.specs.Offences.{HasOffence}
 use Rattle.schema_offences.specs.Reason.{resolve_word}
 use Rattle.schema_offences.specs.declared.reason.ResolveReason.{ResolveReason}
 use Rattle.schema_files.specs.Reason.{files_word}
-use Rattle.schema_files.specs.Resolving.{HasFilesFault}
+use Rattle.schema_files.specs.Resolving.{IsFirstFault}
 use Rattle.schema_files.specs.declared.fault.FilesReason.{FilesReason}
+use Rattle.schema_files.specs.declared.fault.FilesFault.TheVariants as files_fault
 use Rattle.mrpc_top.specs.Checking.{IsCheckFault}
 use Rattle.mrpc_top.specs.Checking.IsCheckFault.{unread, unresolved, no_such_file, wrong_path, in_set}
 use Rattle.mrpc_top.specs.declared.check.Spot.TheVariants.{Line, InFile, OfFile}
@@ -34,22 +33,20 @@ file_fault text F q s line word alone reads offence e f =
     rw (e, f) first
 
 pub fault_in_file : (text : List ℕ) (files : List PackedFile) (i l file line : ℕ) (q : FilesReason) (word : List ℕ)
-    → IsBundle text → IsSet text files → HasFilesFault files i l q → file ≡ i + 1 → line ≡ l → word ≡ files_word q
-    → IsCheckFault text (InFile file line) word
+    → IsBundle text → Spells text files → IsFirstFault files (files_fault.At i l q) → file ≡ i + 1 → line ≡ l
+    → word ≡ files_word q → IsCheckFault text (InFile file line) word
 fault_in_file text files i l file line q word set are stands e f g =
     let first : IsCheckFault text (InFile (i + 1) l) (files_word q) = in_set files i l q set are stands in
     rw (e, f, g) first
 
-pub missing_file : (text : List ℕ) (b : BundleFault) (k file : ℕ) → IsBundle text → (b ≢ Memory → IsBundleFault text b)
-    → b ≡ Bundle k → file ≡ k → IsCheckFault text (OfFile file) (codes "Bundle")
-missing_file text b k file set found is e =
-    let stands : IsBundleFault text (Bundle k) = subst (λ (x : BundleFault). IsBundleFault text x) is (found (λ (m : b ≡ Memory). cc)) in
+pub missing_file : (text : List ℕ) (k file : ℕ) → IsBundle text → IsBundleFault text k → file ≡ k
+    → IsCheckFault text (OfFile file) (codes "Bundle")
+missing_file text k file set stands e =
     let first : IsCheckFault text (OfFile k) (codes "Bundle") = no_such_file k set stands in
     rw e first
 
-pub refused_path : (text : List ℕ) (b : BundleFault) (k file : ℕ) → IsBundle text → (b ≢ Memory → IsBundleFault text b)
-    → b ≡ Path k → file ≡ k → IsCheckFault text (OfFile file) (codes "Path")
-refused_path text b k file set found is e =
-    let stands : IsBundleFault text (Path k) = subst (λ (x : BundleFault). IsBundleFault text x) is (found (λ (m : b ≡ Memory). cc)) in
-    let first : IsCheckFault text (OfFile k) (codes "Path") = wrong_path k set stands in
+pub refused_path : (text : List ℕ) (files : List PackedFile) (i file : ℕ) → IsBundle text → Spells text files
+    → IsFirstFault files (files_fault.Path i) → file ≡ i + 1 → IsCheckFault text (OfFile file) (codes "Path")
+refused_path text files i file set are stands e =
+    let first : IsCheckFault text (OfFile (i + 1)) (codes "Path") = wrong_path files i set are stands in
     rw e first

@@ -8,5 +8,5 @@ mod Decodings
 mod KnownBytes
 mod OneCheck
 mod OneDecoding
-mod SetPaths
+mod SetSizes
 mod TextAnswers

@@ -2,9 +2,8 @@
 use Rattle.std.specs.Prelude.{ℕ, ◌+◌, List, ◌∷◌, ◌++◌, codes}
 use Rattle.std.specs.Fmt.{decimal}
 use Rattle.mrpc_table.specs.declared.table.Table.{Table}
-use Rattle.file_bundle.specs.Bundle.{File as PackedFile, IsBundle}
-use Rattle.file_bundle.specs.Faults.{IsSet, IsFirstFault as IsBundleFault}
-use Rattle.file_bundle.specs.declared.fault.BundleFault.TheVariants.{Bundle, Path}
+use Rattle.file_bundle.specs.Bundle.{File as PackedFile, IsBundle, Spells}
+use Rattle.file_bundle.specs.Faults.{IsBundleFault}
 use Rattle.proto_file.specs.declared.file.File.{File}
 use Rattle.proto_file.specs.declared.file.Span.{Span}
 use Rattle.proto_schema.specs.Faults.{IsTextOf, HasFault}
@@ -15,8 +14,9 @@ use Rattle.schema_offences.specs.Reason.{resolve_word}
 use Rattle.schema_offences.specs.declared.reason.ResolveReason.{ResolveReason}
 use Rattle.schema_resolve.specs.Resolving.{Resolves}
 use Rattle.schema_files.specs.Reason.{files_word}
-use Rattle.schema_files.specs.Resolving.{FilesResolve, HasFilesFault}
+use Rattle.schema_files.specs.Resolving.{FilesResolve, IsFirstFault}
 use Rattle.schema_files.specs.declared.fault.FilesReason.{FilesReason}
+use Rattle.schema_files.specs.declared.fault.FilesFault.TheVariants as files_fault
 use Rattle.mrpc_top.specs.declared.check.Spot.{Spot}
 use Rattle.mrpc_top.specs.declared.check.Spot.TheVariants.{Line, InFile, OfFile}
 use Rattle.mrpc_top.specs.declared.check.CheckFault.{CheckFault}
@@ -25,7 +25,7 @@ use Rattle.mrpc_top.specs.declared.check.CheckFault.TheVariants.{At, Memory}
 -- the text reads as a proto file, or is a set of files, and resolves to a table
 pub data ChecksAs (text : List ℕ) (T : Table) : Type 0 where
   a_file : (F : File) → (IsBundle text → ⊥) → IsTextOf text F → Resolves F T → ChecksAs text T
-  a_set : (files : List PackedFile) → IsBundle text → IsSet text files → FilesResolve files T → ChecksAs text T
+  a_set : (files : List PackedFile) → IsBundle text → Spells text files → FilesResolve files T → ChecksAs text T
 
 -- where a fault stands, as it is printed
 abbrev pub spot_text : Spot → List ℕ
@@ -40,10 +40,11 @@ pub data IsCheckFault (text : List ℕ) : Spot → List ℕ → Type 0 where
       → IsCheckFault text (Line s.line) (proto_word q)
   unresolved : (F : File) (q : ResolveReason) (s : Span) → (IsBundle text → ⊥) → IsTextOf text F → HasOffence F q s
       → IsCheckFault text (Line s.line) (resolve_word q)
-  no_such_file : (k : ℕ) → IsBundle text → IsBundleFault text (Bundle k) → IsCheckFault text (OfFile k) (codes "Bundle")
-  wrong_path : (k : ℕ) → IsBundle text → IsBundleFault text (Path k) → IsCheckFault text (OfFile k) (codes "Path")
-  in_set : (files : List PackedFile) (file line : ℕ) (q : FilesReason) → IsBundle text → IsSet text files
-      → HasFilesFault files file line q → IsCheckFault text (InFile (file + 1) line) (files_word q)
+  no_such_file : (k : ℕ) → IsBundle text → IsBundleFault text k → IsCheckFault text (OfFile k) (codes "Bundle")
+  wrong_path : (files : List PackedFile) (file : ℕ) → IsBundle text → Spells text files
+      → IsFirstFault files (files_fault.Path file) → IsCheckFault text (OfFile (file + 1)) (codes "Path")
+  in_set : (files : List PackedFile) (file line : ℕ) (q : FilesReason) → IsBundle text → Spells text files
+      → IsFirstFault files (files_fault.At file line q) → IsCheckFault text (InFile (file + 1) line) (files_word q)
 
 -- what a fault says of a text; running out of memory says nothing
 abbrev pub IsFaultOf : List ℕ → CheckFault → Type 0

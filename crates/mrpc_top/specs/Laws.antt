@@ -2,7 +2,7 @@
 use Rattle.std.specs.Prelude.{◌≡◌, ◌⊎◌, ℕ, ◌+◌, ◌<◌, List, [], ◌++◌, length, All}
 use Rattle.mrpc_table.specs.Node.{Node}
 use Rattle.mrpc_table.specs.Text.{table_text}
-use Rattle.mrpc_table.specs.Valid.{IsValid, AreDistinct, HaveOneTextEach}
+use Rattle.mrpc_table.specs.Valid.{IsValid, HaveOneTextEach}
 use Rattle.mrpc_table.specs.declared.table.Table.{Table}
 use Rattle.table_text.specs.Faults.{IsFirstFault as IsTextFault}
 use Rattle.table_text.specs.TableText.{HasTableBehind, IsEndless}
@@ -10,10 +10,10 @@ use Rattle.table_text.specs.declared.fault.TableReason.{TableReason}
 use Rattle.wire_decode.specs.Means.{Means}
 use Rattle.wire_decode.specs.Faults.{IsFirstFault}
 use Rattle.wire_decode.specs.declared.fault.DecodeReason.{DecodeReason}
-use Rattle.file_bundle.specs.Bundle.{File as PackedFile, paths_of}
-use Rattle.file_bundle.specs.Laws.{SpellsOnce, NeverSetAndFault, SetOrFault, OneFault}
-use Rattle.schema_files.specs.Resolving.{FilesResolve, HasFilesFault}
-use Rattle.schema_files.specs.declared.fault.FilesReason.{FilesReason}
+use Rattle.file_bundle.specs.Bundle.{File as PackedFile}
+use Rattle.file_bundle.specs.Laws.{SpellsOnce, NeverSpellsAndBreaks, SpellsOrBreaks, BreaksOnce}
+use Rattle.schema_files.specs.Resolving.{FilesResolve, IsFirstFault}
+use Rattle.schema_files.specs.declared.fault.FilesFault.{FilesFault}
 use Rattle.frame_transport.specs.Frames.{SplitsOnce, AlwaysEnds, EndsOnce, IsFrame, bytes_of, joined, StandFrom, IsPartial, IsFaultAt, Splits}
 use Rattle.frame_transport.specs.declared.format.Frame.{Frame}
 use Rattle.frame_transport.specs.declared.fault.FeedFault.{FeedFault}
@@ -91,18 +91,17 @@ pub record FileLaw : Type 0 where
       → HasOffence F q s → HasOffence F r t → (q ≡ r) × (s ≡ t)
   pub table_or_offence : (F : File) (T : Table) (q : ResolveReason) (s : Span) → Resolves F T → HasOffence F q s → ⊥
 
--- behind the first line an input is one set of files or has one first fault, and never both; and files with paths of
--- their own have one table or one first fault, and never both
+-- behind the first line an input is one set of files or breaks off at one file, and never both; and files have one table
+-- or one first fault, and never both
 pub record SetLaw : Type 0 where
-  pub either : SetOrFault
-  pub never_neither : (files : List PackedFile) → 0 < length files → AreDistinct (paths_of files)
-      → ((T : Table) → FilesResolve files T → ⊥) → ((i l : ℕ) (q : FilesReason) → HasFilesFault files i l q → ⊥) → ⊥
+  pub either : SpellsOrBreaks
+  pub never_neither : (files : List PackedFile) → 0 < length files → ((T : Table) → FilesResolve files T → ⊥)
+      → ((e : FilesFault) → IsFirstFault files e → ⊥) → ⊥
   pub one_set : SpellsOnce
-  pub one_fault : OneFault
-  pub set_or_fault : NeverSetAndFault
-  pub one_table : (files : List PackedFile) (T U : Table) → AreDistinct (paths_of files) → FilesResolve files T
-      → FilesResolve files U → T ≡ U
-  pub one_files_fault : (files : List PackedFile) (i j l m : ℕ) (q r : FilesReason) → AreDistinct (paths_of files)
-      → HasFilesFault files i l q → HasFilesFault files j m r → (i ≡ j) × (l ≡ m) × (q ≡ r)
-  pub table_or_files_fault : (files : List PackedFile) (T : Table) (i l : ℕ) (q : FilesReason)
-      → AreDistinct (paths_of files) → FilesResolve files T → HasFilesFault files i l q → ⊥
+  pub one_fault : BreaksOnce
+  pub set_or_fault : NeverSpellsAndBreaks
+  pub one_table : (files : List PackedFile) (T U : Table) → FilesResolve files T → FilesResolve files U → T ≡ U
+  pub one_files_fault : (files : List PackedFile) (e f : FilesFault) → IsFirstFault files e → IsFirstFault files f
+      → e ≡ f
+  pub table_or_files_fault : (files : List PackedFile) (T : Table) (e : FilesFault) → FilesResolve files T
+      → IsFirstFault files e → ⊥

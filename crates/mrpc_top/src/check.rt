@@ -12,7 +12,7 @@ use crate::laws::{file_law, set_law};
 use crate::reading::INPUT_LIMIT;
 use file_bundle::{BundleFault, is_bundle, read_bundle};
 use mrpc_table::{Bytes, Memory, Table};
-use proto_schema::{ProtoFault, read_proto};
+use proto_schema::{ProtoFault, alone_is_ordered, read_proto};
 use schema_files::{FilesFault, fault_in_set, resolve_files};
 use schema_resolve::{ResolveFault, resolve};
 use std::alloc::Global;
@@ -79,6 +79,7 @@ fn table_of_file(alloc: Global, text: &[u8]) -> Result<Table, CheckFault>
     ensures checked { IfOk result (λ T. ChecksAs text.now T × IsValid T) }
     ensures fault { IfErr result (IsFaultOf text.now) }
 {
+    alone_is_ordered();
     let file = match read_proto(alloc, text) {
         Ok(file) => file,
         Err(ProtoFault::At { reason, line, .. }) => {
@@ -115,16 +116,14 @@ fn table_of_set(alloc: Global, text: &[u8]) -> Result<Table, CheckFault>
                 word: "Bundle",
             });
         }
-        Err(BundleFault::Path { file }) => {
-            return Err(CheckFault::At {
-                spot: Spot::OfFile(u64::from(file)),
-                word: "Path",
-            });
-        }
         Err(BundleFault::Memory) => return Err(CheckFault::Memory),
     };
     match resolve_files(alloc, files.as_slice()) {
         Ok(table) => Ok(table),
+        Err(FilesFault::Path { file }) => Err(CheckFault::At {
+            spot: Spot::OfFile(file as u64 + 1),
+            word: "Path",
+        }),
         Err(FilesFault::At { file, line, reason }) => Err(CheckFault::At {
             spot: Spot::InFile {
                 file: file as u64 + 1,

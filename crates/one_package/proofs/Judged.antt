@@ -16,7 +16,7 @@ use Rattle.schema_offences.specs.Types.{HasType, HasForm}
 use Rattle.schema_offences.specs.Members
 use Rattle.schema_offences.specs.Members.{IsNoType, KeyOffends, TypeOffends, NumberOffends, ValueOffends, MessageOffends, EnumOffends, MethodOffends}
 use Rattle.schema_offences.specs.declared.reason.ResolveReason.{ResolveReason}
-use Rattle.one_package.specs.OnePackage.{FieldRefers, its_type, its_key, its_value, RpcRefers, its_input, its_output}
+use Rattle.one_package.specs.OnePackage.{FieldRefers, its_type, its_key, its_value, its_outer_key, RpcRefers, its_input, its_output}
 use Rattle.one_package.proofs.Alike.{message_with, enum_with}
 use Rattle.one_package.proofs.Lists.{in_list}
 
@@ -86,6 +86,8 @@ module _ {J : Joined} {j : ℕ} {s : List (List ℕ)} {K : Joined} {k : ℕ} {t 
       Members.unknown_type w is (no_type_same (n.names w.name (its_type w is)) o)
   type_offends_same n (Members.bad_key key value is o) =
       Members.bad_key key value is (key_same (n.names key.name (its_key key value is)) o)
+  type_offends_same n (Members.bad_outer_key key is o) =
+      Members.bad_outer_key key is (key_same (n.names key.name (its_outer_key key is)) o)
   type_offends_same n (Members.unknown_value key value is o) =
       Members.unknown_value key value is (no_type_same (n.names value.name (its_value key value is)) o)
   type_offends_same n (Members.misplaced o is) = Members.misplaced o is

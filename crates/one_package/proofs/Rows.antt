@@ -20,7 +20,7 @@ use Rattle.proto_file.specs.declared.joined.Head.{Head}
 use Rattle.proto_file.specs.declared.joined.Home.TheVariants as home
 use Rattle.schema_names.specs.Scopes
 use Rattle.schema_names.specs.Scopes.{IsScope, of_file, of_message, Sort, is_type, Declares, Means, absolute, relative, Names}
-use Rattle.one_package.specs.OnePackage.{IsOneFile, NoTypeIsAPart, FieldRefers, its_type, its_key, its_value, Refers, of_field, of_rpc, SeesItsTypes, IsOnePackage}
+use Rattle.one_package.specs.OnePackage.{IsOneFile, NoTypeIsAPart, FieldRefers, its_type, its_key, its_value, its_outer_key, Refers, of_field, of_rpc, SeesItsTypes, IsOnePackage}
 use Rattle.one_package.proofs.Lists.{at_in, last_same}
 use Rattle.one_package.proofs.Looking.{file_scope}
 
@@ -201,6 +201,7 @@ field_name : {f : FieldDecl} {name : List ℕ} → f.kind ≡ Named (word (codes
     → name ≡ codes "A"
 field_name is (its_type w e) = ap (λ (x : Word). x.name) (named_same w (word (codes "A") 24) (sym e ∙ is))
 field_name is (its_key key value e) = absurd cc
+field_name is (its_outer_key key e) = absurd cc
 field_name is (its_value key value e) = absurd cc
 
 field_a : (f : FieldDecl) (j : ℕ) → slice_get (decl_a 0).fields j ≡ Some f → f.kind ≡ Named (word (codes "A") 24)

@@ -3,7 +3,7 @@ use Rattle.std.specs.Prelude.{◌≡◌, ℕ, ◌<◌, true, List, [], length, m
 use Rattle.proto_file.specs.Joined.{Joined, Sees, alone, package_at}
 use Rattle.proto_file.specs.declared.file.Word.{Word}
 use Rattle.proto_file.specs.declared.file.Span.{Span}
-use Rattle.proto_file.specs.declared.file.FieldType.TheVariants.{Named, Map}
+use Rattle.proto_file.specs.declared.file.FieldType.TheVariants.{Named, Map, NestedMap}
 use Rattle.proto_file.specs.declared.file.FieldDecl.{FieldDecl}
 use Rattle.proto_file.specs.declared.file.MessageDecl.{MessageDecl}
 use Rattle.proto_file.specs.declared.file.EnumDecl.{EnumDecl}
@@ -48,6 +48,7 @@ pub data FieldRefers (f : FieldDecl) : List ℕ → Type 0 where
   its_type : (w : Word) → f.kind ≡ Named w → FieldRefers f w.name
   its_key : (key value : Word) → f.kind ≡ Map key value → FieldRefers f key.name
   its_value : (key value : Word) → f.kind ≡ Map key value → FieldRefers f value.name
+  its_outer_key : (key : Word) → f.kind ≡ NestedMap key → FieldRefers f key.name
 
 -- the types that an rpc names
 pub data RpcRefers (r : RpcDecl) : List ℕ → Type 0 where

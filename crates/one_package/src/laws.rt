@@ -3,6 +3,7 @@
 ghost use Rattle.std.specs.Prelude.{List};
 ghost use Rattle.mrpc_table.specs.declared.table.Table.{Table};
 ghost use Rattle.file_bundle.specs.Bundle.{File as PackedFile};
+ghost use Rattle.file_bundle.specs.Paths.{HaveRightPaths};
 ghost use Rattle.proto_file.specs.Joined.{Joined};
 ghost use Rattle.proto_file.specs.Together.{IsFormed, IsOrdered};
 ghost use Rattle.proto_file.specs.declared.file.File.{File};
@@ -24,12 +25,13 @@ pub fn one_package_is_one_file()
         → Resolves G T → ResolvesTogether F T }
 {}
 
-/// The same of the files that the first file of a set reaches by imports: the set resolves to the table of the one
-/// file.
+/// The same of the files that the first file of a set reaches by imports: the set, where its paths are right, resolves to
+/// the table of the one file.
 pub fn one_package_set_is_one_file()
     ensures one_file { (files : List PackedFile) (ps : List Part) (G : File) (T : Table) → AreJoined files ps
         → IsOnePackage (joined ps) G → FilesResolve files T → Resolves G T }
-    ensures several { (files : List PackedFile) (ps : List Part) (G : File) (T : Table) → AreJoined files ps
+    ensures several { (files : List PackedFile) (ps : List Part) (G : File) (T : Table) → HaveRightPaths files
+        → AreJoined files ps
         → IsOnePackage (joined ps) G → Resolves G T → FilesResolve files T }
 {
     one_join();

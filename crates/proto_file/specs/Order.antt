@@ -38,7 +38,7 @@ pub data HasTypeName (w : Word) : Type 0 where
 abbrev pub HasTypeNames : FieldType → Type 0
 HasTypeNames (Named w) = HasTypeName w
 HasTypeNames (Map key value) = HasTypeName key × HasTypeName value
-HasTypeNames NestedMap = Unit {0}
+HasTypeNames (NestedMap key) = HasTypeName key
 
 -- a field of a message with this many oneofs
 pub record IsFormedField (oneofs : ℕ) (f : FieldDecl) : Type 0 where
@@ -117,6 +117,7 @@ pub data IsOfField (f : FieldDecl) (span : Span) : Part → Type 0 where
   field_type : (w : Word) → f.kind ≡ Named w → span ≡ w.span → IsOfField f span its_type
   map_key : (key value : Word) → f.kind ≡ Map key value → span ≡ key.span → IsOfField f span its_key
   map_value : (key value : Word) → f.kind ≡ Map key value → span ≡ value.span → IsOfField f span its_value
+  outer_key : (key : Word) → f.kind ≡ NestedMap key → span ≡ key.span → IsOfField f span its_key
   field_name : span ≡ f.name.span → IsOfField f span its_name
   field_number : span ≡ f.number.span → IsOfField f span its_number
 

@@ -32,7 +32,7 @@ pub record IsRangeWithin (size : ℕ) (r : Range) : Type 0 where
 abbrev pub IsTypeWithin : ℕ → FieldType → Type 0
 IsTypeWithin size (Named w) = IsWordWithin size w
 IsTypeWithin size (Map key value) = IsWordWithin size key × IsWordWithin size value
-IsTypeWithin size NestedMap = Unit {0}
+IsTypeWithin size (NestedMap key) = IsWordWithin size key
 
 pub record IsFieldWithin (size : ℕ) (f : FieldDecl) : Type 0 where
   pub name : IsWordWithin size f.name

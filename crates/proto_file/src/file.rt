@@ -64,8 +64,8 @@ pub enum FieldType {
     Named(Word),
     /// `map<KEY, VALUE>`
     Map { key: Word, value: Word },
-    /// `map<KEY, map<..>>`, whose parts aren't kept: no map is a map's value.
-    NestedMap,
+    /// `map<KEY, map<..>>`, of which the outer key alone is kept: no map is a map's value.
+    NestedMap { key: Word },
 }
 
 /// A field of a message.

@@ -46,7 +46,7 @@ range_same r =
 type_same : (t : FieldType) → shift_type 0 t ≡ t
 type_same (Named w) = ap Named (word_same w)
 type_same (Map key item) = ap (λ w. Map w (shift_word 0 item)) (word_same key) ∙ ap (λ w. Map key w) (word_same item)
-type_same NestedMap = refl
+type_same (NestedMap key) = ap NestedMap (word_same key)
 
 field_same : (f : FieldDecl) → shift_field 0 f ≡ f
 field_same f =

@@ -33,7 +33,7 @@ type_name n w (absolute full e h) = absolute full e h
 type_names : (n : ℕ) (t : FieldType) → HasTypeNames t → HasTypeNames (shift_type n t)
 type_names n (Named w) h = type_name n w h
 type_names n (Map key item) h = (type_name n key h.0, type_name n item h.1)
-type_names n NestedMap h = h
+type_names n (NestedMap key) h = type_name n key h
 
 formed_field : (n oneofs : ℕ) (f : FieldDecl) → IsFormedField oneofs f → IsFormedField oneofs (shift_field n f)
 formed_field n oneofs f h = record { name = h.name; types = type_names n f.kind h.types; oneof = h.oneof }

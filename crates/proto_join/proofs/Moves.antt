@@ -110,7 +110,7 @@ module _ (size room : ℕ) (more : size ≤ room) where
   type_more : (t : FieldType) → IsTypeWithin size t → IsTypeWithin room t
   type_more (Named w) h = word_more w h
   type_more (Map key value) h = (word_more key h.0, word_more value h.1)
-  type_more NestedMap h = tt
+  type_more (NestedMap key) h = word_more key h
 
   field_more : (f : FieldDecl) → IsFieldWithin size f → IsFieldWithin room f
   field_more f h = record {

@@ -13,7 +13,7 @@ use Rattle.proto_file.specs.declared.file.RpcDecl.{RpcDecl}
 use Rattle.proto_file.specs.declared.file.ServiceDecl.{ServiceDecl}
 use Rattle.proto_file.specs.declared.file.File.{File}
 use Rattle.proto_file.specs.declared.joined.Head.{Head}
-use Rattle.proto_file.specs.Order.{Part as Piece, IsOfField, field_type, map_key, map_value, field_name, field_number, IsOfValue, value_name, value_number, IsOfRpc, rpc_name, rpc_input, rpc_output, Declaration as Own, package_decl as own_package, message_decl as own_message, field_decl as own_field, oneof_decl as own_oneof, enum_decl as own_enum, value_decl as own_value, service_decl as own_service, rpc_decl as own_rpc, StandsAt as OwnStandsAt, package_name as own_package_at, import as own_import_at, message as own_message_at, field as own_field_at, oneof as own_oneof_at, enum as own_enum_at, value as own_value_at, service as own_service_at, rpc as own_rpc_at, Precedes as OwnPrecedes, messages as own_messages, enums as own_enums, services as own_services, fields as own_fields, oneofs as own_oneofs, values as own_values, rpcs as own_rpcs, in_message as own_in_message, oneof_in_message as own_oneof_in_message, in_enum as own_in_enum, in_service as own_in_service}
+use Rattle.proto_file.specs.Order.{Part as Piece, IsOfField, field_type, map_key, map_value, outer_key, field_name, field_number, IsOfValue, value_name, value_number, IsOfRpc, rpc_name, rpc_input, rpc_output, Declaration as Own, package_decl as own_package, message_decl as own_message, field_decl as own_field, oneof_decl as own_oneof, enum_decl as own_enum, value_decl as own_value, service_decl as own_service, rpc_decl as own_rpc, StandsAt as OwnStandsAt, package_name as own_package_at, import as own_import_at, message as own_message_at, field as own_field_at, oneof as own_oneof_at, enum as own_enum_at, value as own_value_at, service as own_service_at, rpc as own_rpc_at, Precedes as OwnPrecedes, messages as own_messages, enums as own_enums, services as own_services, fields as own_fields, oneofs as own_oneofs, values as own_values, rpcs as own_rpcs, in_message as own_in_message, oneof_in_message as own_oneof_in_message, in_enum as own_in_enum, in_service as own_in_service}
 use Rattle.proto_file.specs.Together.{Declaration, package_decl, message_decl, field_decl, oneof_decl, enum_decl, value_decl, service_decl, rpc_decl, StandsAt, package_name, message, field, oneof, enum, value, service, rpc, Precedes, messages, enums, services, fields, oneofs, values, rpcs, in_message, oneof_in_message, in_enum, in_service}
 use Rattle.proto_join.specs.declared.part.Part.{Part}
 use Rattle.proto_join.specs.Joining.{nothing, heads_of, joined}
@@ -54,13 +54,19 @@ pub record Located (ps : List Part) (s : Span) (x : Declaration) (piece : Piece)
 named_back : (n : ℕ) (t : FieldType) (w : Word) → shift_type n t ≡ Named w → (v : Word) × (t ≡ Named v) × (w ≡ shift_word n v)
 named_back n (Named v) w e = (v, refl, cc)
 named_back n (Map key item) w e = absurd (cc)
-named_back n NestedMap w e = absurd (cc)
+named_back n (NestedMap key) w e = absurd (cc)
 
 map_back : (n : ℕ) (t : FieldType) (k v : Word) → shift_type n t ≡ Map k v
     → (key : Word) × (item : Word) × (t ≡ Map key item) × (k ≡ shift_word n key) × (v ≡ shift_word n item)
 map_back n (Named w) k v e = absurd (cc)
 map_back n (Map key item) k v e = (key, item, refl, cc, cc)
-map_back n NestedMap k v e = absurd (cc)
+map_back n (NestedMap key) k v e = absurd (cc)
+
+outer_back : (n : ℕ) (t : FieldType) (k : Word) → shift_type n t ≡ NestedMap k
+    → (key : Word) × (t ≡ NestedMap key) × (k ≡ shift_word n key)
+outer_back n (Named w) k e = absurd (cc)
+outer_back n (Map key item) k e = absurd (cc)
+outer_back n (NestedMap key) k e = (key, refl, cc)
 
 -- a piece of what was shifted is a shifted piece
 abbrev Back : (n : ℕ) (s : Span) → (Span → Type 0) → Type 0
@@ -73,6 +79,8 @@ field_back n f s piece (map_key k v e h) =
     let b = map_back n f.kind k v e in (b.0.span, map_key b.0 b.1 b.2 refl, h ∙ ap (λ (w : Word). w.span) b.3)
 field_back n f s piece (map_value k v e h) =
     let b = map_back n f.kind k v e in (b.1.span, map_value b.0 b.1 b.2 refl, h ∙ ap (λ (w : Word). w.span) b.4)
+field_back n f s piece (outer_key k e h) =
+    let b = outer_back n f.kind k e in (b.0.span, outer_key b.0 b.1 refl, h ∙ ap (λ (w : Word). w.span) b.2)
 field_back n f s piece (field_name h) = (f.name.span, field_name refl, h)
 field_back n f s piece (field_number h) = (f.number.span, field_number refl, h)
 
@@ -219,6 +227,7 @@ field_within size f s piece w (map_key k v e h) =
     let both : IsTypeWithin size (Map k v) = subst (IsTypeWithin size) e w.kind in subst (IsSpanWithin size) (sym h) both.0
 field_within size f s piece w (map_value k v e h) =
     let both : IsTypeWithin size (Map k v) = subst (IsTypeWithin size) e w.kind in subst (IsSpanWithin size) (sym h) both.1
+field_within size f s piece w (outer_key k e h) = subst (IsSpanWithin size) (sym h) (subst (IsTypeWithin size) e w.kind)
 field_within size f s piece w (field_name h) = subst (IsSpanWithin size) (sym h) w.name
 field_within size f s piece w (field_number h) = subst (IsSpanWithin size) (sym h) w.number
 

@@ -33,7 +33,7 @@ shift_range bytes r = record { first = shift_number bytes r.first; last = option
 abbrev pub shift_type : ℕ → FieldType → FieldType
 shift_type bytes (Named w) = Named (shift_word bytes w)
 shift_type bytes (Map key value) = Map (shift_word bytes key) (shift_word bytes value)
-shift_type bytes NestedMap = NestedMap
+shift_type bytes (NestedMap key) = NestedMap (shift_word bytes key)
 
 abbrev pub shift_field : ℕ → FieldDecl → FieldDecl
 shift_field bytes f = record f {

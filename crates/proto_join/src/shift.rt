@@ -89,7 +89,7 @@ impl Shift for FieldType {
                 key.shift(bytes);
                 value.shift(bytes);
             }
-            FieldType::NestedMap => {}
+            FieldType::NestedMap { key } => key.shift(bytes),
         }
     }
 }

@@ -183,39 +183,39 @@ of_key_within (Ok (name_steps.More s)) = omega arith
 of_key_within (Ok (name_steps.Whole w)) = omega arith
 of_key_within (Err e) = tt
 
-of_inner_key_within : (n : ℕ) (r : Result NameStep ProtoFault) → MapWithin (n + 1) (of_inner_key n r)
-of_inner_key_within n (Ok (name_steps.More s)) = omega arith
-of_inner_key_within n (Ok (name_steps.Whole w)) = omega arith
-of_inner_key_within n (Err e) = tt
+of_inner_key_within : (k0 : Word) (n : ℕ) (r : Result NameStep ProtoFault) → MapWithin (n + 1) (of_inner_key k0 n r)
+of_inner_key_within k0 n (Ok (name_steps.More s)) = omega arith
+of_inner_key_within k0 n (Ok (name_steps.Whole w)) = omega arith
+of_inner_key_within k0 n (Err e) = tt
 
 of_value_within : (key : Word) (x : Lexeme) (r : Result NameStep ProtoFault) → MapWithin 1 (of_value key x r)
 of_value_within key x (Ok (name_steps.More s)) = omega arith
 of_value_within key x (Ok (name_steps.Whole w)) =
-    either (MapWithin 1) (is_mark x.means greater) (Ok (map_steps.Done (types.Map key w))) (if begins_map w x then more_map (maps.InnerKey 1 names.Start) else wrong x) tt
-    (either (MapWithin 1) (begins_map w x) (more_map (maps.InnerKey 1 names.Start)) (wrong x) (omega arith) tt)
+    either (MapWithin 1) (is_mark x.means greater) (Ok (map_steps.Done (types.Map key w))) (if begins_map w x then more_map (maps.InnerKey key 1 names.Start) else wrong x) tt
+    (either (MapWithin 1) (begins_map w x) (more_map (maps.InnerKey key 1 names.Start)) (wrong x) (omega arith) tt)
 of_value_within key x (Err e) = tt
 
-of_inner_value_within : (n : ℕ) (x : Lexeme) (r : Result NameStep ProtoFault) → MapWithin (n + 1) (of_inner_value n x r)
-of_inner_value_within n x (Ok (name_steps.More s)) = omega arith
-of_inner_value_within n x (Ok (name_steps.Whole w)) =
-    either (MapWithin (n + 1)) (is_mark x.means greater) (more_map (maps.Close n)) (if begins_map w x then more_map (maps.InnerKey (n + 1) names.Start) else wrong x) (omega arith)
-    (either (MapWithin (n + 1)) (begins_map w x) (more_map (maps.InnerKey (n + 1) names.Start)) (wrong x) (omega arith) tt)
-of_inner_value_within n x (Err e) = tt
+of_inner_value_within : (k0 : Word) (n : ℕ) (x : Lexeme) (r : Result NameStep ProtoFault) → MapWithin (n + 1) (of_inner_value k0 n x r)
+of_inner_value_within k0 n x (Ok (name_steps.More s)) = omega arith
+of_inner_value_within k0 n x (Ok (name_steps.Whole w)) =
+    either (MapWithin (n + 1)) (is_mark x.means greater) (more_map (maps.Close k0 n)) (if begins_map w x then more_map (maps.InnerKey k0 (n + 1) names.Start) else wrong x) (omega arith)
+    (either (MapWithin (n + 1)) (begins_map w x) (more_map (maps.InnerKey k0 (n + 1) names.Start)) (wrong x) (omega arith) tt)
+of_inner_value_within k0 n x (Err e) = tt
 
-closed_within : (n : ℕ) → MapWithin 1 (Ok (closed n))
-closed_within n = by (nat_le n 1)
+closed_within : (k0 : Word) (n : ℕ) → MapWithin 1 (Ok (closed k0 n))
+closed_within k0 n = by (nat_le n 1)
   where
-    by : (b : Bool) → MapWithin 1 (Ok (if b then map_steps.Done types.NestedMap else map_steps.More (maps.Close (n - 1))))
+    by : (b : Bool) → MapWithin 1 (Ok (if b then map_steps.Done (types.NestedMap k0) else map_steps.More (maps.Close k0 (n - 1))))
     by true = tt
     by false = omega arith
 
 map_within : (s : MapState) (x : Lexeme) → MapWithin (map_depth s + 1) (map_step s x)
 unfolding map_step
 map_within (maps.Key s) x = of_key_within (key_step s x)
-map_within (maps.InnerKey n s) x = of_inner_key_within n (key_step s x)
+map_within (maps.InnerKey k0 n s) x = of_inner_key_within k0 n (key_step s x)
 map_within (maps.Value key s) x = of_value_within key x (typed_step s x)
-map_within (maps.InnerValue n s) x = of_inner_value_within n x (typed_step s x)
-map_within (maps.Close n) x = either (MapWithin 1) (is_mark x.means greater) (Ok (closed n)) (wrong x) (closed_within n) tt
+map_within (maps.InnerValue k0 n s) x = of_inner_value_within k0 n x (typed_step s x)
+map_within (maps.Close k0 n) x = either (MapWithin 1) (is_mark x.means greater) (Ok (closed k0 n)) (wrong x) (closed_within k0 n) tt
 
 named_within : (label : FieldLabel) (kind : FieldType) (x : Lexeme) → FieldWithin 1 (named_step label kind x)
 named_within label kind x = named (FieldWithin 1) x (λ n. field_steps.More (fields.Named (head label kind (word_at n x.span)))) (λ n. omega arith) tt

@@ -111,88 +111,88 @@ pub in_key : (s t : NameState) (x : Lexeme) → TypedGoes s x t → MapGoes (map
 unfolding map_step
 in_key s t x h = ap (λ (r : Result NameStep ProtoFault). of_key (behind_key x r)) h
 
-pub in_inner_key : (d : ℕ) (s t : NameState) (x : Lexeme) → TypedGoes s x t
-    → MapGoes (maps.InnerKey d s) x (maps.InnerKey d t)
+pub in_inner_key : (k0 : Word) (d : ℕ) (s t : NameState) (x : Lexeme) → TypedGoes s x t
+    → MapGoes (maps.InnerKey k0 d s) x (maps.InnerKey k0 d t)
 unfolding map_step
-in_inner_key d s t x h = ap (λ (r : Result NameStep ProtoFault). of_inner_key d (behind_key x r)) h
+in_inner_key k0 d s t x h = ap (λ (r : Result NameStep ProtoFault). of_inner_key k0 d (behind_key x r)) h
 
 pub in_value : (k : Word) (s t : NameState) (x : Lexeme) → TypedGoes s x t → MapGoes (maps.Value k s) x (maps.Value k t)
 unfolding map_step
 in_value k s t x h = ap (of_value k x) h
 
-pub in_inner_value : (d : ℕ) (s t : NameState) (x : Lexeme) → TypedGoes s x t
-    → MapGoes (maps.InnerValue d s) x (maps.InnerValue d t)
+pub in_inner_value : (k0 : Word) (d : ℕ) (s t : NameState) (x : Lexeme) → TypedGoes s x t
+    → MapGoes (maps.InnerValue k0 d s) x (maps.InnerValue k0 d t)
 unfolding map_step
-in_inner_value d s t x h = ap (of_inner_value d x) h
+in_inner_value k0 d s t x h = ap (of_inner_value k0 d x) h
 
 pub key_comma : (k : Word) (x : Lexeme) → IsMark x comma
     → MapGoes (maps.Key (names.Part k)) x (maps.Value k names.Start)
 unfolding map_step
 key_comma k x h = ap (λ (r : Result NameStep ProtoFault). of_key (behind_key x r)) (typed_whole k x (rw h refl)) ∙ rw h refl
 
-pub inner_comma : (d : ℕ) (k : Word) (x : Lexeme) → IsMark x comma
-    → MapGoes (maps.InnerKey d (names.Part k)) x (maps.InnerValue d names.Start)
+pub inner_comma : (k0 : Word) (d : ℕ) (k : Word) (x : Lexeme) → IsMark x comma
+    → MapGoes (maps.InnerKey k0 d (names.Part k)) x (maps.InnerValue k0 d names.Start)
 unfolding map_step
-inner_comma d k x h = ap (λ (r : Result NameStep ProtoFault). of_inner_key d (behind_key x r)) (typed_whole k x (rw h refl)) ∙ rw h refl
+inner_comma k0 d k x h = ap (λ (r : Result NameStep ProtoFault). of_inner_key k0 d (behind_key x r)) (typed_whole k x (rw h refl)) ∙ rw h refl
 
 pub value_ends : (k w : Word) (x : Lexeme) → IsMark x greater → MapEnds (maps.Value k (names.Part w)) x (types.Map k w)
 unfolding map_step
 value_ends k w x h = ap (of_value k x) (typed_whole w x (rw h refl)) ∙ rw h refl
 
-pub inner_value_ends : (d : ℕ) (w : Word) (x : Lexeme) → IsMark x greater
-    → MapGoes (maps.InnerValue d (names.Part w)) x (maps.Close d)
+pub inner_value_ends : (k0 : Word) (d : ℕ) (w : Word) (x : Lexeme) → IsMark x greater
+    → MapGoes (maps.InnerValue k0 d (names.Part w)) x (maps.Close k0 d)
 unfolding map_step
-inner_value_ends d w x h = ap (of_inner_value d x) (typed_whole w x (rw h refl)) ∙ rw h refl
+inner_value_ends k0 d w x h = ap (of_inner_value k0 d x) (typed_whole w x (rw h refl)) ∙ rw h refl
 
 pub value_map : (k : Word) (s : Span) (x : Lexeme) → IsMark x less
-    → MapGoes (maps.Value k (names.Part (word_at (codes "map") s))) x (maps.InnerKey 1 names.Start)
+    → MapGoes (maps.Value k (names.Part (word_at (codes "map") s))) x (maps.InnerKey k 1 names.Start)
 unfolding map_step
 value_map k s x h = ap (of_value k x) (typed_whole (word_at (codes "map") s) x (rw h refl)) ∙ rw h refl
 
-pub inner_value_map : (d : ℕ) (s : Span) (x : Lexeme) → IsMark x less
-    → MapGoes (maps.InnerValue d (names.Part (word_at (codes "map") s))) x (maps.InnerKey (d + 1) names.Start)
+pub inner_value_map : (k0 : Word) (d : ℕ) (s : Span) (x : Lexeme) → IsMark x less
+    → MapGoes (maps.InnerValue k0 d (names.Part (word_at (codes "map") s))) x (maps.InnerKey k0 (d + 1) names.Start)
 unfolding map_step
-inner_value_map d s x h = ap (of_inner_value d x) (typed_whole (word_at (codes "map") s) x (rw h refl)) ∙ rw h refl
+inner_value_map k0 d s x h = ap (of_inner_value k0 d x) (typed_whole (word_at (codes "map") s) x (rw h refl)) ∙ rw h refl
 
-pub close_goes : (d : ℕ) (x : Lexeme) → IsMark x greater → MapGoes (maps.Close (suc (suc d))) x (maps.Close (suc d))
+pub close_goes : (k0 : Word) (d : ℕ) (x : Lexeme) → IsMark x greater → MapGoes (maps.Close k0 (suc (suc d))) x (maps.Close k0 (suc d))
 unfolding map_step
-close_goes d x h =
+close_goes k0 d x h =
     let l : nat_le (suc (suc d)) 1 ≡ false = lt-leb (suc (suc d)) 1 (omega arith) in
     let e : suc (suc d) - 1 ≡ suc d = omega arith in
     rw h (rw (l, e) refl)
 
-pub close_ends : (x : Lexeme) → IsMark x greater → MapEnds (maps.Close 1) x types.NestedMap
+pub close_ends : (k0 : Word) (x : Lexeme) → IsMark x greater → MapEnds (maps.Close k0 1) x (types.NestedMap k0)
 unfolding map_step
-close_ends x h = rw h refl
+close_ends k0 x h = rw h refl
 
 -- `map`, `<`, a key and a comma
-pub inner_key_reads : (d : ℕ) {ks : List Lexeme} {k : Word} → MapKey ks k
-    → Walks MapGoes (maps.InnerValue d names.Start) ks (maps.InnerValue (suc d) names.Start)
-inner_key_reads d (map_key x y z {ys = ys} {w = w} hx hy t g hz e) =
-    rw e (go x (y ∷ ys ++ z ∷ []) refl (in_inner_value d names.Start (names.Part (word_at (codes "map") x.span)) x (first_goes x (codes "map") hx (rw hx refl)))
-    (go y (ys ++ z ∷ []) refl (subst (λ (n : ℕ). MapGoes (maps.InnerValue d (names.Part (word_at (codes "map") x.span))) y (maps.InnerKey n names.Start)) (add-one d) (inner_value_map d x.span y hy))
-    (walks_on MapGoes (walks_in TypedGoes MapGoes (λ s. maps.InnerKey (suc d) s) (in_inner_key (suc d)) (typed_reads t g)) (go z [] refl (inner_comma (suc d) w z hz) (stay refl refl)))))
+pub inner_key_reads : (k0 : Word) (d : ℕ) {ks : List Lexeme} {k : Word} → MapKey ks k
+    → Walks MapGoes (maps.InnerValue k0 d names.Start) ks (maps.InnerValue k0 (suc d) names.Start)
+inner_key_reads k0 d (map_key x y z {ys = ys} {w = w} hx hy t g hz e) =
+    rw e (go x (y ∷ ys ++ z ∷ []) refl (in_inner_value k0 d names.Start (names.Part (word_at (codes "map") x.span)) x (first_goes x (codes "map") hx (rw hx refl)))
+    (go y (ys ++ z ∷ []) refl (subst (λ (n : ℕ). MapGoes (maps.InnerValue k0 d (names.Part (word_at (codes "map") x.span))) y (maps.InnerKey k0 n names.Start)) (add-one d) (inner_value_map k0 d x.span y hy))
+    (walks_on MapGoes (walks_in TypedGoes MapGoes (λ s. maps.InnerKey k0 (suc d) s) (in_inner_key k0 (suc d)) (typed_reads t g)) (go z [] refl (inner_comma k0 (suc d) w z hz) (stay refl refl)))))
 
 pub outer_key_reads : (k0 : Word) {ks : List Lexeme} {k : Word} → MapKey ks k
-    → Walks MapGoes (maps.Value k0 names.Start) ks (maps.InnerValue 1 names.Start)
+    → Walks MapGoes (maps.Value k0 names.Start) ks (maps.InnerValue k0 1 names.Start)
 outer_key_reads k0 (map_key x y z {ys = ys} {w = w} hx hy t g hz e) =
     rw e (go x (y ∷ ys ++ z ∷ []) refl (in_value k0 names.Start (names.Part (word_at (codes "map") x.span)) x (first_goes x (codes "map") hx (rw hx refl)))
     (go y (ys ++ z ∷ []) refl (value_map k0 x.span y hy)
-    (walks_on MapGoes (walks_in TypedGoes MapGoes (λ s. maps.InnerKey 1 s) (in_inner_key 1) (typed_reads t g)) (go z [] refl (inner_comma 1 w z hz) (stay refl refl)))))
+    (walks_on MapGoes (walks_in TypedGoes MapGoes (λ s. maps.InnerKey k0 1 s) (in_inner_key k0 1) (typed_reads t g)) (go z [] refl (inner_comma k0 1 w z hz) (stay refl refl)))))
 
-nested_reads : (d : ℕ) {ys : List Lexeme} → NestedMaps ys
-    → Walks MapGoes (maps.InnerValue d names.Start) ys (maps.Close (suc d))
-nested_reads d (innermost x {w = w} k t g h e) =
-    rw e (walks_on MapGoes (walks_on MapGoes (inner_key_reads d k) (walks_in TypedGoes MapGoes (λ s. maps.InnerValue (suc d) s) (in_inner_value (suc d)) (typed_reads t g))) (go x [] refl (inner_value_ends (suc d) w x h) (stay refl refl)))
-nested_reads d (around x k n h e) =
-    rw e (walks_on MapGoes (walks_on MapGoes (inner_key_reads d k) (nested_reads (suc d) n)) (go x [] refl (close_goes d x h) (stay refl refl)))
+nested_reads : (k0 : Word) (d : ℕ) {ys : List Lexeme} → NestedMaps ys
+    → Walks MapGoes (maps.InnerValue k0 d names.Start) ys (maps.Close k0 (suc d))
+nested_reads k0 d (innermost x {w = w} k t g h e) =
+    rw e (walks_on MapGoes (walks_on MapGoes (inner_key_reads k0 d k) (walks_in TypedGoes MapGoes (λ s. maps.InnerValue k0 (suc d) s) (in_inner_value k0 (suc d)) (typed_reads t g))) (go x [] refl (inner_value_ends k0 (suc d) w x h) (stay refl refl)))
+nested_reads k0 d (around x k n h e) =
+    rw e (walks_on MapGoes (walks_on MapGoes (inner_key_reads k0 d k) (nested_reads k0 (suc d) n)) (go x [] refl (close_goes k0 d x h) (stay refl refl)))
 
 outer_nested_reads : (k0 : Word) {ys : List Lexeme} → NestedMaps ys
-    → Walks MapGoes (maps.Value k0 names.Start) ys (maps.Close 1)
+    → Walks MapGoes (maps.Value k0 names.Start) ys (maps.Close k0 1)
 outer_nested_reads k0 (innermost x {w = w} k t g h e) =
-    rw e (walks_on MapGoes (walks_on MapGoes (outer_key_reads k0 k) (walks_in TypedGoes MapGoes (λ s. maps.InnerValue 1 s) (in_inner_value 1) (typed_reads t g))) (go x [] refl (inner_value_ends 1 w x h) (stay refl refl)))
+    rw e (walks_on MapGoes (walks_on MapGoes (outer_key_reads k0 k) (walks_in TypedGoes MapGoes (λ s. maps.InnerValue k0 1 s) (in_inner_value k0 1) (typed_reads t g))) (go x [] refl (inner_value_ends k0 1 w x h) (stay refl refl)))
 outer_nested_reads k0 (around x k n h e) =
-    rw e (walks_on MapGoes (walks_on MapGoes (outer_key_reads k0 k) (nested_reads 1 n)) (go x [] refl (close_goes 0 x h) (stay refl refl)))
+    rw e (walks_on MapGoes (walks_on MapGoes (outer_key_reads k0 k) (nested_reads k0 1 n)) (go x [] refl (close_goes k0 0 x h) (stay refl refl)))
 
 -- ---- fields
 
@@ -257,11 +257,11 @@ type_reads label (a_map x {k = k} {w = w} m t g h e) = (
   typed_ready label (types.Map k w),
 )
 type_reads label (map_of_maps x {k = k} m n h e) = (
-  fields.Typed label types.NestedMap,
+  fields.Typed label (types.NestedMap k),
   rw e (walks_on FieldGoes (walks_on FieldGoes (field_key_reads label m)
       (walks_in MapGoes FieldGoes (λ s. fields.Map label s) (in_map label) (outer_nested_reads k n)))
-      (go x [] refl (map_ends label (maps.Close 1) x types.NestedMap (close_ends x h)) (stay refl refl))),
-  typed_ready label types.NestedMap,
+      (go x [] refl (map_ends label (maps.Close k 1) x (types.NestedMap k) (close_ends k x h)) (stay refl refl))),
+  typed_ready label (types.NestedMap k),
 )
 
 pub in_tail : (h : Head) (n : Number) (s t : TailState) (x : Lexeme) → TailGoes s x t

@@ -194,11 +194,11 @@ map_walk s t xs w (ys, kind, k) = (xs ++ ys, kind, walk_takes MapGoes MapEnds ys
 map_on : (s t : MapState) (x : Lexeme) → MapGoes s x t → MapFinish t → MapFinish s
 map_on s t x h (ys, kind, k) = (x ∷ ys, kind, next x h k)
 
-close_finish : (d : ℕ) → MapFinish (maps.Close d)
+close_finish : (k0 : Word) (d : ℕ) → MapFinish (maps.Close k0 d)
 unfolding map_step
-close_finish zero = (a_mark greater ∷ [], types.NestedMap, last (a_mark greater) refl)
-close_finish (suc zero) = (a_mark greater ∷ [], types.NestedMap, last (a_mark greater) refl)
-close_finish (suc (suc n)) = map_on (maps.Close (suc (suc n))) (maps.Close (suc n)) (a_mark greater) (close_goes n (a_mark greater) refl) (close_finish (suc n))
+close_finish k0 zero = (a_mark greater ∷ [], types.NestedMap k0, last (a_mark greater) refl)
+close_finish k0 (suc zero) = (a_mark greater ∷ [], types.NestedMap k0, last (a_mark greater) refl)
+close_finish k0 (suc (suc n)) = map_on (maps.Close k0 (suc (suc n))) (maps.Close k0 (suc n)) (a_mark greater) (close_goes k0 n (a_mark greater) refl) (close_finish k0 (suc n))
 
 value_finish : (k : Word) (s : NameState) → MapFinish (maps.Value k s)
 value_finish k s = by (typed_finish s)
@@ -208,13 +208,13 @@ value_finish k s = by (typed_finish s)
         map_walk (maps.Value k s) (maps.Value k (names.Part w)) ys (walks_in TypedGoes MapGoes (λ s. maps.Value k s) (in_map_value k) t)
         (a_mark greater ∷ [], types.Map k w, last (a_mark greater) (map_value_ends k w (a_mark greater) refl))
 
-inner_value_finish : (d : ℕ) (s : NameState) → MapFinish (maps.InnerValue d s)
-inner_value_finish d s = by (typed_finish s)
+inner_value_finish : (k0 : Word) (d : ℕ) (s : NameState) → MapFinish (maps.InnerValue k0 d s)
+inner_value_finish k0 d s = by (typed_finish s)
   where
-    by : NameEnds TypedGoes s → MapFinish (maps.InnerValue d s)
+    by : NameEnds TypedGoes s → MapFinish (maps.InnerValue k0 d s)
     by (ys, w, t) =
-        map_walk (maps.InnerValue d s) (maps.InnerValue d (names.Part w)) ys (walks_in TypedGoes MapGoes (λ s. maps.InnerValue d s) (in_inner_value d) t)
-        (map_on (maps.InnerValue d (names.Part w)) (maps.Close d) (a_mark greater) (inner_value_ends d w (a_mark greater) refl) (close_finish d))
+        map_walk (maps.InnerValue k0 d s) (maps.InnerValue k0 d (names.Part w)) ys (walks_in TypedGoes MapGoes (λ s. maps.InnerValue k0 d s) (in_inner_value k0 d) t)
+        (map_on (maps.InnerValue k0 d (names.Part w)) (maps.Close k0 d) (a_mark greater) (inner_value_ends k0 d w (a_mark greater) refl) (close_finish k0 d))
 
 map_finish : (s : MapState) → MapFinish s
 map_finish (maps.Key s) = by (typed_finish s)
@@ -223,15 +223,15 @@ map_finish (maps.Key s) = by (typed_finish s)
     by (ys, w, t) =
         map_walk (maps.Key s) (maps.Key (names.Part w)) ys (walks_in TypedGoes MapGoes (λ s. maps.Key s) in_key t)
         (map_on (maps.Key (names.Part w)) (maps.Value w names.Start) (a_mark comma) (key_comma w (a_mark comma) refl) (value_finish w names.Start))
-map_finish (maps.InnerKey d s) = by (typed_finish s)
+map_finish (maps.InnerKey k0 d s) = by (typed_finish s)
   where
-    by : NameEnds TypedGoes s → MapFinish (maps.InnerKey d s)
+    by : NameEnds TypedGoes s → MapFinish (maps.InnerKey k0 d s)
     by (ys, w, t) =
-        map_walk (maps.InnerKey d s) (maps.InnerKey d (names.Part w)) ys (walks_in TypedGoes MapGoes (λ s. maps.InnerKey d s) (in_inner_key d) t)
-        (map_on (maps.InnerKey d (names.Part w)) (maps.InnerValue d names.Start) (a_mark comma) (inner_comma d w (a_mark comma) refl) (inner_value_finish d names.Start))
+        map_walk (maps.InnerKey k0 d s) (maps.InnerKey k0 d (names.Part w)) ys (walks_in TypedGoes MapGoes (λ s. maps.InnerKey k0 d s) (in_inner_key k0 d) t)
+        (map_on (maps.InnerKey k0 d (names.Part w)) (maps.InnerValue k0 d names.Start) (a_mark comma) (inner_comma k0 d w (a_mark comma) refl) (inner_value_finish k0 d names.Start))
 map_finish (maps.Value k s) = value_finish k s
-map_finish (maps.InnerValue d s) = inner_value_finish d s
-map_finish (maps.Close d) = close_finish d
+map_finish (maps.InnerValue k0 d s) = inner_value_finish k0 d s
+map_finish (maps.Close k0 d) = close_finish k0 d
 
 -- ---- fields
 

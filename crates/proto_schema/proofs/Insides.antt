@@ -84,7 +84,9 @@ module _ (size : ℕ) where
   kind_inside {ts = ts} (Grammar.a_map x {ks = ks} {ys = ys} m t g hx a) h =
       let (p, q) = inside_split (ks ++ ys) (x ∷ []) (inside_same ts (ks ++ ys ++ x ∷ []) a h) in
       let (u, v) = inside_split ks ys p in (key_inside m u, type_inside t v)
-  kind_inside (Grammar.map_of_maps x m n hx a) h = tt
+  kind_inside {ts = ts} (Grammar.map_of_maps x {ks = ks} {ys = ys} m n hx a) h =
+      let (p, q) = inside_split (ks ++ ys) (x ∷ []) (inside_same ts (ks ++ ys ++ x ∷ []) a h) in
+      let (u, v) = inside_split ks ys p in key_inside m u
 
   rpc_type_inside : {is : List Lexeme} {w : Word} → RpcType is w → Inside is → IsWordWithin size w
   rpc_type_inside (Grammar.stream_type x h) (a, k) = a

@@ -107,16 +107,16 @@ pub data KeyAt (s : NameState) (all : List Lexeme) (k : Word) (r : Option Word) 
 
 abbrev pub kind_of : Word → Option Word → FieldType
 kind_of k (Some w) = types.Map k w
-kind_of k None = types.NestedMap
+kind_of k None = types.NestedMap k
 
 -- this many maps are closed
 pub data Closings : ℕ → List Lexeme → Type 0 where
   none_left : Closings 0 []
   one_more : (x : Lexeme) {n : ℕ} {ys : List Lexeme} → IsMark x greater → Closings n ys → Closings (suc n) (x ∷ ys)
 
-pub data InnerAt (R : List Lexeme → Type 0) (d : ℕ) (all : List Lexeme) (kind : FieldType) : Type 0 where
-  inner_at : {bs cs : List Lexeme} → R bs → Closings d cs → all ≡ bs ++ cs → types.NestedMap ≡ kind
-      → InnerAt R d all kind
+pub data InnerAt (R : List Lexeme → Type 0) (k0 : Word) (d : ℕ) (all : List Lexeme) (kind : FieldType) : Type 0 where
+  inner_at : {bs cs : List Lexeme} → R bs → Closings d cs → all ≡ bs ++ cs → types.NestedMap k0 ≡ kind
+      → InnerAt R k0 d all kind
 
 abbrev SomeKey : NameState → List Lexeme → Type 0
 SomeKey s bs = (k : Word) × (r : Option Word) × KeyAt s bs k r
@@ -127,9 +127,9 @@ SomeValue s bs = (r : Option Word) × ValueAt s bs r
 abbrev pub MapRest : MapState → List Lexeme → FieldType → Type 0
 MapRest (maps.Key s) ys kind = (k : Word) × (r : Option Word) × KeyAt s ys k r × (kind_of k r ≡ kind)
 MapRest (maps.Value k s) ys kind = (r : Option Word) × ValueAt s ys r × (kind_of k r ≡ kind)
-MapRest (maps.InnerKey d s) ys kind = 0 < d → InnerAt (SomeKey s) d ys kind
-MapRest (maps.InnerValue d s) ys kind = 0 < d → InnerAt (SomeValue s) d ys kind
-MapRest (maps.Close d) ys kind = 0 < d → (Closings d ys) × (types.NestedMap ≡ kind)
+MapRest (maps.InnerKey k0 d s) ys kind = 0 < d → InnerAt (SomeKey s) k0 d ys kind
+MapRest (maps.InnerValue k0 d s) ys kind = 0 < d → InnerAt (SomeValue s) k0 d ys kind
+MapRest (maps.Close k0 d) ys kind = 0 < d → (Closings d ys) × (types.NestedMap k0 ≡ kind)
 
 abbrev pub MapBack : MapState → Lexeme → Result MapStep ProtoFault → Type 0
 MapBack s x (Ok (steps.More t)) = (ys : List Lexeme) (kind : FieldType) → MapRest t ys kind → MapRest s (x ∷ ys) kind
@@ -189,18 +189,18 @@ of_key_back s x (Ok (name_steps.More t)) b = λ ys kind q. (q.0, q.1, key_goes s
 of_key_back s x (Ok (name_steps.Whole w)) b = λ ys kind q. (w, q.0, key_at x [] b.0 b.1 q.1 refl, q.2)
 of_key_back s x (Err e) b = tt
 
-of_inner_key_back : (d : ℕ) (s : NameState) (x : Lexeme) (r : Result NameStep ProtoFault) → KeyBack s x r
-    → MapBack (maps.InnerKey d s) x (of_inner_key d r)
-of_inner_key_back d s x (Ok (name_steps.More t)) b = λ ys kind f p. by ys kind (f p)
+of_inner_key_back : (k0 : Word) (d : ℕ) (s : NameState) (x : Lexeme) (r : Result NameStep ProtoFault) → KeyBack s x r
+    → MapBack (maps.InnerKey k0 d s) x (of_inner_key k0 d r)
+of_inner_key_back k0 d s x (Ok (name_steps.More t)) b = λ ys kind f p. by ys kind (f p)
   where
-    by : (ys : List Lexeme) (kind : FieldType) → InnerAt (SomeKey t) d ys kind → InnerAt (SomeKey s) d (x ∷ ys) kind
+    by : (ys : List Lexeme) (kind : FieldType) → InnerAt (SomeKey t) k0 d ys kind → InnerAt (SomeKey s) k0 d (x ∷ ys) kind
     by ys kind (inner_at {bs = bs} (k, r, a) c e q) = inner_at {bs = x ∷ bs} (k, r, key_goes s t x b bs k r a) c (ap (λ (l : List Lexeme). x ∷ l) e) q
-of_inner_key_back d s x (Ok (name_steps.Whole w)) b = λ ys kind f p. by ys kind (f p)
+of_inner_key_back k0 d s x (Ok (name_steps.Whole w)) b = λ ys kind f p. by ys kind (f p)
   where
-    by : (ys : List Lexeme) (kind : FieldType) → InnerAt (SomeValue names.Start) d ys kind
-        → InnerAt (SomeKey s) d (x ∷ ys) kind
+    by : (ys : List Lexeme) (kind : FieldType) → InnerAt (SomeValue names.Start) k0 d ys kind
+        → InnerAt (SomeKey s) k0 d (x ∷ ys) kind
     by ys kind (inner_at {bs = bs} (r, v) c e q) = inner_at {bs = x ∷ bs} (w, r, key_at x [] b.0 b.1 v refl) c (ap (λ (l : List Lexeme). x ∷ l) e) q
-of_inner_key_back d s x (Err e) b = tt
+of_inner_key_back k0 d s x (Err e) b = tt
 
 -- ---- values
 
@@ -215,53 +215,53 @@ of_value_back : (k : Word) (s : NameState) (x : Lexeme) (r : Result NameStep Pro
     → MapBack (maps.Value k s) x (of_value k x r)
 of_value_back k s x (Ok (name_steps.More t)) b = λ ys kind q. (q.0, b ys q.0 q.1, q.2)
 of_value_back k s x (Ok (name_steps.Whole w)) b =
-    either_is (MapBack (maps.Value k s) x) (is_mark x.means greater) (Ok (steps.Done (types.Map k w))) (if begins_map w x then more_map (maps.InnerKey 1 names.Start) else wrong x)
+    either_is (MapBack (maps.Value k s) x) (is_mark x.means greater) (Ok (steps.Done (types.Map k w))) (if begins_map w x then more_map (maps.InnerKey k 1 names.Start) else wrong x)
     (λ h. (Some w, plain x [] {w = w} b.0 (mark_is x.means greater h) refl, refl))
-    (λ h. either_is (MapBack (maps.Value k s) x) (begins_map w x) (more_map (maps.InnerKey 1 names.Start)) (wrong x) (λ m. λ ys kind f. by (map_begins s w x b.1 m) ys kind (f (omega arith))) (λ m. tt))
+    (λ h. either_is (MapBack (maps.Value k s) x) (begins_map w x) (more_map (maps.InnerKey k 1 names.Start)) (wrong x) (λ m. λ ys kind f. by (map_begins s w x b.1 m) ys kind (f (omega arith))) (λ m. tt))
   where
     by : (IsPart s (codes "map")) × IsMark x less → (ys : List Lexeme) (kind : FieldType)
-        → InnerAt (SomeKey names.Start) 1 ys kind → (r : Option Word) × ValueAt s (x ∷ ys) r × (kind_of k r ≡ kind)
+        → InnerAt (SomeKey names.Start) k 1 ys kind → (r : Option Word) × ValueAt s (x ∷ ys) r × (kind_of k r ≡ kind)
     by m ys kind (inner_at {bs = bs} a (one_more z g none_left) e q) = (None, map_from x z bs m.0 m.1 (body_of bs a) g (ap (λ (l : List Lexeme). x ∷ l) e), q)
 of_value_back k s x (Err e) b = tt
 
-of_inner_value_back : (d : ℕ) (s : NameState) (x : Lexeme) (r : Result NameStep ProtoFault) → ValueBack s x r
-    → MapBack (maps.InnerValue d s) x (of_inner_value d x r)
-of_inner_value_back d s x (Ok (name_steps.More t)) b = λ ys kind f p. by ys kind (f p)
+of_inner_value_back : (k0 : Word) (d : ℕ) (s : NameState) (x : Lexeme) (r : Result NameStep ProtoFault) → ValueBack s x r
+    → MapBack (maps.InnerValue k0 d s) x (of_inner_value k0 d x r)
+of_inner_value_back k0 d s x (Ok (name_steps.More t)) b = λ ys kind f p. by ys kind (f p)
   where
-    by : (ys : List Lexeme) (kind : FieldType) → InnerAt (SomeValue t) d ys kind → InnerAt (SomeValue s) d (x ∷ ys) kind
+    by : (ys : List Lexeme) (kind : FieldType) → InnerAt (SomeValue t) k0 d ys kind → InnerAt (SomeValue s) k0 d (x ∷ ys) kind
     by ys kind (inner_at {bs = bs} (r, v) c e q) = inner_at {bs = x ∷ bs} (r, b bs r v) c (ap (λ (l : List Lexeme). x ∷ l) e) q
-of_inner_value_back d s x (Ok (name_steps.Whole w)) b =
-    either_is (MapBack (maps.InnerValue d s) x) (is_mark x.means greater) (more_map (maps.Close d)) (if begins_map w x then more_map (maps.InnerKey (d + 1) names.Start) else wrong x)
+of_inner_value_back k0 d s x (Ok (name_steps.Whole w)) b =
+    either_is (MapBack (maps.InnerValue k0 d s) x) (is_mark x.means greater) (more_map (maps.Close k0 d)) (if begins_map w x then more_map (maps.InnerKey k0 (d + 1) names.Start) else wrong x)
     (λ h. λ ys kind f p. ends_here (mark_is x.means greater h) ys kind (f p))
-    (λ h. either_is (MapBack (maps.InnerValue d s) x) (begins_map w x) (more_map (maps.InnerKey (d + 1) names.Start)) (wrong x)
-    (λ m. λ ys kind f p. goes_deeper (map_begins s w x b.1 m) ys kind (subst (λ (n : ℕ). InnerAt (SomeKey names.Start) n ys kind) (add-one d) (f (omega arith)))) (λ m. tt))
+    (λ h. either_is (MapBack (maps.InnerValue k0 d s) x) (begins_map w x) (more_map (maps.InnerKey k0 (d + 1) names.Start)) (wrong x)
+    (λ m. λ ys kind f p. goes_deeper (map_begins s w x b.1 m) ys kind (subst (λ (n : ℕ). InnerAt (SomeKey names.Start) k0 n ys kind) (add-one d) (f (omega arith)))) (λ m. tt))
   where
-    ends_here : IsMark x greater → (ys : List Lexeme) (kind : FieldType) → (Closings d ys) × (types.NestedMap ≡ kind)
-        → InnerAt (SomeValue s) d (x ∷ ys) kind
+    ends_here : IsMark x greater → (ys : List Lexeme) (kind : FieldType) → (Closings d ys) × (types.NestedMap k0 ≡ kind)
+        → InnerAt (SomeValue s) k0 d (x ∷ ys) kind
     ends_here g ys kind (c, q) = inner_at {bs = x ∷ []} (Some w, plain x [] {w = w} b.0 g refl) c refl q
 
     goes_deeper : (IsPart s (codes "map")) × IsMark x less → (ys : List Lexeme) (kind : FieldType)
-        → InnerAt (SomeKey names.Start) (suc d) ys kind → InnerAt (SomeValue s) d (x ∷ ys) kind
+        → InnerAt (SomeKey names.Start) k0 (suc d) ys kind → InnerAt (SomeValue s) k0 d (x ∷ ys) kind
     goes_deeper m ys kind (inner_at {bs = bs} a (one_more z {ys = cs} g c) e q) =
         inner_at {bs = x ∷ bs ++ z ∷ []} (None, map_from x z bs m.0 m.1 (body_of bs a) g refl) c (ap (λ (l : List Lexeme). x ∷ l) (e ∙ sym (append_assoc bs (z ∷ []) cs))) q
-of_inner_value_back d s x (Err e) b = tt
+of_inner_value_back k0 d s x (Err e) b = tt
 
-closed_back : (d : ℕ) (x : Lexeme) → IsMark x greater → MapBack (maps.Close d) x (Ok (closed d))
-closed_back d x g = by (nat_le d 1) refl
+closed_back : (k0 : Word) (d : ℕ) (x : Lexeme) → IsMark x greater → MapBack (maps.Close k0 d) x (Ok (closed k0 d))
+closed_back k0 d x g = by (nat_le d 1) refl
   where
     by : (b : Bool) → nat_le d 1 ≡ b
-        → MapBack (maps.Close d) x (Ok (if b then steps.Done types.NestedMap else steps.More (maps.Close (d - 1))))
+        → MapBack (maps.Close k0 d) x (Ok (if b then steps.Done (types.NestedMap k0) else steps.More (maps.Close k0 (d - 1))))
     by true h = λ p. let l : d ≤ 1 = leb-true d 1 h in let e : suc 0 ≡ d = omega arith in (subst (λ (n : ℕ). Closings n (x ∷ [])) e (one_more x g none_left), refl)
     by false h = λ ys kind f p.
         let l : 1 < d = leb-false d 1 h in
-        let r : (Closings (d - 1) ys) × (types.NestedMap ≡ kind) = f (omega arith) in
+        let r : (Closings (d - 1) ys) × (types.NestedMap k0 ≡ kind) = f (omega arith) in
         let e : suc (d - 1) ≡ d = omega arith in
         (subst (λ (n : ℕ). Closings n (x ∷ ys)) e (one_more x g r.0), r.1)
 
 pub map_back : (s : MapState) (x : Lexeme) → MapBack s x (map_step s x)
 unfolding map_step
 map_back (maps.Key s) x = of_key_back s x (key_step s x) (key_back s x)
-map_back (maps.InnerKey d s) x = of_inner_key_back d s x (key_step s x) (key_back s x)
+map_back (maps.InnerKey k0 d s) x = of_inner_key_back k0 d s x (key_step s x) (key_back s x)
 map_back (maps.Value k s) x = of_value_back k s x (typed_step s x) (typed_value s x)
-map_back (maps.InnerValue d s) x = of_inner_value_back d s x (typed_step s x) (typed_value s x)
-map_back (maps.Close d) x = either_is (MapBack (maps.Close d) x) (is_mark x.means greater) (Ok (closed d)) (wrong x) (λ h. closed_back d x (mark_is x.means greater h)) (λ h. tt)
+map_back (maps.InnerValue k0 d s) x = of_inner_value_back k0 d s x (typed_step s x) (typed_value s x)
+map_back (maps.Close k0 d) x = either_is (MapBack (maps.Close k0 d) x) (is_mark x.means greater) (Ok (closed k0 d)) (wrong x) (λ h. closed_back k0 d x (mark_is x.means greater h)) (λ h. tt)

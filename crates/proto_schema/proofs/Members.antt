@@ -1,14 +1,14 @@
 -- A field, a oneof, a value or an rpc that is declared behind all others keeps the order.
 use Rattle.std.proofs.Common.{◌≡◌, ◌⊎◌, inl, inr, ℕ, suc, ◌<◌, ◌≤◌, List, [], ◌∷◌, ◌++◌, length, refl, ap, subst, sym, ◌∙◌, arith}
 use Rattle.std.specs.Prelude.{Option, Some, slice_get}
-use Rattle.proto_file.specs.Order.{Declaration, field_decl, oneof_decl, value_decl, rpc_decl, Part, its_name, rank_of, IsOfField, field_type, map_key, map_value, field_name, field_number, IsOfValue, value_name, value_number, IsOfRpc, rpc_name, rpc_input, rpc_output}
+use Rattle.proto_file.specs.Order.{Declaration, field_decl, oneof_decl, value_decl, rpc_decl, Part, its_name, rank_of, IsOfField, field_type, map_key, map_value, outer_key, field_name, field_number, IsOfValue, value_name, value_number, IsOfRpc, rpc_name, rpc_input, rpc_output}
 use Rattle.proto_file.specs.declared.file.Span.{Span}
 use Rattle.proto_file.specs.declared.file.MessageDecl.{MessageDecl}
 use Rattle.proto_file.specs.declared.file.EnumDecl.{EnumDecl}
 use Rattle.proto_file.specs.declared.file.File.{File}
 use Rattle.proto_file.specs.declared.file.Word.{Word}
 use Rattle.proto_file.specs.declared.file.FieldType.{FieldType}
-use Rattle.proto_file.specs.declared.file.FieldType.TheVariants.{Named, Map}
+use Rattle.proto_file.specs.declared.file.FieldType.TheVariants.{Named, Map, NestedMap}
 use Rattle.proto_file.specs.declared.file.FieldDecl.{FieldDecl}
 use Rattle.proto_file.specs.declared.file.ValueDecl.{ValueDecl}
 use Rattle.proto_file.specs.declared.file.RpcDecl.{RpcDecl}
@@ -38,6 +38,9 @@ module _ (b g c : ℕ) (f : FieldDecl) (l : b ≤ g) (m : g ≤ c) (k : FieldWit
       → IsWithin b g key.span.start × IsWithin b g value.span.start × (key.span.start < value.span.start)
   of_map key value e = subst (λ (t : FieldType). TypesWithin b g t) e k.types
 
+  of_outer : (key : Word) → f.kind ≡ NestedMap key → IsWithin b g key.span.start
+  of_outer key e = subst (λ (t : FieldType). TypesWithin b g t) e k.types
+
   -- a type stands before the name
   type_before : (w : Word) (s : Span) → IsWithin b g w.span.start → s ≡ w.span → (b ≤ s.start) × (s.start < g)
   type_before w s i e = let q : s.start ≡ w.span.start = start_of s w.span e in (omega arith, omega arith)
@@ -46,10 +49,17 @@ module _ (b g c : ℕ) (f : FieldDecl) (l : b ≤ g) (m : g ≤ c) (k : FieldWit
   field_spans p s (field_type w e h) = let (x, y) = type_before w s (of_type w e) h in (x, omega arith)
   field_spans p s (map_key v w e h) = let (x, y) = type_before v s (of_map v w e).0 h in (x, omega arith)
   field_spans p s (map_value v w e h) = let (x, y) = type_before w s (of_map v w e).1 h in (x, omega arith)
+  field_spans p s (outer_key v e h) = let (x, y) = type_before v s (of_outer v e) h in (x, omega arith)
   field_spans p s (field_name h) =
       let q : s.start ≡ f.name.span.start = start_of s f.name.span h in let n = k.name in (omega arith, omega arith)
   field_spans p s (field_number h) =
       let q : s.start ≡ f.number.span.start = start_of s f.number.span h in let n = k.number in (omega arith, omega arith)
+
+  no_outer : (x y w : Word) → f.kind ≡ Map x y → f.kind ≡ NestedMap w → ⊥
+  no_outer x y w e d = let q : Map x y ≡ NestedMap w = sym e ∙ d in cc
+
+  not_named : (w x : Word) → f.kind ≡ Named w → f.kind ≡ NestedMap x → ⊥
+  not_named w x e d = let q : Named w ≡ NestedMap x = sym e ∙ d in cc
 
   one_field : (p : Part) (s t : Span) → IsOfField f s p → IsOfField f t p → s ≡ t
   one_field p s t (field_type w e h) (field_type v d u) =
@@ -58,6 +68,10 @@ module _ (b g c : ℕ) (f : FieldDecl) (l : b ≤ g) (m : g ≤ c) (k : FieldWit
       let q : Map k w ≡ Map i v = sym e ∙ d in let r : k ≡ i = (cc) in h ∙ (ap (λ (w : Word). w.span) r ∙ sym u)
   one_field p s t (map_value k w e h) (map_value i v d u) =
       let q : Map k w ≡ Map i v = sym e ∙ d in let r : w ≡ v = (cc) in h ∙ (ap (λ (w : Word). w.span) r ∙ sym u)
+  one_field p s t (outer_key v e h) (outer_key i d u) =
+      let q : NestedMap v ≡ NestedMap i = sym e ∙ d in let r : v ≡ i = (cc) in h ∙ (ap (λ (w : Word). w.span) r ∙ sym u)
+  one_field p s t (map_key v w e h) (outer_key i d u) = absurd (no_outer v w i e d)
+  one_field p s t (outer_key i d u) (map_key v w e h) = absurd (no_outer v w i e d)
   one_field p s t (field_name h) (field_name u) = h ∙ sym u
   one_field p s t (field_number h) (field_number u) = h ∙ sym u
 
@@ -75,6 +89,8 @@ module _ (b g c : ℕ) (f : FieldDecl) (l : b ≤ g) (m : g ≤ c) (k : FieldWit
   field_parts p q s t r h (field_type w e u) = absurd (omega arith)
   field_parts p q s t r (field_type v d h) (map_key x y e u) = absurd (no_map v x y d e)
   field_parts p q s t r h (map_key x y e u) = absurd (omega arith)
+  field_parts p q s t r (field_type v d h) (outer_key x e u) = absurd (not_named v x d e)
+  field_parts p q s t r h (outer_key x e u) = absurd (omega arith)
   field_parts p q s t r (field_type v d h) (map_value x y e u) = absurd (no_map v x y d e)
   field_parts p q s t r (map_key v w d h) (map_value x y e u) =
       let i : Map v w ≡ Map x y = sym d ∙ e in
@@ -83,14 +99,17 @@ module _ (b g c : ℕ) (f : FieldDecl) (l : b ≤ g) (m : g ≤ c) (k : FieldWit
       let a : s.start ≡ x.span.start = start_of s v.span h ∙ ap (λ (w : Word). w.span.start) j in
       let o : t.start ≡ y.span.start = start_of t y.span u in
       omega arith
+  field_parts p q s t r (outer_key v d h) (map_value x y e u) = absurd (no_outer x y v e d)
   field_parts p q s t r h (map_value x y e u) = absurd (omega arith)
   field_parts p q s t r (field_type v d h) (field_name u) = before_name s t (type_before v s (of_type v d) h) u
   field_parts p q s t r (map_key v w d h) (field_name u) = before_name s t (type_before v s (of_map v w d).0 h) u
   field_parts p q s t r (map_value v w d h) (field_name u) = before_name s t (type_before w s (of_map v w d).1 h) u
+  field_parts p q s t r (outer_key v d h) (field_name u) = before_name s t (type_before v s (of_outer v d) h) u
   field_parts p q s t r h (field_name u) = absurd (omega arith)
   field_parts p q s t r (field_type v d h) (field_number u) = before_number s t (type_before v s (of_type v d) h) u
   field_parts p q s t r (map_key v w d h) (field_number u) = before_number s t (type_before v s (of_map v w d).0 h) u
   field_parts p q s t r (map_value v w d h) (field_number u) = before_number s t (type_before w s (of_map v w d).1 h) u
+  field_parts p q s t r (outer_key v d h) (field_number u) = before_number s t (type_before v s (of_outer v d) h) u
   field_parts p q s t r (field_name h) (field_number u) =
       let a : s.start ≡ f.name.span.start = start_of s f.name.span h in
       let o : t.start ≡ f.number.span.start = start_of t f.number.span u in

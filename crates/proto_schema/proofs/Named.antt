@@ -257,42 +257,42 @@ rpc_stream {d = d} {ys = ys} x y zs b h t = by (rpc_at b)
 pub data MapAt : MapState → Type 0 where
   at_key : MapAt (maps.Key names.Start)
   at_value : (k : Word) → MapAt (maps.Value k names.Start)
-  at_inner_key : (d : ℕ) → MapAt (maps.InnerKey d names.Start)
-  at_inner_value : (d : ℕ) → MapAt (maps.InnerValue d names.Start)
+  at_inner_key : (k0 : Word) (d : ℕ) → MapAt (maps.InnerKey k0 d names.Start)
+  at_inner_value : (k0 : Word) (d : ℕ) → MapAt (maps.InnerValue k0 d names.Start)
 
 map_group : {s : MapState} (x : Lexeme) → MapAt s → IsWord x (codes "group")
     → map_step s x ≡ Err (fault_at reasons.Group x.span)
 unfolding map_step
 map_group x at_key h = rw h refl
 map_group x (at_value k) h = rw h refl
-map_group x (at_inner_key d) h = rw h refl
-map_group x (at_inner_value d) h = rw h refl
+map_group x (at_inner_key k0 d) h = rw h refl
+map_group x (at_inner_value k0 d) h = rw h refl
 
 abbrev PartFrom : MapState → List Lexeme → Type 0
 PartFrom s ms = (t : MapState) × Walks MapGoes s ms t × MapAt t
 
-inner_part : (d : ℕ) {ms : List Lexeme} → BeforeMapPart ms → PartFrom (maps.InnerValue d names.Start) ms
-inner_part d (Faults.key x y hx hy) = (
-  maps.InnerKey (d + 1) names.Start,
-  go x (y ∷ []) refl (in_inner_value d names.Start (names.Part (word_at (codes "map") x.span)) x (first_goes x (codes "map") hx (rw hx refl)))
-      (go y [] refl (inner_value_map d x.span y hy) (stay refl refl)),
-  at_inner_key (d + 1),
+inner_part : (k0 : Word) (d : ℕ) {ms : List Lexeme} → BeforeMapPart ms → PartFrom (maps.InnerValue k0 d names.Start) ms
+inner_part k0 d (Faults.key x y hx hy) = (
+  maps.InnerKey k0 (d + 1) names.Start,
+  go x (y ∷ []) refl (in_inner_value k0 d names.Start (names.Part (word_at (codes "map") x.span)) x (first_goes x (codes "map") hx (rw hx refl)))
+      (go y [] refl (inner_value_map k0 d x.span y hy) (stay refl refl)),
+  at_inner_key k0 (d + 1),
 )
-inner_part d (Faults.value k) = (maps.InnerValue (suc d) names.Start, inner_key_reads d k, at_inner_value (suc d))
-inner_part d (Faults.inner {ks = ks} {ys = ys} k b e) =
-    let r : PartFrom (maps.InnerValue (suc d) names.Start) ys = inner_part (suc d) b in
-    (r.0, rw e (walks_on MapGoes (inner_key_reads d k) r.1), r.2)
+inner_part k0 d (Faults.value k) = (maps.InnerValue k0 (suc d) names.Start, inner_key_reads k0 d k, at_inner_value k0 (suc d))
+inner_part k0 d (Faults.inner {ks = ks} {ys = ys} k b e) =
+    let r : PartFrom (maps.InnerValue k0 (suc d) names.Start) ys = inner_part k0 (suc d) b in
+    (r.0, rw e (walks_on MapGoes (inner_key_reads k0 d k) r.1), r.2)
 
 value_part : (k0 : Word) {ms : List Lexeme} → BeforeMapPart ms → PartFrom (maps.Value k0 names.Start) ms
 value_part k0 (Faults.key x y hx hy) = (
-  maps.InnerKey 1 names.Start,
+  maps.InnerKey k0 1 names.Start,
   go x (y ∷ []) refl (in_value k0 names.Start (names.Part (word_at (codes "map") x.span)) x (first_goes x (codes "map") hx (rw hx refl)))
       (go y [] refl (value_map k0 x.span y hy) (stay refl refl)),
-  at_inner_key 1,
+  at_inner_key k0 1,
 )
-value_part k0 (Faults.value k) = (maps.InnerValue 1 names.Start, outer_key_reads k0 k, at_inner_value 1)
+value_part k0 (Faults.value k) = (maps.InnerValue k0 1 names.Start, outer_key_reads k0 k, at_inner_value k0 1)
 value_part k0 (Faults.inner {ks = ks} {ys = ys} k b e) =
-    let r : PartFrom (maps.InnerValue 1 names.Start) ys = inner_part 1 b in
+    let r : PartFrom (maps.InnerValue k0 1 names.Start) ys = inner_part k0 1 b in
     (r.0, rw e (walks_on MapGoes (outer_key_reads k0 k) r.1), r.2)
 
 -- `map`, `<`, and a part of the map

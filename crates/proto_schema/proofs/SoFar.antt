@@ -329,9 +329,9 @@ pub data InnerKeySoFar (s : NameState) (all : List Lexeme) : Type 0 where
 abbrev pub MapSoFar : MapState → List Lexeme → Type 0
 MapSoFar (maps.Key s) ms = KeySoFar s ms
 MapSoFar (maps.Value k s) ms = ValueSoFar s ms
-MapSoFar (maps.InnerKey d s) ms = InnerKeySoFar s ms
-MapSoFar (maps.InnerValue d s) ms = ValueSoFar s ms
-MapSoFar (maps.Close d) ms = Unit {0}
+MapSoFar (maps.InnerKey k0 d s) ms = InnerKeySoFar s ms
+MapSoFar (maps.InnerValue k0 d s) ms = ValueSoFar s ms
+MapSoFar (maps.Close k0 d) ms = Unit {0}
 
 keys_on : {ks bs : List Lexeme} → Keys ks → BeforeMapPart bs → BeforeMapPart (ks ++ bs)
 keys_on (one_key k) b = Faults.inner k b refl
@@ -387,9 +387,9 @@ of_key_on ms x (Err e) k = fault k
     fault key_unlike = map_unlike
     fault (key_group m l a hm hl h) = map_group (subst (λ (q : List Lexeme). BeforeMapPart q) (sym a) (Faults.key m l hm hl)) h
 
-of_inner_key_on : (d : ℕ) (ks js ms : List Lexeme) (x : Lexeme) → Keys ks → ms ≡ ks ++ js
-    → (r : Result NameStep ProtoFault) → KeyOn js x r → MapOn ms x (of_inner_key d r)
-of_inner_key_on d ks js ms x q a r k = by r k
+of_inner_key_on : (k0 : Word) (d : ℕ) (ks js ms : List Lexeme) (x : Lexeme) → Keys ks → ms ≡ ks ++ js
+    → (r : Result NameStep ProtoFault) → KeyOn js x r → MapOn ms x (of_inner_key k0 d r)
+of_inner_key_on k0 d ks js ms x q a r k = by r k
   where
     longer : ms ++ x ∷ [] ≡ ks ++ (js ++ x ∷ [])
     longer = ap (λ (l : List Lexeme). l ++ x ∷ []) a ∙ append_assoc ks js (x ∷ [])
@@ -399,7 +399,7 @@ of_inner_key_on d ks js ms x q a r k = by r k
     fault (key_group m l b hm hl h) =
         map_group (subst (λ (l : List Lexeme). BeforeMapPart l) (sym (a ∙ ap (λ (l : List Lexeme). ks ++ l) b)) (keys_on q (Faults.key m l hm hl))) h
 
-    by : (r : Result NameStep ProtoFault) → KeyOn js x r → MapOn ms x (of_inner_key d r)
+    by : (r : Result NameStep ProtoFault) → KeyOn js x r → MapOn ms x (of_inner_key k0 d r)
     by (Ok (name_steps.More t)) k = inner_key_so_far q k longer
     by (Ok (name_steps.Whole w)) k = value_so_far [] (more_keys q k longer) refl (sym (append-nil (ms ++ x ∷ [])))
     by (Err e) k = fault k
@@ -432,36 +432,36 @@ of_value_on k s ms x (value_so_far {ks = ks} ns q o a) = by (typed_step s x) (on
     by : (r : Result NameStep ProtoFault) → OnlyOn (codes "map") ns x r → ValueBack s x r → MapOn ms x (of_value k x r)
     by (Ok (name_steps.More t)) p b = value_so_far (ns ++ x ∷ []) q p (ap (λ (l : List Lexeme). l ++ x ∷ []) a ∙ append_assoc ks ns (x ∷ []))
     by (Ok (name_steps.Whole w)) p b =
-        either_is (MapOn ms x) (is_mark x.means greater) (Ok (map_steps.Done (types.Map k w))) (if begins_map w x then more_map (maps.InnerKey 1 names.Start) else wrong x) (λ h. tt)
-        (λ h. either_is (MapOn ms x) (begins_map w x) (more_map (maps.InnerKey 1 names.Start)) (wrong x) (λ m. deeper s w ks ns ms x q o a b.1 m) (λ m. map_unlike))
+        either_is (MapOn ms x) (is_mark x.means greater) (Ok (map_steps.Done (types.Map k w))) (if begins_map w x then more_map (maps.InnerKey k 1 names.Start) else wrong x) (λ h. tt)
+        (λ h. either_is (MapOn ms x) (begins_map w x) (more_map (maps.InnerKey k 1 names.Start)) (wrong x) (λ m. deeper s w ks ns ms x q o a b.1 m) (λ m. map_unlike))
     by (Err e) p b = value_fault ks ns ms x q a p
 
-of_inner_value_on : (d : ℕ) (s : NameState) (ms : List Lexeme) (x : Lexeme) → ValueSoFar s ms
-    → MapOn ms x (of_inner_value d x (typed_step s x))
-of_inner_value_on d s ms x (value_so_far {ks = ks} ns q o a) = by (typed_step s x) (only_on (codes "map") refl s ns x o) (typed_value s x)
+of_inner_value_on : (k0 : Word) (d : ℕ) (s : NameState) (ms : List Lexeme) (x : Lexeme) → ValueSoFar s ms
+    → MapOn ms x (of_inner_value k0 d x (typed_step s x))
+of_inner_value_on k0 d s ms x (value_so_far {ks = ks} ns q o a) = by (typed_step s x) (only_on (codes "map") refl s ns x o) (typed_value s x)
   where
     by : (r : Result NameStep ProtoFault) → OnlyOn (codes "map") ns x r → ValueBack s x r
-        → MapOn ms x (of_inner_value d x r)
+        → MapOn ms x (of_inner_value k0 d x r)
     by (Ok (name_steps.More t)) p b = value_so_far (ns ++ x ∷ []) q p (ap (λ (l : List Lexeme). l ++ x ∷ []) a ∙ append_assoc ks ns (x ∷ []))
     by (Ok (name_steps.Whole w)) p b =
-        either_is (MapOn ms x) (is_mark x.means greater) (more_map (maps.Close d)) (if begins_map w x then more_map (maps.InnerKey (d + 1) names.Start) else wrong x) (λ h. tt)
-        (λ h. either_is (MapOn ms x) (begins_map w x) (more_map (maps.InnerKey (d + 1) names.Start)) (wrong x) (λ m. deeper s w ks ns ms x q o a b.1 m) (λ m. map_unlike))
+        either_is (MapOn ms x) (is_mark x.means greater) (more_map (maps.Close k0 d)) (if begins_map w x then more_map (maps.InnerKey k0 (d + 1) names.Start) else wrong x) (λ h. tt)
+        (λ h. either_is (MapOn ms x) (begins_map w x) (more_map (maps.InnerKey k0 (d + 1) names.Start)) (wrong x) (λ m. deeper s w ks ns ms x q o a b.1 m) (λ m. map_unlike))
     by (Err e) p b = value_fault ks ns ms x q a p
 
-closed_on : (d : ℕ) (ms : List Lexeme) (x : Lexeme) → MapOn ms x (Ok (closed d))
-closed_on d ms x = by (nat_le d 1)
+closed_on : (k0 : Word) (d : ℕ) (ms : List Lexeme) (x : Lexeme) → MapOn ms x (Ok (closed k0 d))
+closed_on k0 d ms x = by (nat_le d 1)
   where
-    by : (b : Bool) → MapOn ms x (Ok (if b then map_steps.Done types.NestedMap else map_steps.More (maps.Close (d - 1))))
+    by : (b : Bool) → MapOn ms x (Ok (if b then map_steps.Done (types.NestedMap k0) else map_steps.More (maps.Close k0 (d - 1))))
     by true = tt
     by false = tt
 
 map_on : (s : MapState) (ms : List Lexeme) (x : Lexeme) → MapSoFar s ms → MapOn ms x (map_step s x)
 unfolding map_step
 map_on (maps.Key s) ms x k = of_key_on ms x (key_step s x) (key_on s ms x k)
-map_on (maps.InnerKey d s) ms x (inner_key_so_far {ks = ks} {js = js} q k a) = of_inner_key_on d ks js ms x q a (key_step s x) (key_on s js x k)
+map_on (maps.InnerKey k0 d s) ms x (inner_key_so_far {ks = ks} {js = js} q k a) = of_inner_key_on k0 d ks js ms x q a (key_step s x) (key_on s js x k)
 map_on (maps.Value k s) ms x v = of_value_on k s ms x v
-map_on (maps.InnerValue d s) ms x v = of_inner_value_on d s ms x v
-map_on (maps.Close d) ms x v = either_is (MapOn ms x) (is_mark x.means greater) (Ok (closed d)) (wrong x) (λ h. closed_on d ms x) (λ h. map_unlike)
+map_on (maps.InnerValue k0 d s) ms x v = of_inner_value_on k0 d s ms x v
+map_on (maps.Close k0 d) ms x v = either_is (MapOn ms x) (is_mark x.means greater) (Ok (closed k0 d)) (wrong x) (λ h. closed_on k0 d ms x) (λ h. map_unlike)
 
 -- ---- fields
 

@@ -71,7 +71,7 @@ abbrev pub TypesWithin : ℕ → ℕ → FieldType → Type 0
 TypesWithin b e (Named w) = IsWithin b e w.span.start
 TypesWithin b e (Map key value) =
     IsWithin b e key.span.start × IsWithin b e value.span.start × (key.span.start < value.span.start)
-TypesWithin b e NestedMap = Unit {0}
+TypesWithin b e (NestedMap key) = IsWithin b e key.span.start
 
 pub types_along : (b e : ℕ) {words : List (List ℕ)} {ts : List Lexeme} {kind : FieldType} → FieldTypeOf words ts kind
     → Along b ts e → HasTypeNames kind × TypesWithin b e kind
@@ -87,7 +87,13 @@ types_along b e {ts = ts} (Grammar.a_map x {ks = ks} {ys = ys} {k = k} {w = w} m
     let before : k.span.start < c = key.within.before in
     let behind : c ≤ w.span.start = value.within.behind in
     ((key.formed, value.formed), (widen b b c e k.span.start (omega arith) (omega arith) key.within, widen b c d e w.span.start o l value.within, omega arith))
-types_along b e (Grammar.map_of_maps x m n hx a) h = (tt, tt)
+types_along b e {ts = ts} (Grammar.map_of_maps x {ks = ks} {ys = ys} {k = k} m n hx a) h =
+    let (d, q, s) = along_split b (ks ++ ys) (x ∷ []) e (along_same b e ts (ks ++ ys ++ x ∷ []) a h) in
+    let (c, p, r) = along_split b ks ys d q in
+    let key : NameWithin HasTypeName b c k = key_along b c m p in
+    let l : d ≤ e = along_ends d (x ∷ []) e s in
+    let n : c ≤ d = along_ends c ys d r in
+    (key.formed, widen b b c e k.span.start (omega arith) (omega arith) key.within)
 
 pub rpc_type_along : (b e : ℕ) {is : List Lexeme} {w : Word} → RpcType is w → Along b is e → NameWithin HasTypeName b e w
 rpc_type_along b e (Grammar.stream_type x h) k = record { formed = relative refl; within = first_within b x [] e k }

@@ -122,11 +122,11 @@ of_key_end p (Ok (name_steps.More s)) h = absurd h
 of_key_end p (Ok (name_steps.Whole w)) h = tt
 of_key_end p (Err e) h = tt
 
-of_inner_key_end : (p : Span) (depth : ℕ) (r : Result NameStep ProtoFault) → NameStops r
-    → Stops (of_inner_key depth (behind_key (at_end p) r))
-of_inner_key_end p depth (Ok (name_steps.More s)) h = absurd h
-of_inner_key_end p depth (Ok (name_steps.Whole w)) h = tt
-of_inner_key_end p depth (Err e) h = tt
+of_inner_key_end : (p : Span) (k0 : Word) (depth : ℕ) (r : Result NameStep ProtoFault) → NameStops r
+    → Stops (of_inner_key k0 depth (behind_key (at_end p) r))
+of_inner_key_end p k0 depth (Ok (name_steps.More s)) h = absurd h
+of_inner_key_end p k0 depth (Ok (name_steps.Whole w)) h = tt
+of_inner_key_end p k0 depth (Err e) h = tt
 
 of_value_end : (p : Span) (key : Word) (r : Result NameStep ProtoFault) → NameStops r
     → Stops (of_value key (at_end p) r)
@@ -134,19 +134,19 @@ of_value_end p key (Ok (name_steps.More s)) h = absurd h
 of_value_end p key (Ok (name_steps.Whole w)) h = tt
 of_value_end p key (Err e) h = tt
 
-of_inner_value_end : (p : Span) (depth : ℕ) (r : Result NameStep ProtoFault) → NameStops r
-    → Stops (of_inner_value depth (at_end p) r)
-of_inner_value_end p depth (Ok (name_steps.More s)) h = absurd h
-of_inner_value_end p depth (Ok (name_steps.Whole w)) h = tt
-of_inner_value_end p depth (Err e) h = tt
+of_inner_value_end : (p : Span) (k0 : Word) (depth : ℕ) (r : Result NameStep ProtoFault) → NameStops r
+    → Stops (of_inner_value k0 depth (at_end p) r)
+of_inner_value_end p k0 depth (Ok (name_steps.More s)) h = absurd h
+of_inner_value_end p k0 depth (Ok (name_steps.Whole w)) h = tt
+of_inner_value_end p k0 depth (Err e) h = tt
 
 map_end : (p : Span) (s : MapState) → Stops (map_step s (at_end p))
 unfolding map_step
 map_end p (maps.Key s) = of_key_end p (typed_step s (at_end p)) (name_end p s)
-map_end p (maps.InnerKey depth s) = of_inner_key_end p depth (typed_step s (at_end p)) (name_end p s)
+map_end p (maps.InnerKey k0 depth s) = of_inner_key_end p k0 depth (typed_step s (at_end p)) (name_end p s)
 map_end p (maps.Value key s) = of_value_end p key (typed_step s (at_end p)) (name_end p s)
-map_end p (maps.InnerValue depth s) = of_inner_value_end p depth (typed_step s (at_end p)) (name_end p s)
-map_end p (maps.Close depth) = tt
+map_end p (maps.InnerValue k0 depth s) = of_inner_value_end p k0 depth (typed_step s (at_end p)) (name_end p s)
+map_end p (maps.Close k0 depth) = tt
 
 of_type_end : (p : Span) (label : FieldLabel) (r : Result NameStep ProtoFault) → NameStops r
     → Stops (of_type label (at_end p) r)
@@ -325,11 +325,11 @@ of_key_none p (Ok (name_steps.More s)) h = absurd h
 of_key_none p (Ok (name_steps.Whole w)) h = tt
 of_key_none p (Err e) h = tt
 
-of_inner_key_none : (p : Span) (depth : ℕ) (r : Result NameStep ProtoFault) → NameStops r
-    → Stops (of_inner_key depth (behind_key (at_none p) r))
-of_inner_key_none p depth (Ok (name_steps.More s)) h = absurd h
-of_inner_key_none p depth (Ok (name_steps.Whole w)) h = tt
-of_inner_key_none p depth (Err e) h = tt
+of_inner_key_none : (p : Span) (k0 : Word) (depth : ℕ) (r : Result NameStep ProtoFault) → NameStops r
+    → Stops (of_inner_key k0 depth (behind_key (at_none p) r))
+of_inner_key_none p k0 depth (Ok (name_steps.More s)) h = absurd h
+of_inner_key_none p k0 depth (Ok (name_steps.Whole w)) h = tt
+of_inner_key_none p k0 depth (Err e) h = tt
 
 of_value_none : (p : Span) (key : Word) (r : Result NameStep ProtoFault) → NameStops r
     → Stops (of_value key (at_none p) r)
@@ -337,19 +337,19 @@ of_value_none p key (Ok (name_steps.More s)) h = absurd h
 of_value_none p key (Ok (name_steps.Whole w)) h = tt
 of_value_none p key (Err e) h = tt
 
-of_inner_value_none : (p : Span) (depth : ℕ) (r : Result NameStep ProtoFault) → NameStops r
-    → Stops (of_inner_value depth (at_none p) r)
-of_inner_value_none p depth (Ok (name_steps.More s)) h = absurd h
-of_inner_value_none p depth (Ok (name_steps.Whole w)) h = tt
-of_inner_value_none p depth (Err e) h = tt
+of_inner_value_none : (p : Span) (k0 : Word) (depth : ℕ) (r : Result NameStep ProtoFault) → NameStops r
+    → Stops (of_inner_value k0 depth (at_none p) r)
+of_inner_value_none p k0 depth (Ok (name_steps.More s)) h = absurd h
+of_inner_value_none p k0 depth (Ok (name_steps.Whole w)) h = tt
+of_inner_value_none p k0 depth (Err e) h = tt
 
 map_none : (p : Span) (s : MapState) → Stops (map_step s (at_none p))
 unfolding map_step
 map_none p (maps.Key s) = of_key_none p (typed_step s (at_none p)) (name_none p s)
-map_none p (maps.InnerKey depth s) = of_inner_key_none p depth (typed_step s (at_none p)) (name_none p s)
+map_none p (maps.InnerKey k0 depth s) = of_inner_key_none p k0 depth (typed_step s (at_none p)) (name_none p s)
 map_none p (maps.Value key s) = of_value_none p key (typed_step s (at_none p)) (name_none p s)
-map_none p (maps.InnerValue depth s) = of_inner_value_none p depth (typed_step s (at_none p)) (name_none p s)
-map_none p (maps.Close depth) = tt
+map_none p (maps.InnerValue k0 depth s) = of_inner_value_none p k0 depth (typed_step s (at_none p)) (name_none p s)
+map_none p (maps.Close k0 depth) = tt
 
 of_type_none : (p : Span) (label : FieldLabel) (r : Result NameStep ProtoFault) → NameStops r
     → Stops (of_type label (at_none p) r)

@@ -68,7 +68,7 @@ pub data FieldTypeOf (words : List (List ℕ)) : List Lexeme → FieldType → T
       → begins_with group_word ys ≡ false → IsMark x greater → all ≡ ks ++ ys ++ x ∷ []
       → FieldTypeOf words all (Map k w)
   map_of_maps : (x : Lexeme) {ks ys all : List Lexeme} {k : Word} → MapKey ks k → NestedMaps ys → IsMark x greater
-      → all ≡ ks ++ ys ++ x ∷ [] → FieldTypeOf words all NestedMap
+      → all ≡ ks ++ ys ++ x ∷ [] → FieldTypeOf words all (NestedMap k)
 
 -- the type of an rpc; behind `stream` nothing stands
 pub data RpcType : List Lexeme → Word → Type 0 where

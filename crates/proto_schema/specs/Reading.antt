@@ -259,41 +259,42 @@ of_key (Ok (name_steps.More s)) = more_map (maps.Key s)
 of_key (Ok (name_steps.Whole key)) = more_map (maps.Value key names.Start)
 of_key (Err e) = Err e
 
-abbrev pub of_inner_key : ℕ → Result NameStep ProtoFault → Result MapStep ProtoFault
-of_inner_key depth (Ok (name_steps.More s)) = more_map (maps.InnerKey depth s)
-of_inner_key depth (Ok (name_steps.Whole key)) = more_map (maps.InnerValue depth names.Start)
-of_inner_key depth (Err e) = Err e
+abbrev pub of_inner_key : Word → ℕ → Result NameStep ProtoFault → Result MapStep ProtoFault
+of_inner_key outer depth (Ok (name_steps.More s)) = more_map (maps.InnerKey outer depth s)
+of_inner_key outer depth (Ok (name_steps.Whole key)) = more_map (maps.InnerValue outer depth names.Start)
+of_inner_key outer depth (Err e) = Err e
 
 abbrev pub of_value : Word → Lexeme → Result NameStep ProtoFault → Result MapStep ProtoFault
 of_value key x (Ok (name_steps.More s)) = more_map (maps.Value key s)
 of_value key x (Ok (name_steps.Whole w)) =
     if is_mark x.means greater then Ok (map_steps.Done (types.Map key w))
-    else if begins_map w x then more_map (maps.InnerKey 1 names.Start)
+    else if begins_map w x then more_map (maps.InnerKey key 1 names.Start)
     else wrong x
 of_value key x (Err e) = Err e
 
-abbrev pub of_inner_value : ℕ → Lexeme → Result NameStep ProtoFault → Result MapStep ProtoFault
-of_inner_value depth x (Ok (name_steps.More s)) = more_map (maps.InnerValue depth s)
-of_inner_value depth x (Ok (name_steps.Whole w)) =
-    if is_mark x.means greater then more_map (maps.Close depth)
-    else if begins_map w x then more_map (maps.InnerKey (depth + 1) names.Start)
+abbrev pub of_inner_value : Word → ℕ → Lexeme → Result NameStep ProtoFault → Result MapStep ProtoFault
+of_inner_value outer depth x (Ok (name_steps.More s)) = more_map (maps.InnerValue outer depth s)
+of_inner_value outer depth x (Ok (name_steps.Whole w)) =
+    if is_mark x.means greater then more_map (maps.Close outer depth)
+    else if begins_map w x then more_map (maps.InnerKey outer (depth + 1) names.Start)
     else wrong x
-of_inner_value depth x (Err e) = Err e
+of_inner_value outer depth x (Err e) = Err e
 
-abbrev pub closed : ℕ → MapStep
-closed depth = if nat_le depth 1 then map_steps.Done types.NestedMap else map_steps.More (maps.Close (depth - 1))
+abbrev pub closed : Word → ℕ → MapStep
+closed outer depth =
+    if nat_le depth 1 then map_steps.Done (types.NestedMap outer) else map_steps.More (maps.Close outer (depth - 1))
 
 unfoldable pub map_step : MapState → Lexeme → Result MapStep ProtoFault
 map_step (maps.Key s) x = of_key (key_step s x)
-map_step (maps.InnerKey depth s) x = of_inner_key depth (key_step s x)
+map_step (maps.InnerKey outer depth s) x = of_inner_key outer depth (key_step s x)
 map_step (maps.Value key s) x = of_value key x (typed_step s x)
-map_step (maps.InnerValue depth s) x = of_inner_value depth x (typed_step s x)
-map_step (maps.Close depth) x = if is_mark x.means greater then Ok (closed depth) else wrong x
+map_step (maps.InnerValue outer depth s) x = of_inner_value outer depth x (typed_step s x)
+map_step (maps.Close outer depth) x = if is_mark x.means greater then Ok (closed outer depth) else wrong x
 
 -- how many maps are open in the outermost
 abbrev pub map_depth : MapState → ℕ
-map_depth (maps.InnerKey depth s) = depth
-map_depth (maps.InnerValue depth s) = depth
+map_depth (maps.InnerKey outer depth s) = depth
+map_depth (maps.InnerValue outer depth s) = depth
 map_depth s = 0
 
 abbrev pub head : FieldLabel → FieldType → Word → Head

@@ -56,10 +56,14 @@ impl Drop for Draft {
     }
 }
 
-// Items behind others.
+// Items behind others. Where there are no others, none is copied.
 fn append<T: Drop>(alloc: Global, items: &mut Sequence<T>, more: Sequence<T>) -> Result<(), Memory>
     ensures { OnOk result (items.new ≡ items.old ++ more) }
 {
+    if items.is_empty() {
+        *items = more;
+        return Ok(());
+    }
     let mut all = mem::replace(items, Sequence::new(alloc)).into_vec();
     let mut more = more.into_vec();
     all.append(&mut more)?;
@@ -273,7 +277,7 @@ impl Draft {
             name,
             file: 0,
             parent,
-            values: ValueDecls::new(alloc),
+            values: ValueDecls::with_room(alloc, 1)?,
             ranges: Ranges::new(alloc),
             names: Words::new(alloc),
         })?;

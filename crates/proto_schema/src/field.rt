@@ -81,12 +81,12 @@ pub enum MapState {
     Key(NameState),
     /// The value of the outermost map is being read.
     Value(Word, NameState),
-    /// A key of a map in this many others is being read.
-    InnerKey(usize, NameState),
+    /// A key of a map in this many others is being read, behind the key of the outermost one.
+    InnerKey(Word, usize, NameState),
     /// A value of a map in this many others is being read.
-    InnerValue(usize, NameState),
+    InnerValue(Word, usize, NameState),
     /// This many maps are still to be closed.
-    Close(usize),
+    Close(Word, usize),
 }
 
 /// What a token does to a field.
@@ -146,13 +146,13 @@ fn key_step(
 }
 
 // One of the maps in another is closed.
-fn closed(depth: usize) -> MapStep
-    ensures { result ≡ closed_map depth }
+fn closed(outer: Word, depth: usize) -> MapStep
+    ensures { result ≡ closed_map outer depth }
 {
     if depth <= 1 {
-        MapStep::Done(FieldType::NestedMap)
+        MapStep::Done(FieldType::NestedMap { key: outer })
     } else {
-        MapStep::More(MapState::Close(depth - 1))
+        MapStep::More(MapState::Close(outer, depth - 1))
     }
 }
 
@@ -169,16 +169,21 @@ fn of_key(alloc: Global, text: &[u8], name: NameState, token: &Token) -> Result<
 fn of_inner_key(
     alloc: Global,
     text: &[u8],
+    outer: Word,
     depth: usize,
     name: NameState,
     token: &Token,
 ) -> Result<MapStep, ProtoFault>
     requires { Lies text.now token.now }
-    ensures { Gives result (reading_of_inner_key depth (key_reading name (lexeme text.now token.now))) }
+    ensures { Gives result (reading_of_inner_key outer depth (key_reading name (lexeme text.now token.now))) }
 {
     match key_step(alloc, text, name, token)? {
-        NameStep::More(name) => Ok(MapStep::More(MapState::InnerKey(depth, name))),
-        NameStep::Whole(_) => Ok(MapStep::More(MapState::InnerValue(depth, NameState::Start))),
+        NameStep::More(name) => Ok(MapStep::More(MapState::InnerKey(outer, depth, name))),
+        NameStep::Whole(_) => Ok(MapStep::More(MapState::InnerValue(
+            outer,
+            depth,
+            NameState::Start,
+        ))),
     }
 }
 
@@ -198,7 +203,7 @@ fn of_value(
             Ok(MapStep::Done(FieldType::Map { key, value }))
         }
         NameStep::Whole(value) if begins_map(&value, token) => {
-            Ok(MapStep::More(MapState::InnerKey(1, NameState::Start)))
+            Ok(MapStep::More(MapState::InnerKey(key, 1, NameState::Start)))
         }
         NameStep::Whole(_) => Err(unexpected(token)),
     }
@@ -207,6 +212,7 @@ fn of_value(
 fn of_inner_value(
     alloc: Global,
     text: &[u8],
+    outer: Word,
     depth: usize,
     name: NameState,
     token: &Token,
@@ -214,13 +220,17 @@ fn of_inner_value(
     requires lies { Lies text.now token.now }
     requires depth { depth < 2 ^ 63 }
     ensures { let x = lexeme text.now token.now in
-        Gives result (reading_of_inner_value depth x (typed_reading name x)) }
+        Gives result (reading_of_inner_value outer depth x (typed_reading name x)) }
 {
     match typed_step(alloc, text, name, token)? {
-        NameStep::More(name) => Ok(MapStep::More(MapState::InnerValue(depth, name))),
-        NameStep::Whole(_) if is_mark(token, b'>') => Ok(MapStep::More(MapState::Close(depth))),
+        NameStep::More(name) => Ok(MapStep::More(MapState::InnerValue(outer, depth, name))),
+        NameStep::Whole(_) if is_mark(token, b'>') => Ok(MapStep::More(MapState::Close(outer, depth))),
         NameStep::Whole(value) if begins_map(&value, token) => {
-            Ok(MapStep::More(MapState::InnerKey(depth + 1, NameState::Start)))
+            Ok(MapStep::More(MapState::InnerKey(
+                outer,
+                depth + 1,
+                NameState::Start,
+            )))
         }
         NameStep::Whole(_) => Err(unexpected(token)),
     }
@@ -239,11 +249,15 @@ fn map_step(
 {
     match state {
         MapState::Key(name) => of_key(alloc, text, name, token),
-        MapState::InnerKey(depth, name) => of_inner_key(alloc, text, depth, name, token),
+        MapState::InnerKey(outer, depth, name) => {
+            of_inner_key(alloc, text, outer, depth, name, token)
+        }
         MapState::Value(key, name) => of_value(alloc, text, key, name, token),
-        MapState::InnerValue(depth, name) => of_inner_value(alloc, text, depth, name, token),
-        MapState::Close(depth) if is_mark(token, b'>') => Ok(closed(depth)),
-        MapState::Close(_) => Err(unexpected(token)),
+        MapState::InnerValue(outer, depth, name) => {
+            of_inner_value(alloc, text, outer, depth, name, token)
+        }
+        MapState::Close(outer, depth) if is_mark(token, b'>') => Ok(closed(outer, depth)),
+        MapState::Close(_, _) => Err(unexpected(token)),
     }
 }
 

@@ -1,4 +1,4 @@
-use proto_schema::read_proto;
+use proto_schema::{alone_is_ordered, read_proto};
 use schema_offences::ResolveReason;
 use schema_resolve::{ResolveFault, resolve};
 use std::test::Fail;
@@ -6,6 +6,7 @@ use table_text::table_text;
 
 #[test]
 fn a_message_has_its_table(rt: HostRuntime) -> Result<(), Fail> {
+    alone_is_ordered();
     let alloc = rt.alloc();
     let file = read_proto(alloc, b"syntax=\"proto3\";message M{M a=1;}")?;
     let table = resolve(alloc, &file)?;
@@ -16,6 +17,7 @@ fn a_message_has_its_table(rt: HostRuntime) -> Result<(), Fail> {
 
 #[test]
 fn the_first_offence_is_named(rt: HostRuntime) -> Result<(), Fail> {
+    alone_is_ordered();
     let alloc = rt.alloc();
     let file = read_proto(alloc, b"syntax=\"proto3\";\nmessage M{N a=0;}")?;
     let is_unknown = match resolve(alloc, &file) {

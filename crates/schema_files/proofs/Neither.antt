@@ -5,8 +5,9 @@ use Rattle.std.specs.List.{AllZip}
 use Rattle.std.proofs.lemmas.Bool.{cases_lt}
 use Rattle.std.proofs.lemmas.List.{length-map, take_all}
 use Rattle.std.proofs.lemmas.Option.{same_Some}
-use Rattle.file_bundle.specs.Bundle.{File as PackedFile, paths_of}
-use Rattle.mrpc_table.specs.Valid.{AreDistinct}
+use Rattle.file_bundle.specs.Bundle.{File as PackedFile}
+use Rattle.file_bundle.specs.Laws.{RightOrRefused}
+use Rattle.file_bundle.specs.Paths.{HaveRightPaths}
 use Rattle.mrpc_table.specs.declared.table.Table.{Table}
 use Rattle.proto_file.specs.Joined.{Joined}
 use Rattle.proto_file.specs.Together.{IsFormed, IsOrdered}
@@ -27,8 +28,9 @@ use Rattle.schema_offences.specs.Offences.{HasFirst}
 use Rattle.schema_offences.specs.declared.reason.ResolveReason.{ResolveReason}
 use Rattle.schema_resolve.specs.Resolving.{ResolvesTogether}
 use Rattle.schema_files.specs.Joined.{ReadsAs, ReadAs, StandsAt, IsPart, AreParts}
-use Rattle.schema_files.specs.Resolving.{AreJoined, FilesResolve, HasFilesFault, IsRead, unread, import_at_fault, unresolved}
-use Rattle.schema_files.specs.declared.fault.FilesReason.{FilesReason}
+use Rattle.schema_files.specs.Resolving.{AreJoined, FilesResolve, HasFilesFault, IsFirstFault, IsRead, unread, import_at_fault, unresolved}
+use Rattle.schema_files.specs.declared.fault.FilesFault.{FilesFault}
+use Rattle.schema_files.specs.declared.fault.FilesFault.TheVariants as fault
 use Rattle.schema_files.specs.declared.fault.FilesReason.TheVariants.{Proto, Import, Resolve}
 use Rattle.schema_files.proofs.Lists.{held, place_of, some_at, zip_length}
 use Rattle.schema_files.proofs.Standing.{OffencesStand, StandsInText, in_some_file}
@@ -182,6 +184,7 @@ offence_fault stand own files ps joins sound q s h =
 
 -- what lower crates say of a set that was read
 pub record NeverNeither : Type 0 where
+  pub paths : RightOrRefused
   pub text : ReadsOrFaults
   pub imports : (set : List Member) → 0 < length set → HaveOwnPaths set → ((reach : Reach) → IsReach set reach → ⊥)
       → ((q : ImportReason) (i : ℕ) (s : Span) → HasImportFault set q i s → ⊥) → ⊥
@@ -199,33 +202,42 @@ abbrev HasNoTable : List PackedFile → Type 0
 HasNoTable files = (t : Table) → FilesResolve files t → ⊥
 
 abbrev HasNoFault : List PackedFile → Type 0
-HasNoFault files = (i l : ℕ) (q : FilesReason) → HasFilesFault files i l q → ⊥
+HasNoFault files = (e : FilesFault) → IsFirstFault files e → ⊥
 
-not_joined : NeverNeither → AreInOrder → (files : List PackedFile) (ps : List Part) → AreJoined files ps → HasNoTable files
-    → HasNoFault files → ⊥
-not_joined laws order files ps joins no_table no_fault =
+not_joined : NeverNeither → AreInOrder → (files : List PackedFile) (ps : List Part) → HaveRightPaths files
+    → AreJoined files ps → HasNoTable files → HasNoFault files → ⊥
+not_joined laws order files ps right joins no_table no_fault =
     let sound : AreSound ps = order.sound files ps joins in
     laws.offences (joined ps) (order.formed ps sound) (order.ordered ps sound)
-    (λ T resolves. no_table T (record { parts = ps; joins = joins; resolves = resolves }))
+    (λ T resolves. no_table T (record { paths = right; parts = ps; joins = joins; resolves = resolves }))
     (λ q s first.
-    let fault = offence_fault order.stand order.own files ps joins sound q s first in
-    no_fault fault.0 s.line (Resolve q) fault.1)
+    let found = offence_fault order.stand order.own files ps joins sound q s first in
+    no_fault (fault.At found.0 s.line (Resolve q)) (right, found.1))
 
 not_read : NeverNeither → AreInOrder → (files : List PackedFile) (members : List Member) → 0 < length files
-    → AreDistinct (paths_of files) → ReadAs files members → HasNoTable files → HasNoFault files → ⊥
-not_read laws order files members some distinct read no_table no_fault =
+    → HaveRightPaths files → ReadAs files members → HasNoTable files → HasNoFault files → ⊥
+not_read laws order files members some right read no_table no_fault =
     let there : 0 < length members = omega (arith, some, zip_length ReadsAs files members read) in
-    laws.imports members there (own_paths files members read distinct)
+    laws.imports members there (own_paths files members read right)
     (λ reach reached.
     let joins = joined_of files members reach there read reached in
-    not_joined laws order files joins.0 joins.1 no_table no_fault)
-    (λ q i s fault. no_fault i s.line (Import q) (import_at_fault members q s read fault refl))
+    not_joined laws order files joins.0 right joins.1 no_table no_fault)
+    (λ q i s found. no_fault (fault.At i s.line (Import q)) (right, import_at_fault members q s read found refl))
 
-pub never_neither : NeverNeither → AreInOrder → (files : List PackedFile) → 0 < length files
-    → AreDistinct (paths_of files) → HasNoTable files → HasNoFault files → ⊥
-never_neither laws order files some distinct no_table no_fault =
+right_neither : NeverNeither → AreInOrder → (files : List PackedFile) → 0 < length files → HaveRightPaths files
+    → HasNoTable files → HasNoFault files → ⊥
+right_neither laws order files some right no_table no_fault =
     elim (read_first laws.text files) [
-      | inl read ↦ not_read laws order files read.0 some distinct read.1 no_table no_fault
+      | inl read ↦ not_read laws order files read.0 some right read.1 no_table no_fault
       | inr u ↦
-          no_fault u.place u.span.line (Proto u.reason) (unread u.file u.reason u.span u.at u.fault u.before refl)
+          no_fault (fault.At u.place u.span.line (Proto u.reason))
+          (right, unread u.file u.reason u.span u.at u.fault u.before refl)
+    ]
+
+pub never_neither : NeverNeither → AreInOrder → (files : List PackedFile) → 0 < length files → HasNoTable files
+    → HasNoFault files → ⊥
+never_neither laws order files some no_table no_fault =
+    elim (laws.paths files) [
+      | inl right ↦ right_neither laws order files some right no_table no_fault
+      | inr refused ↦ no_fault (fault.Path refused.0) refused.1
     ]

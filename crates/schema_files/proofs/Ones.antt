@@ -4,6 +4,7 @@ use Rattle.std.specs.Prelude.{slice_get, Some}
 use Rattle.std.proofs.lemmas.Bool.{cases_lt}
 use Rattle.std.proofs.lemmas.Option.{slice_get_within, same_Some}
 use Rattle.file_bundle.specs.Bundle.{File as PackedFile}
+use Rattle.file_bundle.specs.Laws.{RefusedOnce, NeverRightAndRefused}
 use Rattle.mrpc_table.specs.declared.table.Table.{Table}
 use Rattle.proto_file.specs.Joined.{Joined}
 use Rattle.proto_file.specs.Together.{IsOrdered}
@@ -22,9 +23,11 @@ use Rattle.proto_join.specs.declared.part.Part.{Part}
 use Rattle.schema_offences.specs.Offences.{HasFirst}
 use Rattle.schema_offences.specs.declared.reason.ResolveReason.{ResolveReason}
 use Rattle.schema_files.specs.Joined.{ReadsAs, ReadAs, StandsAt, IsPart, AreParts}
-use Rattle.schema_files.specs.Resolving.{AreJoined, FilesResolve, HasFilesFault, IsRead, unread, import_at_fault, unresolved}
+use Rattle.schema_files.specs.Resolving.{AreJoined, FilesResolve, HasFilesFault, IsFirstFault, IsRead, unread, import_at_fault, unresolved}
 use Rattle.schema_files.specs.declared.fault.FilesReason.{FilesReason}
 use Rattle.schema_files.specs.declared.fault.FilesReason.TheVariants.{Proto, Import, Resolve}
+use Rattle.schema_files.specs.declared.fault.FilesFault.{FilesFault}
+use Rattle.schema_files.specs.declared.fault.FilesFault.TheVariants as fault
 use Rattle.schema_files.proofs.Lists.{some_at, once, zip_at, zip_length}
 
 -- ---- what lower crates say
@@ -234,3 +237,28 @@ fault_one laws apart ones files more i l q j m r (unresolved ps x s n joins firs
     let file : i ≡ j = same_Some i j
     (sym at ∙ ap (λ (xs : List ℕ). slice_get xs n) same.order ∙ ap (slice_get joints.reach.order) place ∙ bt) in
     record { file = file; line = e ∙ ap (λ (z : Span). z.line) one.1 ∙ sym d; reason = ap Resolve one.0 }
+
+-- ---- with paths that may be refused
+
+pub table_or_first : AreLaws → AreApart → NeverRightAndRefused → (files : List PackedFile) (t : Table) (e : FilesFault)
+    → FilesResolve files t → IsFirstFault files e → ⊥
+table_or_first laws apart never files t (fault.At i l q) R h = table_or_fault laws apart files t i l q R h.1
+table_or_first laws apart never files t (fault.Path i) R h = never files i R.paths h
+table_or_first laws apart never files t fault.Memory R h = h
+
+same_at : (i l : ℕ) (q : FilesReason) (j m : ℕ) (r : FilesReason) → IsOneFault i l q j m r
+    → fault.At i l q ≡ fault.At j m r
+same_at i l q j m r one =
+    ap (λ (n : ℕ). fault.At n l q) one.file ∙ ap (λ (n : ℕ). fault.At j n q) one.line
+    ∙ ap (λ (x : FilesReason). fault.At j m x) one.reason
+
+pub first_one : AreLaws → AreApart → AreOneFault → RefusedOnce → NeverRightAndRefused → (files : List PackedFile)
+    → AreJoinedLaws files → (e f : FilesFault) → IsFirstFault files e → IsFirstFault files f → e ≡ f
+first_one laws apart ones once never files more (fault.At i l q) (fault.At j m r) h k =
+    same_at i l q j m r (fault_one laws apart ones files more i l q j m r h.1 k.1)
+first_one laws apart ones once never files more (fault.At i l q) (fault.Path j) h k = absurd (never files j h.0 k)
+first_one laws apart ones once never files more (fault.At i l q) fault.Memory h k = absurd k
+first_one laws apart ones once never files more (fault.Path i) (fault.At j m r) h k = absurd (never files i k.0 h)
+first_one laws apart ones once never files more (fault.Path i) (fault.Path j) h k = ap fault.Path (once files i j h k)
+first_one laws apart ones once never files more (fault.Path i) fault.Memory h k = absurd k
+first_one laws apart ones once never files more fault.Memory f h k = absurd h

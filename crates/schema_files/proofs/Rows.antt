@@ -5,6 +5,8 @@ use Rattle.std.proofs.lemmas.Option.{same_Some, none-some, slice_get_read}
 use Rattle.mrpc_table.specs.declared.table.Table.{Table}
 use Rattle.proto_file.specs.declared.file.Import.{Import}
 use Rattle.proto_file.specs.declared.file.File.{File}
+use Rattle.std.proofs.lemmas.List.Elements.{All-nil, All-cons}
+use Rattle.file_bundle.specs.Paths.{IsPath, HaveRightPaths, IsFirstRefused, second}
 use Rattle.file_bundle.specs.Bundle.{File as PackedFile}
 use Rattle.proto_schema.specs.Faults.{IsTextOf, HasFault as HasTextFault}
 use Rattle.proto_schema.specs.declared.fault.ProtoReason.{ProtoReason}
@@ -194,9 +196,31 @@ parts_row text = record {
       (subst (λ (i : ℕ). IsPart (set_of text) (empty ∷ []) reach i (part text)) (sym q.0) (part_row text));
 }
 
+a_path : IsPath path
+a_path = record { some = omega arith; short = omega arith; form = refl }
+
+right_row : (text : List ℕ) → HaveRightPaths (set_of text)
+right_row text = record {
+  each = All-cons IsPath path [] a_path (All-nil IsPath);
+  distinct = λ i j d lt within. absurd (omega (arith, within));
+}
+
+-- its path is refused where it stands a second time
+twice_row : (text other : List ℕ) → IsFirstRefused ((path, text) ∷ (path, other) ∷ []) 1
+twice_row text other = record {
+  before = set_of text;
+  file = (path, other);
+  later = [];
+  order = refl;
+  right = right_row text;
+  refused = second (0, omega arith, refl);
+  number = refl;
+}
+
 resolves_row : (text : List ℕ) (T : Table) → IsTextOf text (file_with []) → ResolvesTogether (joined (part text ∷ [])) T
     → FilesResolve (set_of text) T
 resolves_row text T reads resolves = record {
+  paths = right_row text;
   parts = part text ∷ [];
   joins = record {
     members = empty ∷ [];

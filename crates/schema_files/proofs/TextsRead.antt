@@ -13,8 +13,8 @@ use Rattle.proto_schema.specs.declared.fault.ProtoReason.{ProtoReason}
 use Rattle.schema_files.specs.declared.fault.FilesReason.TheVariants.{Proto}
 use Rattle.proto_imports.specs.declared.set.Member.{Member}
 use Rattle.schema_files.specs.Joined.{ReadsAs, ReadAs}
-use Rattle.schema_files.specs.Resolving.{IsRead, HasFilesFault, IsFaultOf, unread}
-use Rattle.schema_files.specs.Unread.{HasUnread, unread_text, IsUnread}
+use Rattle.schema_files.specs.Resolving.{IsRead, HasFilesFault, unread}
+use Rattle.schema_files.specs.Unread.{HasUnread, unread_text, IsUnread, IsFaultIn}
 use Rattle.schema_files.specs.declared.fault.FilesReason.{FilesReason}
 use Rattle.schema_files.specs.declared.fault.FilesFault.{FilesFault}
 use Rattle.schema_files.specs.declared.fault.FilesFault.TheVariants as fault
@@ -65,9 +65,10 @@ first_unread files place line f q at before (unread_text r s h e) = unread f r s
 
 pub unread_fault : (files : List PackedFile) (place : ℕ) (f : PackedFile) (e : FilesFault)
     → slice_get files place ≡ Some f → ((j : ℕ) (g : PackedFile) → j < place → slice_get files j ≡ Some g → IsRead g)
-    → IsUnread f place e → IsFaultOf files e
+    → IsUnread f place e → IsFaultIn files e
 unread_fault files place f (fault.At file line q) at before h =
     subst (λ (k : ℕ). HasFilesFault files k line q) (sym h.0) (first_unread files place line f q at before h.1)
+unread_fault files place f (fault.Path file) at before h = absurd h
 unread_fault files place f fault.Memory at before h = tt
 
 -- ---- one text

@@ -1,9 +1,11 @@
 -- A whole set: its paths, its parts, and what is answered.
-use Rattle.std.proofs.Common.{◌≡◌, ℕ, List, [], ◌∷◌, Ok, Err, Result, map, refl, sym, ap, ◌∙◌, subst}
-use Rattle.std.specs.Prelude.{IfOk}
+use Rattle.std.proofs.Common.{◌≡◌, ◌≢◌, ℕ, suc, List, [], ◌∷◌, Ok, Err, Result, map, refl, sym, ap, ◌∙◌, subst, arith}
+use Rattle.std.specs.Prelude.{IfOk, IfErr, Contains}
+use Rattle.std.specs.List.{AllPairs}
 use Rattle.mrpc_table.specs.Valid.{AreDistinct}
 use Rattle.mrpc_table.specs.declared.table.Table.{Table}
 use Rattle.file_bundle.specs.Bundle.{File as PackedFile, paths_of}
+use Rattle.file_bundle.specs.Paths.{HaveRightPaths}
 use Rattle.proto_imports.specs.Reaching.{HaveOwnPaths, IsReach}
 use Rattle.proto_imports.specs.declared.set.Member.{Member}
 use Rattle.proto_imports.specs.declared.set.Reach.{Reach}
@@ -11,8 +13,8 @@ use Rattle.proto_join.specs.Joining.{joined}
 use Rattle.proto_join.specs.declared.part.Part.{Part}
 use Rattle.schema_resolve.specs.Resolving.{ResolvesTogether}
 use Rattle.schema_files.specs.Joined.{ReadAs, AreParts}
-use Rattle.schema_files.specs.Resolving.{AreJoined, FilesResolve, HasFilesFault, IsFaultOf}
-use Rattle.schema_files.specs.declared.fault.FilesReason.{FilesReason}
+use Rattle.schema_files.specs.Resolving.{AreJoined, FilesResolve, IsFirstFault, IsFaultOf}
+use Rattle.schema_files.specs.Unread.{IsFaultIn}
 use Rattle.schema_files.specs.declared.fault.FilesFault.{FilesFault}
 use Rattle.schema_files.specs.declared.fault.FilesFault.TheVariants as fault
 
@@ -25,9 +27,18 @@ paths_same (f ∷ fs) (m ∷ ms) h =
     ap (λ (p : List ℕ). p ∷ map (λ (x : Member). x.path) ms) h.0.path
     ∙ ap (λ (ps : List (List ℕ)). f.0 ∷ ps) (paths_same fs ms h.1)
 
-pub own_paths : (files : List PackedFile) (members : List Member) → ReadAs files members → AreDistinct (paths_of files)
+distinct : (xs : List (List ℕ)) → AllPairs (λ (path later : List ℕ). later ≢ path) xs → AreDistinct xs
+distinct [] all = tt
+distinct (x ∷ xs) all = (
+  λ (c : Contains xs x). all 0 (suc c.0) x (omega arith) (omega (arith, c.1)) c.2,
+  distinct xs (λ i j d a b. all (suc i) (suc j) d (omega arith) (omega arith)),
+)
+
+pub own_paths : (files : List PackedFile) (members : List Member) → ReadAs files members → HaveRightPaths files
     → HaveOwnPaths members
-own_paths files members h d = subst (λ (ps : List (List ℕ)). AreDistinct ps) (sym (paths_same files members h)) d
+own_paths files members h right =
+    subst (λ (ps : List (List ℕ)). AreDistinct ps) (sym (paths_same files members h))
+    (distinct (paths_of files) right.distinct)
 
 pub record AreJoinedBy (files : List PackedFile) (reach : Reach) (ps : List Part) : Type 0 where
   pub joins : AreJoined files ps
@@ -46,16 +57,24 @@ join_up files members those reach ps e read reached parts = record {
   order = refl;
 }
 
-pub resolves_all : (files : List PackedFile) (ps : List Part) → AreJoined files ps → (r : Result Table FilesFault)
+pub resolves_all : (files : List PackedFile) (ps : List Part) → HaveRightPaths files → AreJoined files ps
+    → (r : Result Table FilesFault)
     → IfOk r (ResolvesTogether (joined ps)) → IfOk r (FilesResolve files)
-resolves_all files ps joins (Ok t) h = record { parts = ps; joins = joins; resolves = h }
-resolves_all files ps joins (Err e) h = tt
+resolves_all files ps right joins (Ok t) h = record { paths = right; parts = ps; joins = joins; resolves = h }
+resolves_all files ps right joins (Err e) h = tt
 
 abbrev pub NeverBoth : Type 0
-NeverBoth = (files : List PackedFile) (t : Table) (i l : ℕ) (q : FilesReason) → AreDistinct (paths_of files)
-    → FilesResolve files t → HasFilesFault files i l q → ⊥
+NeverBoth = (files : List PackedFile) (t : Table) (e : FilesFault) → FilesResolve files t → IsFirstFault files e → ⊥
 
-pub memory_only : NeverBoth → (files : List PackedFile) → AreDistinct (paths_of files) → (t : Table)
-    → FilesResolve files t → (e : FilesFault) → IsFaultOf files e → e ≡ fault.Memory
-memory_only never files d t R (fault.At file line q) h = absurd (never files t file line q d R h)
-memory_only never files d t R fault.Memory h = refl
+pub memory_only : NeverBoth → (files : List PackedFile) → (t : Table) → FilesResolve files t → (e : FilesFault)
+    → IsFaultIn files e → e ≡ fault.Memory
+memory_only never files t R (fault.At file line q) h = absurd (never files t (fault.At file line q) R (R.paths, h))
+memory_only never files t R (fault.Path file) h = absurd h
+memory_only never files t R fault.Memory h = refl
+
+pub faults_right : (files : List PackedFile) → HaveRightPaths files → (r : Result Table FilesFault)
+    → IfErr r (IsFaultIn files) → IfErr r (IsFaultOf files)
+faults_right files right (Ok t) h = tt
+faults_right files right (Err (fault.At file line q)) h = (right, h)
+faults_right files right (Err (fault.Path file)) h = absurd h
+faults_right files right (Err fault.Memory) h = tt

@@ -1,8 +1,9 @@
--- What a set of proto files resolves to, and its first fault. The files that the first one reaches are resolved
--- together, as if their texts stood one behind another.
+-- What a set of proto files resolves to, and its first fault. The paths have to be right, and the files that the first
+-- one reaches are resolved together, as if their texts stood one behind another.
 use Rattle.std.specs.Prelude.{◌≡◌, ℕ, ◌<◌, List, Some, slice_get}
 use Rattle.mrpc_table.specs.declared.table.Table.{Table}
 use Rattle.file_bundle.specs.Bundle.{File as PackedFile}
+use Rattle.file_bundle.specs.Paths.{HaveRightPaths, IsFirstRefused}
 use Rattle.proto_file.specs.declared.file.Span.{Span}
 use Rattle.proto_file.specs.declared.file.File.{File}
 use Rattle.proto_schema.specs.Faults.{IsTextOf, HasFault as HasTextFault}
@@ -33,6 +34,7 @@ pub record AreJoined (files : List PackedFile) (ps : List Part) : Type 0 where
 
 -- the files resolve to a table
 pub record FilesResolve (files : List PackedFile) (T : Table) : Type 0 where
+  pub paths : HaveRightPaths files
   pub parts : List Part
   pub joins : AreJoined files parts
   pub resolves : ResolvesTogether (joined parts) T
@@ -41,8 +43,8 @@ pub record FilesResolve (files : List PackedFile) (T : Table) : Type 0 where
 abbrev pub IsRead : PackedFile → Type 0
 IsRead f = (F : File) × IsTextOf f.1 F
 
--- The first fault of a set: its file, its line there and its reason. A text that is no proto file counts before imports
--- at fault, and these before all that stands against the joined files.
+-- The first fault of what files say: its file, its line there and its reason. A text that is no proto file counts before
+-- imports at fault, and these before all that stands against the joined files.
 pub data HasFilesFault (files : List PackedFile) (file line : ℕ) : FilesReason → Type 0 where
   unread : (f : PackedFile) (q : ProtoReason) (s : Span) → slice_get files file ≡ Some f → HasTextFault f.1 q s
       → ((j : ℕ) (g : PackedFile) → j < file → slice_get files j ≡ Some g → IsRead g)
@@ -53,7 +55,14 @@ pub data HasFilesFault (files : List PackedFile) (file line : ℕ) : FilesReason
       → HasFirst (joined ps) q s → IsInText ps k s.start → slice_get joins.reach.order k ≡ Some file → line ≡ s.line
       → HasFilesFault files file line (Resolve q)
 
+-- The first fault of a set: a path that is refused counts before all that the files say. Running out of memory is none.
+abbrev pub IsFirstFault : List PackedFile → FilesFault → Type 0
+IsFirstFault files (fault.Path file) = IsFirstRefused files file
+IsFirstFault files (fault.At file line reason) = HaveRightPaths files × HasFilesFault files file line reason
+IsFirstFault files fault.Memory = ⊥
+
 -- what a fault says of a set; running out of memory says nothing
 abbrev pub IsFaultOf : List PackedFile → FilesFault → Type 0
-IsFaultOf files (fault.At file line reason) = HasFilesFault files file line reason
+IsFaultOf files (fault.Path file) = IsFirstFault files (fault.Path file)
+IsFaultOf files (fault.At file line reason) = IsFirstFault files (fault.At file line reason)
 IsFaultOf files fault.Memory = Unit {0}

@@ -1,9 +1,10 @@
--- What a fault says of one text of a set.
-use Rattle.std.specs.Prelude.{◌≡◌, ℕ}
+-- What a fault says of one text of a set, and of what the files of a set say.
+use Rattle.std.specs.Prelude.{◌≡◌, ℕ, List}
 use Rattle.file_bundle.specs.Bundle.{File as PackedFile}
 use Rattle.proto_file.specs.declared.file.Span.{Span}
 use Rattle.proto_schema.specs.Faults.{HasFault as HasTextFault}
 use Rattle.proto_schema.specs.declared.fault.ProtoReason.{ProtoReason}
+use Rattle.schema_files.specs.Resolving.{HasFilesFault}
 use Rattle.schema_files.specs.declared.fault.FilesReason.{FilesReason}
 use Rattle.schema_files.specs.declared.fault.FilesReason.TheVariants.{Proto}
 use Rattle.schema_files.specs.declared.fault.FilesFault.{FilesFault}
@@ -16,4 +17,11 @@ pub data HasUnread (f : PackedFile) (line : ℕ) : FilesReason → Type 0 where
 -- what a fault says of the file at a place; running out of memory says nothing
 abbrev pub IsUnread : PackedFile → ℕ → FilesFault → Type 0
 IsUnread f place (fault.At file line reason) = (file ≡ place) × HasUnread f line reason
+IsUnread f place (fault.Path file) = ⊥
 IsUnread f place fault.Memory = Unit {0}
+
+-- what a fault says of files whose paths are right
+abbrev pub IsFaultIn : List PackedFile → FilesFault → Type 0
+IsFaultIn files (fault.At file line reason) = HasFilesFault files file line reason
+IsFaultIn files (fault.Path file) = ⊥
+IsFaultIn files fault.Memory = Unit {0}

@@ -1,14 +1,15 @@
 //! Laws of sets of files. These functions do nothing; their clauses hold.
 
 ghost use Rattle.std.specs.Prelude.{◌≡◌, ℕ, ◌<◌, List, length};
-ghost use Rattle.mrpc_table.specs.Valid.{AreDistinct};
 ghost use Rattle.mrpc_table.specs.declared.table.Table.{Table};
-ghost use Rattle.file_bundle.specs.Bundle.{File as PackedFile, paths_of};
+ghost use Rattle.file_bundle.specs.Bundle.{File as PackedFile};
 ghost use Rattle.proto_join.specs.Sound.{AreSound};
 ghost use Rattle.proto_join.specs.declared.part.Part.{Part};
-ghost use Rattle.schema_files.specs.Resolving.{AreJoined, FilesResolve, HasFilesFault};
+ghost use Rattle.schema_files.specs.Resolving.{AreJoined, FilesResolve, HasFilesFault, IsFirstFault};
+ghost use Rattle.schema_files.specs.declared.fault.FilesFault.{FilesFault};
 ghost use Rattle.schema_files.specs.declared.fault.FilesReason.{FilesReason};
 
+use file_bundle::one_refused;
 use proto_imports::{one_fault as one_import_fault, one_reach, reach_or_fault};
 use proto_join::{joined_is_ordered, places_apart};
 use proto_schema::{
@@ -35,8 +36,7 @@ pub fn joined_is_sound()
 
 /// A set of files has one table at most.
 pub fn one_files_table()
-    ensures { (files : List PackedFile) (t u : Table) → AreDistinct (paths_of files) → FilesResolve files t
-        → FilesResolve files u → t ≡ u }
+    ensures { (files : List PackedFile) (t u : Table) → FilesResolve files t → FilesResolve files u → t ≡ u }
 {
     one_join();
     joined_is_sound();
@@ -44,11 +44,11 @@ pub fn one_files_table()
     one_table();
 }
 
-/// A set of files has one first fault at most: two of them are of one file, in one line, and have one reason.
+/// A set of files has one first fault at most.
 pub fn one_files_fault()
-    ensures { (files : List PackedFile) (i j l m : ℕ) (q r : FilesReason) → AreDistinct (paths_of files)
-        → HasFilesFault files i l q → HasFilesFault files j m r → (i ≡ j) × (l ≡ m) × (q ≡ r) }
+    ensures { (files : List PackedFile) (e f : FilesFault) → IsFirstFault files e → IsFirstFault files f → e ≡ f }
 {
+    one_refused();
     one_file();
     one_text_fault();
     file_or_fault();
@@ -61,14 +61,14 @@ pub fn one_files_fault()
     places_apart();
 }
 
-/// Files that have paths of their own, at least one, have a table or a first fault, and never both.
+/// A set of files, at least one, has a table or a first fault, and never both.
 pub fn table_or_files_fault()
-    ensures never_both { (files : List PackedFile) (t : Table) (i l : ℕ) (q : FilesReason)
-        → AreDistinct (paths_of files) → FilesResolve files t → HasFilesFault files i l q → ⊥ }
-    ensures never_neither { (files : List PackedFile) → 0 < length files → AreDistinct (paths_of files)
-        → ((t : Table) → FilesResolve files t → ⊥)
-        → ((i l : ℕ) (q : FilesReason) → HasFilesFault files i l q → ⊥) → ⊥ }
+    ensures never_both { (files : List PackedFile) (t : Table) (e : FilesFault) → FilesResolve files t
+        → IsFirstFault files e → ⊥ }
+    ensures never_neither { (files : List PackedFile) → 0 < length files → ((t : Table) → FilesResolve files t → ⊥)
+        → ((e : FilesFault) → IsFirstFault files e → ⊥) → ⊥ }
 {
+    one_refused();
     one_file();
     file_or_fault();
     one_reach();
@@ -80,7 +80,7 @@ pub fn table_or_files_fault()
     table_or_offence();
 }
 
-/// The first fault of a set stands in one of its files.
+/// The first fault of what files say stands in one of them.
 pub fn fault_in_set()
     ensures { (files : List PackedFile) (i l : ℕ) (q : FilesReason) → HasFilesFault files i l q → i < length files }
 {}

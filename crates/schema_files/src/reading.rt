@@ -3,8 +3,7 @@
 ghost use Rattle.std.specs.Prelude.{◌≡◌, IfOk, IfErr};
 ghost use Rattle.file_bundle.specs.Packed.{file_of, files_of};
 ghost use Rattle.schema_files.specs.Joined.{ReadsAs, ReadAs};
-ghost use Rattle.schema_files.specs.Resolving.{IsFaultOf};
-ghost use Rattle.schema_files.specs.Unread.{IsUnread};
+ghost use Rattle.schema_files.specs.Unread.{IsUnread, IsFaultIn};
 
 use crate::fault::{FilesFault, FilesReason};
 use file_bundle::Packed;
@@ -41,7 +40,7 @@ fn member(alloc: Global, place: usize, packed: &Packed<'_>) -> Result<Member, Fi
 /// What each file says, or the first one that is no proto file.
 pub fn members(alloc: Global, files: &[Packed<'_>]) -> Result<Vec<Member>, FilesFault>
     ensures read { IfOk result (λ v. ReadAs (files_of files.now) v.items) }
-    ensures fault { IfErr result (IsFaultOf (files_of files.now)) }
+    ensures fault { IfErr result (IsFaultIn (files_of files.now)) }
 {
     let mut members = Vec::with_capacity(alloc, files.len())?;
     for i in 0..files.len() {

@@ -1,24 +1,25 @@
 //! The table of a set of files, or its first fault.
 
 ghost use Rattle.std.specs.Prelude.{◌≡◌, ◌<◌, ◌≤◌, ◌^◌, List, length, sum, map, sum_by, IfOk, IfErr, MatchResult};
-ghost use Rattle.mrpc_table.specs.Valid.{AreDistinct, IsValid};
+ghost use Rattle.mrpc_table.specs.Valid.{IsValid};
 ghost use Rattle.mrpc_table.specs.declared.table.Table.{Table};
-ghost use Rattle.file_bundle.specs.Bundle.{paths_of};
 ghost use Rattle.file_bundle.specs.Packed.{files_of};
 ghost use Rattle.file_bundle.specs.Bundle.{File as PackedFile};
+ghost use Rattle.file_bundle.specs.Paths.{HaveRightPaths};
 ghost use Rattle.proto_imports.specs.Reaching.{HaveOwnPaths, IsReach};
 ghost use Rattle.proto_join.specs.Joining.{joined, sizes_of};
 ghost use Rattle.proto_join.specs.Sound.{AreSound};
 ghost use Rattle.schema_resolve.specs.Resolving.{ResolvesTogether};
 ghost use Rattle.schema_files.specs.Joined.{ReadAs};
 ghost use Rattle.schema_files.specs.Resolving.{AreJoined, FilesResolve, IsFaultOf};
+ghost use Rattle.schema_files.specs.Unread.{IsFaultIn};
 ghost use Rattle.schema_files.specs.declared.fault.FilesFault.TheVariants as faults;
 
 use crate::fault::{FilesFault, FilesReason};
 use crate::laws::{joined_is_sound, one_join, table_or_files_fault};
 use crate::parts::parts_of;
 use crate::reading::members;
-use file_bundle::Packed;
+use file_bundle::{Packed, first_refused, one_refused};
 use mrpc_table::{MAX_FILES, Memory, Table};
 use proto_imports::{ImportFault, Member, Reach, reach};
 use proto_join::{Part, file_at, join, joined_is_ordered, places_apart};
@@ -32,7 +33,7 @@ fn reached(alloc: Global, members: &[Member]) -> Result<Reach, FilesFault>
     requires few { length members.now ≤ MAX_FILES }
     requires distinct { HaveOwnPaths members.now }
     ensures reach { IfOk result (IsReach members.now) }
-    ensures fault { (files : List PackedFile) → ReadAs files members.now → IfErr result (IsFaultOf files) }
+    ensures fault { (files : List PackedFile) → ReadAs files members.now → IfErr result (IsFaultIn files) }
 {
     match reach(alloc, members) {
         Ok(reached) => Ok(reached),
@@ -66,7 +67,7 @@ fn resolve_parts(alloc: Global, order: &[usize], parts: Vec<Part>) -> Result<Tab
     ensures only { (t : Table) → ResolvesTogether (joined parts.items) t
         → MatchResult result (λ u. u ≡ t) (λ e. e ≡ faults.Memory) }
     ensures fault { (files : List PackedFile) (joins : AreJoined files parts.items) → joins.reach.order ≡ order.now
-        → IfErr result (IsFaultOf files) }
+        → IfErr result (IsFaultIn files) }
 {
     joined_is_ordered();
     places_apart();
@@ -94,17 +95,37 @@ fn resolve_parts(alloc: Global, order: &[usize], parts: Vec<Part>) -> Result<Tab
     }
 }
 
-/// The table of the files that the first one reaches by imports, or the first fault of the set: the first text that is
-/// no proto file; else the first import that is missing, else the first that stands twice, else the first that closes a
-/// ring; else the offence that starts first in the first of the joined files that has one. Without memory it answers
-/// `Memory`.
+// The table of files whose paths are right, or the first fault of what they say.
+fn resolve_right(alloc: Global, files: &[Packed<'_>]) -> Result<Table, FilesFault>
+    requires some { 0 < length files.now }
+    requires few { length files.now ≤ MAX_FILES }
+    requires right { HaveRightPaths (files_of files.now) }
+    requires small { sum_by (λ f. length f.text.now) files.now < 2 ^ 63 }
+    ensures resolves { IfOk result (FilesResolve (files_of files.now)) }
+    ensures valid { IfOk result (λ t. IsValid t) }
+    ensures only { (t : Table) → FilesResolve (files_of files.now) t
+        → MatchResult result (λ u. u ≡ t) (λ e. e ≡ faults.Memory) }
+    ensures fault { IfErr result (IsFaultIn (files_of files.now)) }
+{
+    one_join();
+    joined_is_sound();
+    table_or_files_fault();
+    let members = members(alloc, files)?;
+    let reach = reached(alloc, members.as_slice())?;
+    let parts = parts_of(alloc, files, members, &reach)?;
+    resolve_parts(alloc, reach.order.as_slice(), parts)
+}
+
+/// The table of the files that the first one reaches by imports, or the first fault of the set: the first file whose
+/// path isn't of the form of a path or is that of a file before it; else the first text that is no proto file; else the
+/// first import that is missing, else the first that stands twice, else the first that closes a ring; else the offence
+/// that starts first in the first of the joined files that has one. Without memory it answers `Memory`.
 ///
 /// The joined files are the first one and then the others that it reaches, by ascending path. The methods have indices
 /// from 0, along them.
 pub fn resolve_files(alloc: Global, files: &[Packed<'_>]) -> Result<Table, FilesFault>
     requires some { 0 < length files.now }
     requires few { length files.now ≤ MAX_FILES }
-    requires distinct { AreDistinct (paths_of (files_of files.now)) }
     requires small { sum_by (λ f. length f.text.now) files.now < 2 ^ 63 }
     // A table is what the files resolve to.
     ensures resolves { IfOk result (FilesResolve (files_of files.now)) }
@@ -116,11 +137,9 @@ pub fn resolve_files(alloc: Global, files: &[Packed<'_>]) -> Result<Table, Files
     // A fault is the first one of the set.
     ensures fault { IfErr result (IsFaultOf (files_of files.now)) }
 {
-    one_join();
-    joined_is_sound();
-    table_or_files_fault();
-    let members = members(alloc, files)?;
-    let reach = reached(alloc, members.as_slice())?;
-    let parts = parts_of(alloc, files, members, &reach)?;
-    resolve_parts(alloc, reach.order.as_slice(), parts)
+    one_refused();
+    match first_refused(files) {
+        Some(file) => Err(FilesFault::Path { file }),
+        None => resolve_right(alloc, files),
+    }
 }

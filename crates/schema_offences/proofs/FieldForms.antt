@@ -50,7 +50,7 @@ misplaced_in_oneof f key value e t = is_misplaced_at f key value f.oneof e refl 
 
 pub in_some_oneof : (f : FieldDecl) (key value : Word) → f.kind ≡ Map key value → f.label ≡ Plain → IsMisplaced f
     → is_some f.oneof ≡ true
-in_some_oneof f key value e p (Members.nested k) = absurd cc
+in_some_oneof f key value e p (Members.nested k n) = absurd cc
 in_some_oneof f key value e p (Members.labelled a b k l) = absurd (l p)
 in_some_oneof f key value e p (Members.in_oneof a b o k is) = ap (λ (x : Option ℕ). is_some x) is
 

@@ -25,7 +25,7 @@ use Rattle.proto_file.specs.declared.joined.Home.TheVariants as home
 use Rattle.proto_file.specs.Joined.{Joined, alone, home_of, package_at}
 use Rattle.schema_names.specs.Scopes
 use Rattle.schema_names.specs.Scopes.{text_of, IsScope, of_file, of_message as in_message, Sort, a_message, no_type, is_type, message, Declares, IsFront, Finds}
-use Rattle.schema_offences.specs.Members.{MessageOffends, of_type, of_number, of_name, number_out_of_range, number_met_before, name_reserved, first_not_zero, bad_key, scalar_key, misplaced, nested, long_message, no_input, of_value}
+use Rattle.schema_offences.specs.Members.{MessageOffends, of_type, of_number, of_name, number_out_of_range, number_met_before, name_reserved, first_not_zero, bad_key, bad_outer_key, scalar_key, misplaced, nested, long_message, no_input, of_value}
 use Rattle.schema_offences.specs.Lines
 use Rattle.schema_offences.specs.Lines.{HasLine, PassesAt}
 use Rattle.schema_offences.specs.Offences
@@ -168,10 +168,21 @@ key_row =
 
 -- message M { map<int32, map<..>> a = 1; }
 abbrev map_of_maps : FieldDecl
-map_of_maps = field NestedMap (codes "a") 3 1 4
+map_of_maps = field (NestedMap (word (codes "int32") 1)) (codes "a") 3 1 4
 
 place_row : IsOffence (of_one (message_with (codes "M") (map_of_maps ∷ []) [])) MapPlace (at 3)
-place_row = in_one _ MapPlace (at 3) refl (of_type 0 map_of_maps refl (misplaced (nested refl) (refl, refl)))
+place_row = in_one _ MapPlace (at 3) refl (of_type 0 map_of_maps refl (misplaced (nested (word (codes "int32") 1) refl) (refl, refl)))
+
+-- message M { map<float, map<..>> a = 1; }
+abbrev float_map_of_maps : FieldDecl
+float_map_of_maps = field (NestedMap (word (codes "float") 1)) (codes "a") 3 1 4
+
+outer_key_row : IsOffence (of_one (message_with (codes "M") (float_map_of_maps ∷ []) [])) MapKey (at 1)
+outer_key_row =
+    in_one _ MapKey (at 1) refl
+    (of_type 0 float_map_of_maps refl
+    (bad_outer_key (word (codes "float") 1) refl
+    (scalar_key AFloat (record { is_one = refl; named = refl }) refl (refl, refl))))
 
 -- a message whose name has 65 bytes
 abbrev long_name : List ℕ

@@ -5,7 +5,7 @@ use Rattle.std.specs.List.{flat_map}
 use Rattle.std.proofs.lemmas.Option.{same_Some, none-some, slice_get_read}
 use Rattle.proto_file.specs.declared.file.Span.{Span}
 use Rattle.proto_file.specs.declared.file.Word.{Word}
-use Rattle.proto_file.specs.declared.file.FieldType.TheVariants.{Map}
+use Rattle.proto_file.specs.declared.file.FieldType.TheVariants.{Map, NestedMap}
 use Rattle.proto_file.specs.declared.file.FieldDecl.{FieldDecl}
 use Rattle.proto_file.specs.declared.file.MessageDecl.{MessageDecl}
 use Rattle.proto_file.specs.declared.file.EnumDecl.{EnumDecl}
@@ -74,12 +74,23 @@ module _ (F : Joined) (s : Span) where
   key_stands G file scope i j m f k v q at fat e (Members.type_key a b c d is) =
       (field_decl i j, its_key, Together.field i j m f at fat (Order.map_key k v e is.1))
 
+  outer_stands : (G : Joined) (file : ℕ) (scope : List (List ℕ)) (i j : ℕ) (m : MessageDecl) (f : FieldDecl) (k : Word)
+      (q : ResolveReason) → slice_get F.messages i ≡ Some m → slice_get m.fields j ≡ Some f
+      → f.kind ≡ NestedMap k → KeyOffends G file scope k q s → Stands F s
+  outer_stands G file scope i j m f k q at fat e (Members.unknown_key o) =
+      (field_decl i j, its_key, Together.field i j m f at fat (Order.outer_key k e o.is.1))
+  outer_stands G file scope i j m f k q at fat e (Members.scalar_key n a b is) =
+      (field_decl i j, its_key, Together.field i j m f at fat (Order.outer_key k e is.1))
+  outer_stands G file scope i j m f k q at fat e (Members.type_key a b c d is) =
+      (field_decl i j, its_key, Together.field i j m f at fat (Order.outer_key k e is.1))
+
   type_stands : (G : Joined) (file : ℕ) (scope : List (List ℕ)) (i j : ℕ) (m : MessageDecl) (f : FieldDecl)
       (q : ResolveReason) → slice_get F.messages i ≡ Some m → slice_get m.fields j ≡ Some f
       → TypeOffends G file scope f q s → Stands F s
   type_stands G file scope i j m f q at fat (Members.unknown_type w e o) =
       (field_decl i j, its_type, Together.field i j m f at fat (Order.field_type w e o.is.1))
   type_stands G file scope i j m f q at fat (Members.bad_key k v e o) = key_stands G file scope i j m f k v q at fat e o
+  type_stands G file scope i j m f q at fat (Members.bad_outer_key k e o) = outer_stands G file scope i j m f k q at fat e o
   type_stands G file scope i j m f q at fat (Members.unknown_value k v e o) =
       (field_decl i j, its_value, Together.field i j m f at fat (Order.map_value k v e o.is.1))
   type_stands G file scope i j m f q at fat (Members.misplaced o is) =

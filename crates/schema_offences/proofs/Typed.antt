@@ -107,14 +107,14 @@ meets_no_key F file scope key a b none noted =
 abbrev pub KindOffends : Joined → ℕ → List (List ℕ) → FieldType → ResolveReason → Span → Type 0
 KindOffends F file scope (Named w) q s = IsNoType F file scope w q s
 KindOffends F file scope (Map k v) q s = KeyOffends F file scope k q s ⊎ IsNoType F file scope v q s
-KindOffends F file scope NestedMap q s = ⊥
+KindOffends F file scope (NestedMap k) q s = KeyOffends F file scope k q s
 
 kind_to : (F : Joined) (file : ℕ) (scope : List (List ℕ)) (f : FieldDecl) (kind : FieldType) → f.kind ≡ kind
     → (q : ResolveReason) (s : Span) → KindOffends F file scope kind q s → TypeOffends F file scope f q s
 kind_to F file scope f (Named w) e q s p = Members.unknown_type w e p
 kind_to F file scope f (Map k v) e q s (inl p) = Members.bad_key k v e p
 kind_to F file scope f (Map k v) e q s (inr p) = Members.unknown_value k v e p
-kind_to F file scope f NestedMap e q s p = absurd p
+kind_to F file scope f (NestedMap k) e q s p = Members.bad_outer_key k e p
 
 pub type_to : (F : Joined) (file : ℕ) (scope : List (List ℕ)) (f : FieldDecl) (q : ResolveReason) (s : Span)
     → (KindOffends F file scope f.kind q s ⊎ (IsMisplaced f × Is MapPlace f.name.span q s))
@@ -129,6 +129,8 @@ type_from F file scope f q s (Members.unknown_type w e p) =
     inl (subst (λ (k : FieldType). KindOffends F file scope k q s) (sym e) p)
 type_from F file scope f q s (Members.bad_key k v e p) =
     inl (subst (λ (k : FieldType). KindOffends F file scope k q s) (sym e) (inl p))
+type_from F file scope f q s (Members.bad_outer_key k e p) =
+    inl (subst (λ (x : FieldType). KindOffends F file scope x q s) (sym e) p)
 type_from F file scope f q s (Members.unknown_value k v e p) =
     inl (subst (λ (k : FieldType). KindOffends F file scope k q s) (sym e) (inr p))
 type_from F file scope f q s (Members.misplaced p is) = inr (p, is)

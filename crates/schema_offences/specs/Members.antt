@@ -55,7 +55,7 @@ pub data KeyOffends (F : Joined) (file : ℕ) (scope : List (List ℕ)) (key : W
 
 -- a map as a map's value, under a label, or in a oneof
 pub data IsMisplaced (f : FieldDecl) : Type 0 where
-  nested : f.kind ≡ NestedMap → IsMisplaced f
+  nested : (key : Word) → f.kind ≡ NestedMap key → IsMisplaced f
   labelled : (key value : Word) → f.kind ≡ Map key value → f.label ≢ Plain → IsMisplaced f
   in_oneof : (key value : Word) (o : ℕ) → f.kind ≡ Map key value → f.oneof ≡ Some o → IsMisplaced f
 
@@ -63,6 +63,8 @@ pub data TypeOffends (F : Joined) (file : ℕ) (scope : List (List ℕ)) (f : Fi
     (s : Span) : Type 0 where
   unknown_type : (w : Word) → f.kind ≡ Named w → IsNoType F file scope w q s → TypeOffends F file scope f q s
   bad_key : (k v : Word) → f.kind ≡ Map k v → KeyOffends F file scope k q s → TypeOffends F file scope f q s
+  -- of a map as a map's value nothing else is judged
+  bad_outer_key : (k : Word) → f.kind ≡ NestedMap k → KeyOffends F file scope k q s → TypeOffends F file scope f q s
   unknown_value : (k v : Word) → f.kind ≡ Map k v → IsNoType F file scope v q s → TypeOffends F file scope f q s
   misplaced : IsMisplaced f → Is MapPlace f.name.span q s → TypeOffends F file scope f q s
 

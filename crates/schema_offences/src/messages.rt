@@ -67,7 +67,7 @@ fn note_types<'a>(
             note_key(scopes, file, message, key, first);
             note_type(scopes, file, message, value, first);
         }
-        FieldType::NestedMap => {}
+        FieldType::NestedMap { key } => note_key(scopes, file, message, key, first),
     }
     first.note_if(
         is_misplaced_map(field),

@@ -99,7 +99,7 @@ pub fn is_misplaced_map(field: &FieldDecl) -> bool
     match field.kind {
         FieldType::Named(_) => false,
         FieldType::Map { .. } => field.label != FieldLabel::Plain || field.oneof.is_some(),
-        FieldType::NestedMap => true,
+        FieldType::NestedMap { .. } => true,
     }
 }
 
@@ -147,6 +147,6 @@ pub fn form_of<'a>(
                 type_of,
             })
         }
-        FieldType::NestedMap => None,
+        FieldType::NestedMap { .. } => None,
     }
 }

@@ -119,7 +119,7 @@ module _ (F : Joined) (i : ℕ) (m : MessageDecl) (scope : List (List ℕ)) (f :
   form_at (Named w) is none = named_form w is none
   form_at (Map key value) is none =
       map_form key value is (map_label key value f.label is refl) (map_oneof key value f.oneof is refl) none
-  form_at NestedMap is none = well_typed MapPlace f.name.span (misplaced (nested is) (refl, refl))
+  form_at (NestedMap key) is none = well_typed MapPlace f.name.span (misplaced (nested key is) (refl, refl))
 
   pub has_form : ((label : Label) (word : List ℕ) → HasForm F m.file scope f label word → ⊥) → ⊥
   has_form none = form_at f.kind refl none

@@ -32,6 +32,7 @@ type_ranked : {F : Joined} {file : ℕ} {scope : List (List ℕ)} {f : FieldDecl
     → TypeOffends F file scope f q s → rank_of q ≤ 9
 type_ranked {q = q} {s = s} (Members.unknown_type w e n) = ranked UnknownName q _ s (omega arith) n.is
 type_ranked (Members.bad_key k v e o) = key_ranked o
+type_ranked (Members.bad_outer_key k e o) = key_ranked o
 type_ranked {q = q} {s = s} (Members.unknown_value k v e n) = ranked UnknownName q _ s (omega arith) n.is
 type_ranked {q = q} {s = s} (Members.misplaced m is) = ranked MapPlace q _ s (omega arith) is
 

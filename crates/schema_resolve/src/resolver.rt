@@ -1,9 +1,10 @@
 //! The table of a file alone, or its first offence.
 
-ghost use Rattle.std.specs.Prelude.{◌≡◌, List, ℕ, IfOk, IfErr, MatchResult};
+ghost use Rattle.std.specs.Prelude.{◌≡◌, IfOk, IfErr, MatchResult};
 ghost use Rattle.mrpc_table.specs.declared.table.Table.{Table};
 ghost use Rattle.mrpc_table.specs.Valid.{IsValid};
-ghost use Rattle.proto_schema.specs.Faults.{IsTextOf};
+ghost use Rattle.proto_file.specs.Joined.{alone};
+ghost use Rattle.proto_file.specs.Together.{IsFormed, IsOrdered};
 ghost use Rattle.schema_resolve.specs.Resolving.{Resolves, IsFaultOf};
 ghost use Rattle.schema_resolve.specs.declared.fault.ResolveFault.TheVariants as faults;
 
@@ -13,12 +14,11 @@ use crate::laws::one_table;
 use crate::table::table_of;
 use mrpc_table::Table;
 use proto_file::{File, Joined};
-use proto_schema::alone_is_ordered;
 use schema_names::Scopes;
 use schema_offences::{first_offence, with_import};
 use std::alloc::Global;
 
-/// The table of a file that was read, or the offence that starts first: of several at one place, the first one in the
+/// The table of a well-formed file in order, as each one is that was read, or the offence that starts first: of several at one place, the first one in the
 /// list of [`ResolveReason`]. Without memory it answers `Memory`.
 ///
 /// The methods have the indices of the file's order, from 0. An `optional` message is plain, and a repeated field of
@@ -26,7 +26,8 @@ use std::alloc::Global;
 ///
 /// [`ResolveReason`]: schema_offences::ResolveReason
 pub fn resolve(alloc: Global, file: &File) -> Result<Table, ResolveFault>
-    requires read { (text : List ℕ) × IsTextOf text file.now }
+    requires formed { IsFormed (alone file.now) }
+    requires ordered { IsOrdered (alone file.now) }
     // A table is what the file resolves to.
     ensures resolves { IfOk result (λ t. Resolves file.now t) }
     // It is valid.
@@ -36,7 +37,6 @@ pub fn resolve(alloc: Global, file: &File) -> Result<Table, ResolveFault>
     // An offence is the file's first one.
     ensures offence { IfErr result (λ e. IsFaultOf file.now e) }
 {
-    alone_is_ordered();
     one_table();
     let heads = head_of(alloc, file)?;
     let files = Joined::new(

@@ -20,3 +20,11 @@ pub returns-in-Err-At-resolve-clause-fault : goal.returns-in-Err-At-resolve-clau
 returns-in-Err-At-resolve-clause-fault c =
     let first = rw c.in-Err-At-resolve.field-0-is at c.in-Err-At-resolve.ensures.offence in
     file_fault _ _ _ _ _ _ c.requires.alone c.in-Ok.ensures.reads first c.in-Err-At-resolve.line-is (c.word-in-Err-At-resolve.ensures ∙ ap resolve_word c.in-Err-At-resolve.reason-is)
+
+pub resolve-requires-clause-formed : goal.resolve-requires-clause-formed
+resolve-requires-clause-formed c =
+    c.alone_is_ordered.ensures.formed c.args.text.now c.in-Ok.file c.in-Ok.ensures.reads
+
+pub resolve-requires-clause-ordered : goal.resolve-requires-clause-ordered
+resolve-requires-clause-ordered c =
+    c.alone_is_ordered.ensures.ordered c.args.text.now c.in-Ok.file c.in-Ok.ensures.reads

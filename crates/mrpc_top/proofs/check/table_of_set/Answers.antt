@@ -1,19 +1,13 @@
 use Rattle.std.proofs.Common.{◌∙◌, ℕ, ◌+◌, ◌<◌, ◌^◌, List, length, ap, sym, subst, arith}
 use Rattle.std.specs.Prelude.{sum_by}
-use Rattle.mrpc_table.specs.Valid.{AreDistinct}
-use Rattle.file_bundle.specs.Bundle.{paths_of}
 use Rattle.file_bundle.specs.Packed.{files_of}
 use Rattle.file_bundle.specs.declared.packed.Packed.{Packed}
 use Rattle.schema_files.specs.Reason.{files_word}
 use Rattle.schema_files.specs.Resolving.{FilesResolve}
 use Rattle.mrpc_top.specs.Checking.ChecksAs.{a_set}
 use Rattle.mrpc_top.proofs.CheckFaults.{fault_in_file, missing_file, refused_path}
-use Rattle.mrpc_top.proofs.SetPaths.{set_paths, set_short}
+use Rattle.mrpc_top.proofs.SetSizes.{set_short}
 use Rattle.mrpc_top.proofs.check.table_of_set.Goals as goal
-
-pub resolve_files-requires-clause-distinct : goal.resolve_files-requires-clause-distinct
-resolve_files-requires-clause-distinct c =
-    subst (λ (ps : List Packed). AreDistinct (paths_of (files_of ps))) (sym c.as_slice.ensures.value) (set_paths c.in-Ok.ensures.read)
 
 pub resolve_files-requires-clause-small : goal.resolve_files-requires-clause-small
 resolve_files-requires-clause-small c =
@@ -23,13 +17,15 @@ resolve_files-requires-clause-small c =
 pub returns-in-Err-Bundle-clause-fault : goal.returns-in-Err-Bundle-clause-fault
 returns-in-Err-Bundle-clause-fault c =
     let e = c.in-Err-Bundle in
-    missing_file c.args.text.now e.field-0 e.file c.from.result c.requires.set e.ensures.fault e.field-0-is (c.from.ensures ∙ e.file-is)
+    let found = rw e.field-0-is at e.ensures.fault in
+    missing_file c.args.text.now _ c.from.result c.requires.set found (c.from.ensures ∙ e.file-is)
 
 pub returns-in-Err-Path-clause-fault : goal.returns-in-Err-Path-clause-fault
 returns-in-Err-Path-clause-fault c =
-    let e = c.in-Err-Path in
-    refused_path c.args.text.now e.field-0 e.file c.from-in-Err-Path.result c.requires.set e.ensures.fault e.field-0-is
-    (c.from-in-Err-Path.ensures ∙ e.file-is)
+    let found = rw c.in-Err-Path.field-0-is at c.in-Err-Path.ensures.fault in
+    let stands = rw c.as_slice.ensures.value at found in
+    refused_path c.args.text.now (files_of c.in-Ok.files.items) _ _ c.requires.set c.in-Ok.ensures.read stands
+    (ap (λ (n : ℕ). n + 1) c.in-Err-Path.file-is)
 
 pub returns-in-Ok-resolve_files-clause-checked : goal.returns-in-Ok-resolve_files-clause-checked
 returns-in-Ok-resolve_files-clause-checked c = (

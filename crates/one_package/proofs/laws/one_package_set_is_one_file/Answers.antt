@@ -14,9 +14,10 @@ returns-clause-one_file c files ps G T joins one r =
     (subst (λ (xs : List Part). ResolvesTogether (joined xs) T) same r.resolves)
 
 pub returns-clause-several : goal.returns-clause-several
-returns-clause-several c files ps G T joins one r =
+returns-clause-several c files ps G T right joins one r =
     let sound : AreSound ps = c.joined_is_sound.ensures files ps joins in
     record {
+      paths = right;
       parts = ps;
       joins = joins;
       resolves = c.one_package_is_one_file.ensures.several (joined ps) G T (c.joined_is_ordered.ensures.formed ps sound)

@@ -1,91 +1,11 @@
-use Rattle.std.proofs.Common.{◌<◌, ◌∙◌, List, length, sym, ap, subst, arith}
-use Rattle.std.proofs.lemmas.Result.{err_from_is_err_and}
 use Rattle.file_bundle.specs.Packed.{files_of}
-use Rattle.proto_imports.specs.Reaching.{HaveOwnPaths}
-use Rattle.proto_imports.specs.declared.set.Member.{Member}
-use Rattle.proto_join.specs.Joining.{joined}
-use Rattle.proto_join.specs.declared.part.Part.{Part}
-use Rattle.schema_resolve.specs.Resolving.{ResolvesTogether}
-use Rattle.schema_files.specs.Joined.{ReadAs}
-use Rattle.schema_files.proofs.Sizes.{parts_most}
-use Rattle.schema_files.proofs.Taken.{as_many, some_members}
-use Rattle.schema_files.proofs.Whole.{own_paths, join_up, resolves_all, memory_only}
+use Rattle.schema_files.proofs.Whole.{faults_right}
 use Rattle.schema_files.proofs.resolver.resolve_files.Goals as goal
 
-pub returns-in_err-members-clause-only : goal.returns-in_err-members-clause-only
-returns-in_err-members-clause-only c = λ t R.
-    let p = err_from_is_err_and c.from_residual.result c.from_residual.ensures.1 in
-    rw (p.1, p.2)
-    (memory_only c.table_or_files_fault.ensures.never_both (files_of c.args.files.now) c.requires.distinct t R
-    c.in_err-members.field-0.0 c.in_err-members.ensures.fault)
+pub returns-in-None-clause-fault : goal.returns-in-None-clause-fault
+returns-in-None-clause-fault c =
+    faults_right (files_of c.args.files.now) c.in-None.ensures.none c.resolve_right.result c.resolve_right.ensures.fault
 
-pub reached-requires-clause-some : goal.reached-requires-clause-some
-reached-requires-clause-some c =
-    subst (λ (xs : List Member). 0 < length xs) (sym c.as_slice.ensures.value)
-    (some_members c.args.files.now c.in_ok-members.members.items c.requires.some c.in_ok-members.ensures.read)
-
-pub reached-requires-clause-few : goal.reached-requires-clause-few
-reached-requires-clause-few c =
-    omega (
-      arith,
-      c.requires.few,
-      as_many c.args.files.now c.in_ok-members.members.items c.in_ok-members.ensures.read,
-      ap (λ (xs : List Member). length xs) c.as_slice.ensures.value,
-    )
-
-pub reached-requires-clause-distinct : goal.reached-requires-clause-distinct
-reached-requires-clause-distinct c =
-    subst HaveOwnPaths (sym c.as_slice.ensures.value)
-    (own_paths (files_of c.args.files.now) c.in_ok-members.members.items c.in_ok-members.ensures.read
-    c.requires.distinct)
-
-pub returns-in_err-reach-clause-only : goal.returns-in_err-reach-clause-only
-returns-in_err-reach-clause-only c = λ t R.
-    let files = c.args.files.now in
-    let p = err_from_is_err_and c.from_residual-in_err-reach.result c.from_residual-in_err-reach.ensures.1 in
-    rw (p.1, p.2)
-    (memory_only c.table_or_files_fault.ensures.never_both (files_of files) c.requires.distinct t R c.in_err-reach.field-0.0
-    (c.in_err-reach.ensures.fault (files_of files)
-    (subst (λ (ms : List Member). ReadAs (files_of files) ms) (sym c.as_slice.ensures.value)
-    c.in_ok-members.ensures.read)))
-
-pub resolve_parts-requires-clause-small : goal.resolve_parts-requires-clause-small
-resolve_parts-requires-clause-small c =
-    let most = parts_most c.args.files.now c.in_ok-members.members.items c.in_ok-reach.reach c.in_ok-parts.parts.items
-    c.in_ok-reach.ensures.reach.order.once c.in_ok-parts.ensures in
-    omega (arith, most, c.requires.small)
-
-pub resolve_parts-requires-clause-sound : goal.resolve_parts-requires-clause-sound
-resolve_parts-requires-clause-sound c =
-    let files = c.args.files.now in
-    let j = join_up (files_of files) c.in_ok-members.members.items c.as_slice.result.now c.in_ok-reach.reach
-    c.in_ok-parts.parts.items c.as_slice.ensures.value c.in_ok-members.ensures.read c.in_ok-reach.ensures.reach
-    c.in_ok-parts.ensures in
-    c.joined_is_sound.ensures (files_of files) c.in_ok-parts.parts.items j.joins
-
-pub returns-clause-resolves : goal.returns-clause-resolves
-returns-clause-resolves c =
-    let files = c.args.files.now in
-    let j = join_up (files_of files) c.in_ok-members.members.items c.as_slice.result.now c.in_ok-reach.reach
-    c.in_ok-parts.parts.items c.as_slice.ensures.value c.in_ok-members.ensures.read c.in_ok-reach.ensures.reach
-    c.in_ok-parts.ensures in
-    resolves_all (files_of files) c.in_ok-parts.parts.items j.joins c.resolve_parts.result
-    c.resolve_parts.ensures.resolves
-
-pub returns-clause-only : goal.returns-clause-only
-returns-clause-only c = λ t R.
-    let files = c.args.files.now in
-    let ps = c.in_ok-parts.parts.items in
-    let j = join_up (files_of files) c.in_ok-members.members.items c.as_slice.result.now c.in_ok-reach.reach ps
-    c.as_slice.ensures.value c.in_ok-members.ensures.read c.in_ok-reach.ensures.reach c.in_ok-parts.ensures in
-    c.resolve_parts.ensures.only t
-    (subst (λ (xs : List Part). ResolvesTogether (joined xs) t)
-    (c.one_join.ensures (files_of files) R.parts ps R.joins j.joins) R.resolves)
-
-pub returns-clause-fault : goal.returns-clause-fault
-returns-clause-fault c =
-    let files = c.args.files.now in
-    let j = join_up (files_of files) c.in_ok-members.members.items c.as_slice.result.now c.in_ok-reach.reach
-    c.in_ok-parts.parts.items c.as_slice.ensures.value c.in_ok-members.ensures.read c.in_ok-reach.ensures.reach
-    c.in_ok-parts.ensures in
-    c.resolve_parts.ensures.fault (files_of files) j.joins (j.order ∙ sym c.as_slice-2.ensures)
+pub returns-in-Some-clause-only : goal.returns-in-Some-clause-only
+returns-in-Some-clause-only c = λ t R.
+    absurd (c.one_refused.ensures.never_both (files_of c.args.files.now) c.in-Some.file R.paths c.in-Some.ensures.first)

@@ -1,11 +1,10 @@
 use Rattle.std.proofs.Common.{sym, subst}
 use Rattle.proto_file.specs.declared.file.FieldType.{FieldType}
-use Rattle.proto_file.specs.declared.file.FieldType.TheVariants.{NestedMap}
 use Rattle.schema_offences.specs.declared.first.First.{First}
 use Rattle.schema_offences.specs.Members.{IsMisplaced, IsNoType, KeyOffends, TypeOffends}
 use Rattle.schema_offences.specs.Meeting.{Meets}
 use Rattle.schema_offences.specs.declared.reason.ResolveReason.TheVariants.{MapPlace}
-use Rattle.schema_offences.proofs.Meetings.{meets_then, meets_as, meets_when, meets_none}
+use Rattle.schema_offences.proofs.Meetings.{meets_then, meets_as, meets_when}
 use Rattle.schema_offences.proofs.Typed.{KindOffends, type_to, type_from}
 use Rattle.schema_offences.proofs.messages.note_types.Goals as goal
 use Rattle.schema_offences.proofs.messages.note_types.Goals.{in-Named, in-Map, in-NestedMap}
@@ -31,9 +30,9 @@ returns c scope h =
           w.note_type-in-Map.new.first (w.note_key.ensures scope h) (w.note_type-in-Map.ensures scope h)))
       | in-NestedMap w ↦
           subst (λ (b : First). Meets (KindOffends F file scope f.kind) c.args.first.now b) (sym w.first-is)
-          (subst (λ (k : FieldType). Meets (KindOffends F file scope k) c.args.first.now c.args.first.now)
+          (subst (λ (k : FieldType). Meets (KindOffends F file scope k) c.args.first.now w.note_key-in-NestedMap.new.first)
           (sym w.in-NestedMap.is)
-          (meets_none (KindOffends F file scope NestedMap) c.args.first.now (λ q s p. p)))
+          (w.note_key-in-NestedMap.ensures scope h))
     ] in
     meets_as _ (TypeOffends F file scope f) c.args.first.now c.note_if.new.self
     (meets_then _ _ _ _ _ kind

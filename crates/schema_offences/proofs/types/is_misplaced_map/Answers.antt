@@ -1,5 +1,5 @@
 -- A map stands under no label but `Plain`, and in no oneof.
-use Rattle.std.proofs.Common.{sym, ◌∙◌}
+use Rattle.std.proofs.Common.{refl, sym, ◌∙◌}
 use Rattle.schema_offences.specs.Members
 use Rattle.schema_offences.proofs.FieldForms.{is_plain, isnt_plain, misplaced_in_oneof, in_some_oneof}
 use Rattle.schema_offences.proofs.types.is_misplaced_map.Goals as goal
@@ -17,3 +17,6 @@ returns-else-ne c =
       λ t. misplaced_in_oneof c.args.field.now c.in-Map.key c.in-Map.value c.in-Map.is (sym c.is_some.ensures ∙ t),
       λ m. c.is_some.ensures ∙ in_some_oneof c.args.field.now c.in-Map.key c.in-Map.value c.in-Map.is plain m,
     )
+
+pub returns-in-NestedMap : goal.returns-in-NestedMap
+returns-in-NestedMap c = (λ t. Members.nested c.in-NestedMap.key c.in-NestedMap.is, λ m. refl)

@@ -5,9 +5,9 @@ use Rattle.schema_resolve.proofs.laws.table_or_offence.Goals as goal
 
 pub returns : goal.returns
 returns c = record {
-  not_neither = λ text F of no_table no_first.
+  not_neither = λ F formed ordered no_table no_first.
       let none = no_offence F no_first in
-      table_exists (alone F) (c.alone_is_ordered.ensures.formed text F of) (c.alone_is_ordered.ensures.ordered text F of)
+      table_exists (alone F) formed ordered
       (λ q s is. none q s (offends is)) (λ T. no_table T.0 (record { table = T.1.table; clean = none }));
   not_neither_of_all = λ F formed ordered no_table no_first.
       table_exists F formed ordered (none_of_all F no_first) (λ T. no_table T.0 T.1);

@@ -14,7 +14,7 @@ new-requires c =
     is_alone F c.new-files.result _ _ _ _ c.new-files.ensures (c.as_slice.ensures ∙ c.in_ok-heads.ensures)
     c.as_slice-2.ensures c.as_slice-3.ensures c.as_slice-4.ensures in
     stands_behind c.new-files.result
-    (subst IsFormed (sym same) (c.alone_is_ordered.ensures.formed c.requires.read.0 F c.requires.read.1))
+    (subst IsFormed (sym same) c.requires.formed)
 
 pub first_offence-requires-clause-formed : goal.first_offence-requires-clause-formed
 first_offence-requires-clause-formed c =
@@ -22,7 +22,7 @@ first_offence-requires-clause-formed c =
     let same : c.new-files.result ≡ alone F =
     is_alone F c.new-files.result _ _ _ _ c.new-files.ensures (c.as_slice.ensures ∙ c.in_ok-heads.ensures)
     c.as_slice-2.ensures c.as_slice-3.ensures c.as_slice-4.ensures in
-    subst IsFormed (sym same) (c.alone_is_ordered.ensures.formed c.requires.read.0 F c.requires.read.1)
+    subst IsFormed (sym same) c.requires.formed
 
 pub first_offence-requires-clause-ordered : goal.first_offence-requires-clause-ordered
 first_offence-requires-clause-ordered c =
@@ -30,7 +30,7 @@ first_offence-requires-clause-ordered c =
     let same : c.new-files.result ≡ alone F =
     is_alone F c.new-files.result _ _ _ _ c.new-files.ensures (c.as_slice.ensures ∙ c.in_ok-heads.ensures)
     c.as_slice-2.ensures c.as_slice-3.ensures c.as_slice-4.ensures in
-    subst IsOrdered (sym same) (c.alone_is_ordered.ensures.ordered c.requires.read.0 F c.requires.read.1)
+    subst IsOrdered (sym same) c.requires.ordered
 
 pub table_of-requires-clause-formed : goal.table_of-requires-clause-formed
 table_of-requires-clause-formed c =
@@ -38,7 +38,7 @@ table_of-requires-clause-formed c =
     let same : c.new-files.result ≡ alone F =
     is_alone F c.new-files.result _ _ _ _ c.new-files.ensures (c.as_slice.ensures ∙ c.in_ok-heads.ensures)
     c.as_slice-2.ensures c.as_slice-3.ensures c.as_slice-4.ensures in
-    subst IsFormed (sym same) (c.alone_is_ordered.ensures.formed c.requires.read.0 F c.requires.read.1)
+    subst IsFormed (sym same) c.requires.formed
 
 pub table_of-requires-clause-ordered : goal.table_of-requires-clause-ordered
 table_of-requires-clause-ordered c =
@@ -46,7 +46,7 @@ table_of-requires-clause-ordered c =
     let same : c.new-files.result ≡ alone F =
     is_alone F c.new-files.result _ _ _ _ c.new-files.ensures (c.as_slice.ensures ∙ c.in_ok-heads.ensures)
     c.as_slice-2.ensures c.as_slice-3.ensures c.as_slice-4.ensures in
-    subst IsOrdered (sym same) (c.alone_is_ordered.ensures.ordered c.requires.read.0 F c.requires.read.1)
+    subst IsOrdered (sym same) c.requires.ordered
 
 pub table_of-requires-clause-clean : goal.table_of-requires-clause-clean
 table_of-requires-clause-clean c =
@@ -68,5 +68,5 @@ returns-clause-only c = λ t r.
     c.as_slice-2.ensures c.as_slice-3.ensures c.as_slice-4.ensures in
     let u = c.in_ok-table_of-in-None.field-0 in
     let P : Joined → Type 0 = λ J. IsTableOf J u in
-    c.one_table.ensures (alone F) u t (c.alone_is_ordered.ensures.ordered c.requires.read.0 F c.requires.read.1)
+    c.one_table.ensures (alone F) u t c.requires.ordered
     (subst P same c.in_ok-table_of-in-None.ensures) r.table
