@@ -61,7 +61,7 @@ begin_again seq row = map (λ call. (call.0, if nat_lt call.0 seq then call.1 el
 
 -- one call is gone
 abbrev pub without_call : ℕ → Row → Row
-without_call seq row = filter (λ call. not (call.0 == seq)) row
+without_call seq row = filter (λ call. not (seq == call.0)) row
 
 -- the position of the entry of a name; the number of entries where there is none
 abbrev pub place_of : List ℕ → List Entry → ℕ
