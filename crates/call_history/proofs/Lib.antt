@@ -1,8 +1,11 @@
 mod Coursed
 mod Further
 mod Going
+mod Holding
 mod Looking
 mod Prefixes
 mod Rowed
 mod Rows
+mod Sending
+mod Showing
 mod Standing

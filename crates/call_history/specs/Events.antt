@@ -1,7 +1,8 @@
 -- What one step of a connection adds to its history, and how it moves its calls along the chain (this project's own).
-use Rattle.std.specs.Prelude.{◌≡◌, ℕ, ◌+◌, ◌-◌, ◌<◌, ◌≤◌, ◌==◌, nat_lt, min, not, Bool, true, false, List, [], ◌∷◌, ◌++◌, filter, find, length, map, reverse, if◌then◌else◌, Option, Some, None, slice_get}
+use Rattle.std.specs.Prelude.{◌≡◌, ℕ, ◌+◌, ◌-◌, ◌<◌, ◌≤◌, ◌==◌, nat_lt, min, not, Bool, true, false, List, [], ◌∷◌, ◌++◌, filter, find, All, Contains, length, map, if◌then◌else◌, Option, Some, None, slice_get}
 use Rattle.policy_access.specs.Verdict.{rule_name}
 use Rattle.policy_access.specs.declared.call.Call.{Call}
+use Rattle.engine_core.specs.Answers.{nothing}
 use Rattle.engine_core.specs.Chains.{Changes, Entry}
 use Rattle.engine_core.specs.Turns.{ComesOut}
 use Rattle.engine_core.specs.declared.op.Op.{Op as Step}
@@ -14,7 +15,7 @@ use Rattle.engine_core.specs.declared.outcome.Why.{Why}
 use Rattle.engine_core.specs.declared.outcome.Why.TheVariants.{Denied, Short, Over}
 use Rattle.engine_core.specs.declared.policy.Policy.{Policy}
 use Rattle.engine_core.specs.declared.policy.Policy.TheVariants.{Access}
-use Rattle.call_history.specs.Behind.{Behind, chain, changed, is_named, moment, level, noted, standing, has_failed, form}
+use Rattle.call_history.specs.Behind.{Behind, chain, changed, is_named, moment, level, noted, noted_calls, standing, has_failed, form}
 use Rattle.call_history.specs.Legal.{IsLegalBehind}
 use Rattle.call_history.specs.Places.{ArePlaces}
 use Rattle.call_history.specs.Rules.{Under, MayTake, IsSentNext}
@@ -130,9 +131,10 @@ accepted call c = elim call.copy [
   | Malformed reason place value ↦ record c { past = Refused call.seq cause.Malformed ∷ Took call ∷ c.past }
 ]
 
--- all calls that stand are refused for the link, in order
-abbrev pub link_refusals : List Taken → List Happening
-link_refusals calls = map (λ call. Refused call.seq cause.Transport) calls
+-- calls are refused for the link, one after another
+abbrev pub refused_for_link : List Taken → Behind → Behind
+refused_for_link [] past = past
+refused_for_link (call ∷ calls) past = refused_for_link calls (Refused call.seq cause.Transport ∷ past)
 
 -- the entry at a position has a turn with the first call there
 pub record HasTurn (u : Under) (c : Course) (position seq : ℕ) (outcome : Outcome) (e : Entry) : Type 0 where
@@ -164,7 +166,7 @@ pub data Comes (u : Under) (old : Course) (event : Event) (new : Course) : Type 
       → new ≡ record old { past = Sent seq bytes ∷ old.past; row = without_call seq old.row } → Comes u old event new
   -- the calls that stand are refused
   link_failed : event ≡ fails
-      → new ≡ record { past = reverse (link_refusals (standing old.past)) ++ old.past; row = []; ended = true }
+      → new ≡ record { past = refused_for_link (standing old.past) old.past; row = []; ended = true }
       → Comes u old event new
 
 -- events lead from one course to another, one after the other
@@ -176,11 +178,17 @@ Lead u old (event ∷ events) new = (next : Course) × Comes u old event next ×
 abbrev pub beginning : Course
 beginning = record { past = []; row = []; ended = false }
 
+-- a call that stands and of which an entry has noted nothing comes behind all calls that it has noted
+abbrev pub NotesAscend : Behind → Type 0
+NotesAscend past = (name : List ℕ) (seq : ℕ) → Contains (map (λ call. call.seq) (standing past)) seq
+    → noted name seq past ≡ nothing → All (λ other. other < seq) (noted_calls name past)
+
 -- What holds of a connection between two steps: its history is legal, its row has exactly the calls that stand, in
--- order, at places where they may stand, and behind a failed link none stands.
+-- order, at places where they may stand, entries note calls in order, and behind a failed link none stands.
 pub record IsCourse (u : Under) (c : Course) : Type 0 where
   pub legal : IsLegalBehind u c.past
   pub calls : map (λ call. call.0) c.row ≡ map (λ call. call.seq) (standing c.past)
   pub places : ArePlaces u c.past (map (λ call. call.1) c.row)
+  pub notes_ascend : NotesAscend c.past
   pub failed : has_failed c.past ≡ true → c.ended ≡ true
   pub none_left : c.ended ≡ true → c.row ≡ []
