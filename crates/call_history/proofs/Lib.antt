@@ -1,4 +1,6 @@
+mod Accepting
 mod Coursed
+mod Failing
 mod Further
 mod Going
 mod Holding
