@@ -1,6 +1,8 @@
 mod Accepting
+mod Chained
 mod Coursed
 mod Failing
+mod Fitting
 mod Further
 mod Going
 mod Holding
