@@ -7,6 +7,7 @@ mod Further
 mod Going
 mod Holding
 mod Looking
+mod Noting
 mod Prefixes
 mod Rowed
 mod Rows
