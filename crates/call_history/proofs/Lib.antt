@@ -8,6 +8,7 @@ mod Going
 mod Holding
 mod Looking
 mod Noting
+mod Passing
 mod Prefixes
 mod Rowed
 mod Rows

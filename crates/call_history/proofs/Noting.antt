@@ -79,17 +79,19 @@ pub record IsNote (past new : Behind) (seq : ℕ) (name : List ℕ) (n : Noted) 
   pub entries : (chain new).entries ≡ (chain past).entries
   pub forms : (conn s : ℕ) → form conn s new ≡ form conn s past
   pub standing_same : standing new ≡ standing past
+  pub taken_same : taken new ≡ taken past
+  pub failed_same : has_failed new ≡ has_failed past
   pub noted_is : (other : List ℕ) (s : ℕ) → noted other s new ≡ cond ((seq == s) && bytes_eq name other) (past_by n) (noted other s past)
   pub calls_is : (other : List ℕ) → noted_calls other new ≡ cond (bytes_eq name other) (seq ∷ noted_calls other past) (noted_calls other past)
 
 pub charge-note : (past : Behind) (seq : ℕ) (name : List ℕ) (left : ℕ) → IsNote past (Charged seq name left ∷ past) seq name (notes.Charged left)
-charge-note past seq name left = record { entries = refl; forms = λ conn s. refl; standing_same = refl; noted_is = λ other s. refl; calls_is = λ other. refl }
+charge-note past seq name left = record { entries = refl; forms = λ conn s. refl; standing_same = refl; taken_same = refl; failed_same = refl; noted_is = λ other s. refl; calls_is = λ other. refl }
 
 pub draw-note : (past : Behind) (seq : ℕ) (name : List ℕ) (window ticket : ℕ) → IsNote past (Drawn seq name window ticket ∷ past) seq name (notes.Drawn window ticket)
-draw-note past seq name window ticket = record { entries = refl; forms = λ conn s. refl; standing_same = refl; noted_is = λ other s. refl; calls_is = λ other. refl }
+draw-note past seq name window ticket = record { entries = refl; forms = λ conn s. refl; standing_same = refl; taken_same = refl; failed_same = refl; noted_is = λ other s. refl; calls_is = λ other. refl }
 
 pub count-note : (past : Behind) (seq : ℕ) (name : List ℕ) → IsNote past (Counted seq name ∷ past) seq name notes.Counted
-count-note past seq name = record { entries = refl; forms = λ conn s. refl; standing_same = refl; noted_is = λ other s. refl; calls_is = λ other. refl }
+count-note past seq name = record { entries = refl; forms = λ conn s. refl; standing_same = refl; taken_same = refl; failed_same = refl; noted_is = λ other s. refl; calls_is = λ other. refl }
 
 -- what was noted of the call itself, of another, and by another name
 pub noted-here : (past new : Behind) (seq : ℕ) (name : List ℕ) (n : Noted) → IsNote past new seq name n → noted name seq new ≡ past_by n
