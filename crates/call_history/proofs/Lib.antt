@@ -10,6 +10,8 @@ mod Looking
 mod Noting
 mod Passing
 mod Prefixes
+mod Redacting
+mod Refusing
 mod Rowed
 mod Rows
 mod Sending

@@ -135,7 +135,7 @@ not-over u c position seq ticket level moment e call turn answers over =
 
 -- ---- the kinds of note
 
-no-note : (policy : Policy) (level moment : ℕ) (form : Call) (past : Past) → Answers policy level moment form past (note notes.Nothing) → ⊥
+pub no-note : (policy : Policy) (level moment : ℕ) (form : Call) (past : Past) → Answers policy level moment form past (note notes.Nothing) → ⊥
 no-note policy level moment form past (allows p is allow answer) = cc
 no-note policy level moment form past (denies p is allow answer) = cc
 no-note policy level moment form past (was_charged r is some answer) = cc
