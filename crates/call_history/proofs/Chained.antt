@@ -37,7 +37,7 @@ cut (x ∷ es) (suc place) e at =
 
 -- ---- names
 
-named-there : (es : List Entry) (e : Entry) → Contains es e → Contains (names_of es) e.name
+pub named-there : (es : List Entry) (e : Entry) → Contains es e → Contains (names_of es) e.name
 named-there [] e has = absurd (omega (arith, has.1))
 named-there (x ∷ es) e has = elim (contains-cases x es e has) [
   | inl same ↦ contains-first x.name (names_of es) e.name (ap (λ (y : Entry). y.name) same)

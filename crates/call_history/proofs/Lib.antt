@@ -1,6 +1,8 @@
 mod Accepting
+mod Attaching
 mod Chained
 mod Coursed
+mod Detaching
 mod Failing
 mod Fitting
 mod Further
@@ -8,6 +10,7 @@ mod Going
 mod Holding
 mod Looking
 mod Noting
+mod Operating
 mod Passing
 mod Prefixes
 mod Redacting
@@ -17,3 +20,4 @@ mod Rows
 mod Sending
 mod Showing
 mod Standing
+mod Upgrading
