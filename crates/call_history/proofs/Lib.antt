@@ -8,6 +8,7 @@ mod Fitting
 mod Further
 mod Going
 mod Holding
+mod Keeping
 mod Looking
 mod Noting
 mod Operating

@@ -18,7 +18,7 @@ use Rattle.engine_core.specs.declared.policy.Policy.TheVariants.{Access}
 use Rattle.call_history.specs.Behind.{Behind, chain, changed, is_named, moment, level, noted, noted_calls, standing, has_failed, form}
 use Rattle.call_history.specs.Legal.{IsLegalBehind}
 use Rattle.call_history.specs.Places.{ArePlaces}
-use Rattle.call_history.specs.Rules.{Under, MayTake, IsSentNext}
+use Rattle.call_history.specs.Rules.{Under, MayTake, header, payload}
 use Rattle.call_history.specs.declared.happening.Cause.{Cause}
 use Rattle.call_history.specs.declared.happening.Cause.TheVariants as cause
 use Rattle.call_history.specs.declared.happening.Happening.{Happening}
@@ -144,10 +144,12 @@ pub record HasTurn (u : Under) (c : Course) (position seq : ℕ) (outcome : Outc
   pub is_form : form u.conn seq c.past ≡ Some call
   pub comes : ComesOut e.policy (level e.name c.past) (moment c.past) call (noted e.name seq c.past) outcome
 
--- the first call that stands for transport is sent
+-- the first call that stands for transport has this number, and its form a frame of so many bytes
 pub record IsReady (u : Under) (c : Course) (seq bytes : ℕ) : Type 0 where
   pub first : first_at (length (chain c.past).entries) c.row ≡ Some (seq, length (chain c.past).entries)
-  pub next : IsSentNext u c.past seq bytes
+  pub sent : Call
+  pub is_form : form u.conn seq c.past ≡ Some sent
+  pub long : bytes ≡ header + length (payload u.table sent)
 
 -- an event leads from one course to the next
 pub data Comes (u : Under) (old : Course) (event : Event) (new : Course) : Type 0 where
