@@ -12,7 +12,9 @@
 #![tactic(auto)]
 
 mod happening;
+mod laws;
 mod limits;
 
 pub use happening::{Cause, Happened, Happening, Taken, TookCopy};
+pub use laws::events_keep;
 pub use limits::MAX_STANDING;
