@@ -8,7 +8,7 @@ use Rattle.engine_core.specs.declared.op.Op.{Op as Step}
 use Rattle.engine_core.specs.declared.op.Op.TheVariants.{Attach, Detach, Upgrade}
 use Rattle.engine_core.specs.declared.outcome.Outcome.{Outcome}
 use Rattle.call_history.specs.Behind.{chain, changed, level, moment, noted, form}
-use Rattle.call_history.specs.Events.{Course, Event, HasTurn, turned, moved_by, Comes, takes, changes, rises, stays, has_turn, is_sent, link_failed, Lead, beginning, IsCourse}
+use Rattle.call_history.specs.Events.{Course, Event, HasTurn, turned, moved_by, Comes, takes, is_away, changes, rises, stays, has_turn, is_sent, link_failed, Lead, beginning, IsCourse}
 use Rattle.call_history.specs.Rules.{Under}
 use Rattle.call_history.specs.declared.happening.Happening.TheVariants.{Op}
 use Rattle.call_history.proofs.Accepting.{taken_in}
@@ -22,7 +22,7 @@ use Rattle.call_history.proofs.Prefixes.{StaysChain}
 use Rattle.call_history.proofs.Redacting.{cleared_again}
 use Rattle.call_history.proofs.Refusing.{refused, refused-noted}
 use Rattle.call_history.proofs.Sending.{sent}
-use Rattle.call_history.proofs.Showing.{shown}
+use Rattle.call_history.proofs.Showing.{away, shown}
 use Rattle.call_history.proofs.Upgrading.{upgraded_holds}
 use Rattle.engine_core.specs.Answers.{pass}
 
@@ -67,6 +67,7 @@ step-holds u c (Upgrade name label policy) chains h may = upgraded_holds u c nam
 
 event-holds : (u : Under) (old new : Course) (event : Event) → StaysChain → Holds u old → Comes u old event new → Holds u new
 event-holds u old new event chains h (takes call is running may new_is) = subst (Holds u) (sym new_is) (taken_in u old call h running may)
+event-holds u old new event chains h (is_away method number addr is full new_is) = subst (Holds u) (sym new_is) (away u old method number addr h full)
 event-holds u old new event chains h (changes step is may new_is) = subst (Holds u) (sym new_is) (step-holds u old step chains h may)
 event-holds u old new event chains h (rises ms is above new_is) = subst (Holds u) (sym new_is) (shown u old ms h above)
 event-holds u old new event chains h (stays ms is below new_is) = subst (Holds u) (sym new_is) h

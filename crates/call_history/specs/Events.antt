@@ -22,8 +22,9 @@ use Rattle.call_history.specs.Rules.{Under, MayTake, header, payload}
 use Rattle.call_history.specs.declared.happening.Cause.{Cause}
 use Rattle.call_history.specs.declared.happening.Cause.TheVariants as cause
 use Rattle.call_history.specs.declared.happening.Happening.{Happening}
-use Rattle.call_history.specs.declared.happening.Happening.TheVariants.{Took, Op, Moment, Charged, Drawn, Counted, Redacted, Sent, Refused}
+use Rattle.call_history.specs.declared.happening.Happening.TheVariants.{Took, Away, Op, Moment, Charged, Drawn, Counted, Redacted, Sent, Refused}
 use Rattle.call_history.specs.declared.happening.Taken.{Taken}
+use Rattle.call_history.specs.declared.limits.TheConstants.{MAX_STANDING}
 use Rattle.call_history.specs.declared.happening.TookCopy.TheVariants.{Copy, Malformed}
 use Rattle.mrpc_table.specs.Node.{Node}
 use Rattle.graph_form.specs.declared.reason.Reason.{Reason}
@@ -114,6 +115,8 @@ turned e seq outcomes.Redacted c = record c {
 pub data Event : Type 0 where
   -- a call is accepted; one without a copy is refused at once
   accepts : Taken → Event
+  -- a call is submitted and not accepted, since as many calls stand as may
+  turns_away : (method number addr : ℕ) → Event
   operates : Step → Event
   -- the clock shows a moment
   shows : ℕ → Event
@@ -155,6 +158,8 @@ pub record IsReady (u : Under) (c : Course) (seq bytes : ℕ) : Type 0 where
 pub data Comes (u : Under) (old : Course) (event : Event) (new : Course) : Type 0 where
   takes : (call : Taken) → event ≡ accepts call → old.ended ≡ false → MayTake u old.past call
       → new ≡ accepted call old → Comes u old event new
+  is_away : (method number addr : ℕ) → event ≡ turns_away method number addr → length (standing old.past) ≡ MAX_STANDING
+      → new ≡ record old { past = Away method number addr ∷ old.past } → Comes u old event new
   changes : (step : Step) → event ≡ operates step → Changes (chain old.past) step (changed step (chain old.past))
       → new ≡ record old { past = Op step ∷ old.past; row = moved_by step (chain old.past).entries old.row }
       → Comes u old event new
