@@ -21,4 +21,5 @@ mod Rows
 mod Sending
 mod Showing
 mod Standing
+mod Traces
 mod Upgrading

@@ -60,59 +60,59 @@ where_equal name allow at v = record {
   about = OfCalls (record { method = 0; reply = false; test = Some (record { path = record { way = []; number = at; kind = Uint64; label = Plain }; condition = Compares Equal (Number v) }) });
 }
 
-abbrev acl : List ℕ
+abbrev pub acl : List ℕ
 acl = codes "acl"
 
-abbrev rl : List ℕ
+abbrev pub rl : List ℕ
 rl = codes "rl"
 
-abbrev q : List ℕ
+abbrev pub q : List ℕ
 q = codes "q"
 
-abbrev c : List ℕ
+abbrev pub c : List ℕ
 c = codes "c"
 
-abbrev d : List ℕ
+abbrev pub d : List ℕ
 d = codes "d"
 
-abbrev r1 : List ℕ
+abbrev pub r1 : List ℕ
 r1 = codes "r1"
 
-abbrev cut : List ℕ
+abbrev pub cut : List ℕ
 cut = codes "cut"
 
-abbrev no150 : List ℕ
+abbrev pub no150 : List ℕ
 no150 = codes "no150"
 
-abbrev opening : Policy
+abbrev pub opening : Policy
 opening = Access (record { rules = []; allow = true })
 
-abbrev closing : Policy
+abbrev pub closing : Policy
 closing = Access (record { rules = []; allow = false })
 
 -- all but requests with 150
-abbrev but_150 : AccessPolicy
+abbrev pub but_150 : AccessPolicy
 but_150 = record { rules = where_equal no150 false 1 150 ∷ []; allow = true }
 
-abbrev holding : ℕ → Policy
+abbrev pub holding : ℕ → Policy
 holding burst = Rate (record { amount = 1; per = 1000; burst = burst; hold = true })
 
-abbrev seven : ℕ → Taken
+abbrev pub seven : ℕ → Taken
 seven seq = request seq 1 1 (with_number 7)
 
 -- the form of a call on connection 1
-abbrev form_of : Taken → Node → Option Call
+abbrev pub form_of : Taken → Node → Option Call
 form_of call tree = Some (with_tree 1 call tree)
 
 -- ---- a call with 150, which the policy denies
 
-abbrev call_150 : Taken
+abbrev pub call_150 : Taken
 call_150 = request 1 1 1 (with_number 150)
 
-abbrev denied_before : Behind
+abbrev pub denied_before : Behind
 denied_before = reverse (Op (Attach 0 acl acl (Access but_150)) ∷ Took call_150 ∷ [])
 
-abbrev denied : Behind
+abbrev pub denied : Behind
 denied = Refused 1 (cause.Access acl 1 no150) ∷ denied_before
 
 chain-denied : chain denied ≡ record { entries = new_entry acl 1 (Access but_150) ∷ []; attached = 1 }
@@ -129,7 +129,7 @@ standing-denied = refl
 
 -- ---- three calls under a rate of two at once: the third is held, and charged a second later
 
-abbrev held : Behind
+abbrev pub held : Behind
 held = reverse (
   Op (Attach 0 rl rl (holding 2)) ∷ Took (seven 1) ∷ Took (seven 2) ∷ Took (seven 3) ∷ Charged 1 rl 1000 ∷ Charged 2 rl 0
   ∷ Sent 1 18 ∷ Sent 2 18 ∷ Moment 999 ∷ []
@@ -154,7 +154,7 @@ standing-held : standing held ≡ seven 3 ∷ []
 standing-held = refl
 
 -- a millisecond later, also in one step
-abbrev filled : Behind
+abbrev pub filled : Behind
 filled = reverse (
   Op (Attach 0 rl rl (holding 2)) ∷ Took (seven 1) ∷ Took (seven 2) ∷ Took (seven 3) ∷ Charged 1 rl 1000 ∷ Charged 2 rl 0
   ∷ Sent 1 18 ∷ Sent 2 18 ∷ Moment 1000 ∷ []
@@ -174,7 +174,7 @@ noted_calls-charged = refl
 
 -- ---- an upgrade with two calls behind the old version
 
-abbrev upgraded_before : Behind
+abbrev pub upgraded_before : Behind
 upgraded_before = reverse (
   Op (Attach 0 acl (codes "p1") opening) ∷ Op (Attach 1 rl rl (holding 2)) ∷ Took call_150 ∷ Took (request 2 2 1 (with_number 7))
   ∷ Charged 1 rl 1000 ∷ Charged 2 rl 0 ∷ Op (Upgrade acl (codes "p2") (Access but_150)) ∷ []
@@ -197,7 +197,7 @@ standing-upgraded = refl
 
 -- ---- a policy that is detached and attached again: the bucket is full, and nothing is noted
 
-abbrev again : Behind
+abbrev pub again : Behind
 again = reverse (
   Op (Attach 0 rl r1 (holding 1)) ∷ Took (seven 1) ∷ Took (seven 2) ∷ Took (seven 3) ∷ Charged 1 rl 0 ∷ Sent 1 18
   ∷ Op (Detach rl) ∷ Op (Attach 0 rl r1 (holding 1)) ∷ []
@@ -223,7 +223,7 @@ standing-again = refl
 
 -- ---- a link that fails with two calls left
 
-abbrev failing : Behind
+abbrev pub failing : Behind
 failing = reverse (Took (seven 1) ∷ Took (seven 2) ∷ Took (seven 3) ∷ Sent 1 18 ∷ Refused 2 cause.Transport ∷ [])
 
 standing-failing : standing failing ≡ seven 3 ∷ []
@@ -237,7 +237,7 @@ standing-failed = refl
 
 -- ---- a quota of one ticket
 
-abbrev drawn_over : Behind
+abbrev pub drawn_over : Behind
 drawn_over = reverse (
   Op (Attach 0 q q (Quota 0 1000 1)) ∷ Took (seven 1) ∷ Took (seven 2) ∷ Drawn 1 q 0 0 ∷ Drawn 2 q 0 1 ∷ []
 )
@@ -250,7 +250,7 @@ noted-drawn_over = refl
 
 -- ---- a counted call, and a policy that is attached behind the count and denies it
 
-abbrev counted_first : Behind
+abbrev pub counted_first : Behind
 counted_first = reverse (Op (Attach 0 c c Count) ∷ Took (seven 1) ∷ Counted 1 c ∷ Op (Attach 1 d d closing) ∷ [])
 
 chain-counted_first : chain counted_first ≡ record { entries = new_entry c 1 Count ∷ new_entry d 2 closing ∷ []; attached = 2 }
@@ -264,20 +264,20 @@ noted-other = refl
 
 -- ---- a field is cleared, and the policy before it is asked again
 
-abbrev two_fields : Table
+abbrev pub two_fields : Table
 two_fields = table_of (number_field 1 (codes "a") ∷ number_field 2 (codes "b") ∷ [])
 
-abbrev but_5 : AccessPolicy
+abbrev pub but_5 : AccessPolicy
 but_5 = record { rules = where_equal (codes "big") false 2 5 ∷ []; allow = true }
 
 -- the field 2 of requests
-abbrev clear_2 : Clear
+abbrev pub clear_2 : Clear
 clear_2 = record { method = 0; reply = false; path = record { way = []; number = 2; kind = Uint64; label = Plain } }
 
-abbrev seven_nine : Taken
+abbrev pub seven_nine : Taken
 seven_nine = request 1 2 2 (field 1 (one (number 7)) (field 2 (one (number 9)) no_fields))
 
-abbrev cleared : AccessPolicy → Behind
+abbrev pub cleared : AccessPolicy → Behind
 cleared policy = reverse (
   Op (Attach 0 acl acl (Access policy)) ∷ Op (Attach 1 cut cut (Redact (clear_2 ∷ []))) ∷ Took seven_nine ∷ Redacted 1 cut 1 ∷ []
 )
@@ -289,7 +289,7 @@ noted-cleared : noted cut 1 (cleared but_5) ≡ nothing
 noted-cleared = refl
 
 -- one that allows only requests with 9
-abbrev only_9 : AccessPolicy
+abbrev pub only_9 : AccessPolicy
 only_9 = record { rules = where_equal (codes "need") true 2 9 ∷ []; allow = false }
 
 form-cleared_need : form 1 1 (cleared only_9) ≡ form_of seven_nine (with_number 7)
