@@ -9,6 +9,7 @@ mod Further
 mod Going
 mod Holding
 mod Keeping
+mod LiveTraces
 mod Looking
 mod Noting
 mod Operating

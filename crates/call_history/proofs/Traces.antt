@@ -37,7 +37,7 @@ under = record { conn = 1; table = table; limit = 1024 }
 
 -- ---- what is needed of calls and steps
 
-normal_number : (v : ℕ) → 0 < v → v < 2 ^ 64 → IsNormal table 0 (with_number v)
+pub normal_number : (v : ℕ) → 0 < v → v < 2 ^ 64 → IsNormal table 0 (with_number v)
 normal_number v above fits = record {
   fields = (omega arith, (record { number = 1; name = codes "a"; kind = Uint64; label = Plain }, refl, λ (e : v ≡ 0). omega (arith, e, above), fits), tt);
   oneofs = λ o. omega arith;
@@ -48,7 +48,7 @@ normal_number v above fits = record {
 abbrev pub form_of : ℕ → ℕ → Call
 form_of seq v = record { conn = 1; seq = seq; method = 0; number = 0; tree = with_number v }
 
-none-in : {X : Type 0} (x : X) → Contains [] x → ⊥
+pub none-in : {X : Type 0} (x : X) → Contains [] x → ⊥
 none-in x has = omega (arith, has.1)
 
 -- a step that nothing stands against
@@ -62,7 +62,7 @@ free-attach entries at name label policy refusal none within few (is_past a n l 
 free-attach entries at name label policy refusal none within few (is_full a n l p is full r) = omega (arith, full, few)
 free-attach entries at name label policy refusal none within few (is_other n l p e is there named differs r) = cc
 
-attached : (entries : List Entry) (many at : ℕ) (front back : List Entry) (name label : List ℕ) (policy : Policy) → (Contains (names_of entries) name → ⊥) → length entries < 8
+pub attached : (entries : List Entry) (many at : ℕ) (front back : List Entry) (name label : List ℕ) (policy : Policy) → (Contains (names_of entries) name → ⊥) → length entries < 8
     → entries ≡ front ++ back → length front ≡ at
     → changed (Attach at name label policy) (record { entries = entries; attached = many })
       ≡ record { entries = front ++ new_entry name (many + 1) policy ∷ back; attached = many + 1 }
@@ -78,7 +78,7 @@ attached entries many at front back name label policy none few whole place makes
 abbrev denied_events : List Event
 denied_events = operates (Attach 0 acl acl (Access but_150)) ∷ accepts call_150 ∷ has_turn_of 0 1 (outcomes.Refused notes.Nothing (Denied 0)) ∷ []
 
-taken_150 : (past : Behind) → length (standing past) < 64 → length (taken past) ≡ 0 → MayTake under past call_150
+pub taken_150 : (past : Behind) → length (standing past) < 64 → length (taken past) ≡ 0 → MayTake under past call_150
 taken_150 past few none = record { number = omega (arith, none); few = few; loads = omega arith; copy = (omega arith, normal_number 150 (omega arith) (omega arith)) }
 
 lead-denied : Lead under beginning denied_events (record { past = denied; row = []; ended = false })
@@ -113,14 +113,14 @@ failed_events = accepts (seven 1) ∷ accepts (seven 2) ∷ accepts (seven 3) �
 abbrev failed : Behind
 failed = Refused 3 cause.Transport ∷ failing
 
-taken_7 : (past : Behind) (seq : ℕ) → length (standing past) < 64 → seq ≡ length (taken past) + 1 → MayTake under past (seven seq)
+pub taken_7 : (past : Behind) (seq : ℕ) → length (standing past) < 64 → seq ≡ length (taken past) + 1 → MayTake under past (seven seq)
 taken_7 past seq few next = record { number = next; few = few; loads = omega arith; copy = (omega arith, normal_number 7 (omega arith) (omega arith)) }
 
-ready : (c : Course) (seq v : ℕ) → first_at (length (chain c.past).entries) c.row ≡ Some (seq, length (chain c.past).entries) → form 1 seq c.past ≡ Some (form_of seq v)
+pub ready : (c : Course) (seq v : ℕ) → first_at (length (chain c.past).entries) c.row ≡ Some (seq, length (chain c.past).entries) → form 1 seq c.past ≡ Some (form_of seq v)
     → 18 ≡ header + length (payload table (form_of seq v)) → IsReady under c seq 18
 ready c seq v first is long = record { first = first; sent = form_of seq v; is_form = is; long = long }
 
-long-7 : (seq : ℕ) → 18 ≡ header + length (payload table (form_of seq 7))
+pub long-7 : (seq : ℕ) → 18 ≡ header + length (payload table (form_of seq 7))
 unfolding varint groups
 long-7 seq = refl
 
