@@ -1,6 +1,7 @@
 mod Accepting
 mod Attaching
 mod Chained
+mod ClearTraces
 mod Coursed
 mod Detaching
 mod Failing
@@ -24,3 +25,4 @@ mod Showing
 mod Standing
 mod Traces
 mod Upgrading
+mod WrongRows
