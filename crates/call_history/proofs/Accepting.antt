@@ -22,7 +22,7 @@ use Rattle.call_history.proofs.Rowed.{Keeps, StandsAt, IsRow, row-kept, row-more
 use Rattle.call_history.proofs.Standing.{standing-took, standing-refused, others_of}
 
 -- the form of a call of another number stays
-form-other : (conn s : ℕ) (past : Behind) (call : Taken) → call.seq ≢ s → form conn s (Took call ∷ past) ≡ form conn s past
+pub form-other : (conn s : ℕ) (past : Behind) (call : Taken) → call.seq ≢ s → form conn s (Took call ∷ past) ≡ form conn s past
 form-other conn s past call apart = ap (λ b. cond b (copied conn call call.copy) (form conn s past)) (ne_eqb call.seq s apart)
 
 keeps-taken : (u : Under) (past : Behind) (call : Taken) (top : ℕ) → top < call.seq → Keeps u past (Took call ∷ past) top

@@ -19,14 +19,14 @@ use Rattle.call_history.proofs.Prefixes.{StaysChain, chained}
 use Rattle.call_history.proofs.Rowed.{StandsAt}
 
 -- the entries after a detachment
-abbrev others_of : List ℕ → List Entry → List Entry
+abbrev pub others_of : List ℕ → List Entry → List Entry
 others_of name es = filter (λ e. not (is_named name e)) es
 
 -- where a position moves that an entry leaves
 abbrev moved : ℕ → ℕ → ℕ
 moved place p = if nat_lt place p then p - 1 else p
 
-others-same : (name : List ℕ) (es : List Entry) → (Contains (names_of es) name → ⊥) → others_of name es ≡ es
+pub others-same : (name : List ℕ) (es : List Entry) → (Contains (names_of es) name → ⊥) → others_of name es ≡ es
 others-same name [] none = refl
 others-same name (e ∷ es) none =
     ap (λ b. cond (not b) (e ∷ others_of name es) (others_of name es)) (other-name e.name name (λ same. none (contains-first e.name (names_of es) name same)))

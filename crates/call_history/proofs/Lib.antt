@@ -1,6 +1,7 @@
 mod Accepting
 mod Attaching
 mod Chained
+mod Changing
 mod ClearTraces
 mod Coursed
 mod Detaching
@@ -8,6 +9,7 @@ mod Failing
 mod Fitting
 mod Further
 mod Going
+mod GoingOn
 mod Holding
 mod Keeping
 mod LiveTraces

@@ -17,7 +17,7 @@ use Rattle.call_history.proofs.Passing.{numbers-same, ended-still}
 use Rattle.call_history.proofs.Rowed.{row-begins}
 
 -- the form of another call stays
-form-others : (conn seq s version : ℕ) (name : List ℕ) (past : Behind) → seq ≢ s → form conn s (Redacted seq name version ∷ past) ≡ form conn s past
+pub form-others : (conn seq s version : ℕ) (name : List ℕ) (past : Behind) → seq ≢ s → form conn s (Redacted seq name version ∷ past) ≡ form conn s past
 form-others conn seq s version name past apart =
     ap (λ b. cond b (option_map (redacted (policy_of name past)) (form conn s past)) (form conn s past)) (ne_eqb seq s apart)
 

@@ -15,7 +15,7 @@ use Rattle.call_history.proofs.Operating.{Moves, moved-holds, all-fewer}
 use Rattle.call_history.proofs.Rowed.{StandsAt}
 
 -- the entries after an upgrade
-abbrev with_upgraded : List ℕ → Policy → List Entry → List Entry
+abbrev pub with_upgraded : List ℕ → Policy → List Entry → List Entry
 with_upgraded name policy es = map (λ e. if is_named name e then upgraded e policy else e) es
 
 length-upgraded : (name : List ℕ) (policy : Policy) (es : List Entry) → length (with_upgraded name policy es) ≡ length es
