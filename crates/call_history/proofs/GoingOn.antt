@@ -104,3 +104,15 @@ level-attached past at name label policy = ap (λ b. cond b (first_level policy)
 pub level-upgraded : (past : Behind) (name label : List ℕ) (policy : Policy)
     → level name (Op (Upgrade name label policy) ∷ past) ≡ converted (policy_of name past) policy (level name past)
 level-upgraded past name label policy = ap (λ b. cond b (converted (policy_of name past) policy (level name past)) (level name past)) (equal-name name name refl)
+
+pub noted-attached_other : (past : Behind) (at seq : ℕ) (name other label : List ℕ) (policy : Policy) → name ≢ other → noted other seq (Op (Attach at name label policy) ∷ past) ≡ noted other seq past
+noted-attached_other past at seq name other label policy apart = ap (λ b. cond b nothing (noted other seq past)) (other-name name other apart)
+
+pub level-attached_other : (past : Behind) (at : ℕ) (name other label : List ℕ) (policy : Policy) → name ≢ other → level other (Op (Attach at name label policy) ∷ past) ≡ level other past
+level-attached_other past at name other label policy apart = ap (λ b. cond b (first_level policy) (level other past)) (other-name name other apart)
+
+pub level-upgraded_other : (past : Behind) (name other label : List ℕ) (policy : Policy) → name ≢ other → level other (Op (Upgrade name label policy) ∷ past) ≡ level other past
+level-upgraded_other past name other label policy apart = ap (λ b. cond b (converted (policy_of other past) policy (level other past)) (level other past)) (other-name name other apart)
+
+pub level-charged_other : (past : Behind) (seq left : ℕ) (name other : List ℕ) → name ≢ other → level other (Charged seq name left ∷ past) ≡ level other past
+level-charged_other past seq left name other apart = ap (λ b. cond b left (level other past)) (other-name name other apart)
