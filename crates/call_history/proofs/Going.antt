@@ -1,0 +1,136 @@
+-- Which happening may come where nothing is left open, and what it leaves open.
+use Rattle.std.proofs.Common.{◌≡◌, ℕ, ◌+◌, ◌<◌, ◌≤◌, Bool, true, false, ◌||◌, ◌⊎◌, inl, inr, List, [], ◌∷◌, ◌++◌, length, refl, sym, ap, ◌∙◌, subst, arith}
+use Rattle.std.specs.Prelude.{Some}
+use Rattle.engine_core.specs.Chains.{Changes}
+use Rattle.engine_core.specs.declared.outcome.Noted.TheVariants as notes
+use Rattle.engine_core.specs.declared.op.Op.{Op as Step}
+use Rattle.engine_core.specs.declared.policy.Policy.{Policy}
+use Rattle.call_history.specs.Behind.{Behind, chain, changed, moment, policy_of, standing, has_failed}
+use Rattle.call_history.specs.Legal.{HasNoCopy, AwaitsMalformed, IsOver, AwaitsQuota, AwaitsLink, IsSettledUp}
+use Rattle.call_history.specs.Rules.{Under, MayTake, IsRefusedAtOnce, IsNoMalformedRefusal, RefusesMalformed, IsNumbered, KeepsChain, NotesWhatIsDue, SendsInOrder, RefusesAsAnswered, cap_of, RefusesDrawn, IsCalledFor, IsCleared, IsSentNext, IsAnswered, IsQuiet, IsLeft, IsLinkRefusal, May}
+use Rattle.call_history.specs.declared.happening.Cause.{Cause}
+use Rattle.call_history.specs.declared.happening.Cause.TheVariants as cause
+use Rattle.call_history.specs.declared.happening.Happening.{Happening}
+use Rattle.call_history.specs.declared.happening.Happening.TheVariants.{Took, Away, Op, Moment, Charged, Drawn, Counted, Redacted, Sent, Refused}
+use Rattle.call_history.specs.declared.happening.Taken.{Taken}
+use Rattle.call_history.specs.declared.happening.TookCopy.{TookCopy}
+use Rattle.call_history.specs.declared.happening.TookCopy.TheVariants.{Copy, Malformed}
+
+-- nothing is left open, and the link works
+pub record IsOpen (past : Behind) : Type 0 where
+  pub settled : IsSettledUp past
+  pub works : has_failed past ≡ false
+
+-- ---- the rules on what was left open
+
+at-once : (copy : TookCopy) (seq : ℕ) (next : Happening) → (HasNoCopy copy → ⊥) → IsNoMalformedRefusal next → IsRefusedAtOnce copy seq next
+at-once (Copy tree) seq (Refused call cause.Malformed) settled clean = clean
+at-once (Copy tree) seq next settled clean = tt
+at-once (Malformed reason place value) seq next settled clean = absurd (settled tt)
+
+pub no-malformed : (past : Behind) (next : Happening) → (AwaitsMalformed past → ⊥) → IsNoMalformedRefusal next → RefusesMalformed past next
+no-malformed (Took call ∷ past) next settled clean = at-once call.copy call.seq next settled clean
+no-malformed past next settled clean = clean
+
+pub no-draw : (past : Behind) (next : Happening) → (AwaitsQuota past → ⊥) → RefusesDrawn past next
+no-draw (Drawn seq name window ticket ∷ past) next settled = λ policy cap is is_cap more.
+    absurd (settled (record { policy = policy; cap = cap; is_policy = is; is_cap = is_cap; over = λ less. omega (arith, less, more) }))
+no-draw past next settled = tt
+
+none-left : {X : Type 0} (xs : List X) → ((xs ≡ [] → ⊥) → ⊥) → xs ≡ []
+none-left [] h = refl
+none-left (x ∷ xs) h = absurd (h (λ none. cc))
+
+pub ended : (past : Behind) → IsSettledUp past → has_failed past ≡ true → standing past ≡ []
+ended past settled failed = none-left (standing past) (λ some. settled.link (record { failed = failed; some_stand = some }))
+
+works-still : (past : Behind) (X : Type 0) → has_failed past ≡ false → has_failed past ≡ true → X
+works-still past X works failed = let wrong : false ≡ true = sym works ∙ failed in absurd cc
+
+-- ---- what may come
+
+-- the rules that a happening meets by itself
+pub record MeetsOwn (u : Under) (past : Behind) (next : Happening) : Type 0 where
+  pub numbered : IsNumbered u past next
+  pub no_malformed : IsNoMalformedRefusal next
+  pub chain_kept : KeepsChain past next
+  pub notes_due : NotesWhatIsDue u past next
+  pub in_order : SendsInOrder u past next
+  pub answered : RefusesAsAnswered u past next
+  pub link_refusal : IsLinkRefusal past next
+
+pub may : (u : Under) (past : Behind) (next : Happening) → IsOpen past → MeetsOwn u past next → May u past next
+may u past next free own = record {
+  numbered = own.numbered;
+  malformed = no-malformed past next free.settled.malformed own.no_malformed;
+  chain_kept = own.chain_kept;
+  notes_due = own.notes_due;
+  drawn_refused = no-draw past next free.settled.quota;
+  in_order = own.in_order;
+  answered = own.answered;
+  link_end = (works-still past (IsLeft (standing past) next) free.works, own.link_refusal);
+}
+
+pub may-take : (u : Under) (past : Behind) (call : Taken) → IsOpen past → MayTake u past call → May u past (Took call)
+may-take u past call free take = may u past (Took call) free (record { numbered = take; no_malformed = tt; chain_kept = tt; notes_due = tt; in_order = tt; answered = tt; link_refusal = tt })
+
+pub may-charge : (u : Under) (past : Behind) (seq : ℕ) (name : List ℕ) (left : ℕ) → IsOpen past → IsCalledFor u past seq name (notes.Charged left) → May u past (Charged seq name left)
+may-charge u past seq name left free due = may u past (Charged seq name left) free (record { numbered = tt; no_malformed = tt; chain_kept = tt; notes_due = due; in_order = tt; answered = tt; link_refusal = tt })
+
+pub may-draw : (u : Under) (past : Behind) (seq : ℕ) (name : List ℕ) (window ticket : ℕ) → IsOpen past → IsCalledFor u past seq name (notes.Drawn window ticket) → May u past (Drawn seq name window ticket)
+may-draw u past seq name window ticket free due = may u past (Drawn seq name window ticket) free (record { numbered = tt; no_malformed = tt; chain_kept = tt; notes_due = due; in_order = tt; answered = tt; link_refusal = tt })
+
+pub may-count : (u : Under) (past : Behind) (seq : ℕ) (name : List ℕ) → IsOpen past → IsCalledFor u past seq name notes.Counted → May u past (Counted seq name)
+may-count u past seq name free due = may u past (Counted seq name) free (record { numbered = tt; no_malformed = tt; chain_kept = tt; notes_due = due; in_order = tt; answered = tt; link_refusal = tt })
+
+pub may-redact : (u : Under) (past : Behind) (seq : ℕ) (name : List ℕ) (version : ℕ) → IsOpen past → IsCleared u past seq name version → May u past (Redacted seq name version)
+may-redact u past seq name version free due = may u past (Redacted seq name version) free (record { numbered = tt; no_malformed = tt; chain_kept = tt; notes_due = due; in_order = tt; answered = tt; link_refusal = tt })
+
+pub may-send : (u : Under) (past : Behind) (seq bytes : ℕ) → IsOpen past → IsSentNext u past seq bytes → May u past (Sent seq bytes)
+may-send u past seq bytes free next = may u past (Sent seq bytes) free (record { numbered = tt; no_malformed = tt; chain_kept = tt; notes_due = tt; in_order = next; answered = tt; link_refusal = tt })
+
+-- steps and moments, also where the link has failed
+quiet-left : (calls : List Taken) (next : Happening) → calls ≡ [] → IsQuiet next → IsLeft calls next
+quiet-left [] next none quiet = quiet
+quiet-left (call ∷ calls) next none quiet = absurd cc
+
+pub may-operate : (u : Under) (past : Behind) (step : Step) → IsSettledUp past → Changes (chain past) step (changed step (chain past)) → May u past (Op step)
+may-operate u past step settled changes = record {
+  numbered = tt;
+  malformed = no-malformed past (Op step) settled.malformed tt;
+  chain_kept = changes;
+  notes_due = tt;
+  drawn_refused = no-draw past (Op step) settled.quota;
+  in_order = tt;
+  answered = tt;
+  link_end = (λ failed. quiet-left (standing past) (Op step) (ended past settled failed) tt, tt);
+}
+
+pub may-show : (u : Under) (past : Behind) (ms : ℕ) → IsSettledUp past → moment past < ms → May u past (Moment ms)
+may-show u past ms settled rises = record {
+  numbered = tt;
+  malformed = no-malformed past (Moment ms) settled.malformed tt;
+  chain_kept = rises;
+  notes_due = tt;
+  drawn_refused = no-draw past (Moment ms) settled.quota;
+  in_order = tt;
+  answered = tt;
+  link_end = (λ failed. quiet-left (standing past) (Moment ms) (ended past settled failed) tt, tt);
+}
+
+-- a call is refused at once because it is malformed
+pub may-refuse_malformed : (u : Under) (past : Behind) (call : Taken) → HasNoCopy call.copy → has_failed past ≡ false → May u (Took call ∷ past) (Refused call.seq cause.Malformed)
+may-refuse_malformed u past call none works = record {
+  numbered = tt;
+  malformed = at-once-refused call.copy call.seq none;
+  chain_kept = tt;
+  notes_due = tt;
+  drawn_refused = tt;
+  in_order = tt;
+  answered = tt;
+  link_end = (works-still past (IsLeft (standing (Took call ∷ past)) (Refused call.seq cause.Malformed)) works, tt);
+}
+  where
+    at-once-refused : (copy : TookCopy) (seq : ℕ) → HasNoCopy copy → IsRefusedAtOnce copy seq (Refused seq cause.Malformed)
+    at-once-refused (Copy tree) seq none = absurd none
+    at-once-refused (Malformed reason place value) seq none = refl

@@ -1,0 +1,41 @@
+-- Fields are cleared from a call, and it begins again, with all behind it.
+use Rattle.std.proofs.Common.{◌≡◌, ◌≢◌, ℕ, ◌+◌, ◌<◌, ◌≤◌, ◌==◌, Bool, true, false, cond, List, [], ◌∷◌, length, map, refl, sym, ap, ◌∙◌, subst, arith}
+use Rattle.std.specs.Prelude.{Contains, Option, Some, None, nat_lt, option_map}
+use Rattle.std.proofs.lemmas.Bool.{ne_eqb}
+use Rattle.policy_access.specs.declared.call.Call.{Call}
+use Rattle.engine_core.specs.Answers.{redact, Answers}
+use Rattle.engine_core.specs.Chains.{Entry}
+use Rattle.call_history.specs.Behind.{Behind, chain, taken, standing, form, level, moment, noted, policy_of, redacted}
+use Rattle.call_history.specs.Events.{Course, begin_again}
+use Rattle.call_history.specs.Rules.{Under}
+use Rattle.call_history.specs.declared.happening.Happening.TheVariants.{Redacted}
+use Rattle.call_history.proofs.Going.{may-redact}
+use Rattle.call_history.proofs.Holding.{Holds, stands-still, works-on}
+use Rattle.call_history.proofs.Looking.{lets-still}
+use Rattle.call_history.proofs.Noting.{IsTurn, gives-by}
+use Rattle.call_history.proofs.Passing.{numbers-same, ended-still}
+use Rattle.call_history.proofs.Rowed.{row-begins}
+
+-- the form of another call stays
+pub form-others : (conn seq s version : ℕ) (name : List ℕ) (past : Behind) → seq ≢ s → form conn s (Redacted seq name version ∷ past) ≡ form conn s past
+form-others conn seq s version name past apart =
+    ap (λ b. cond b (option_map (redacted (policy_of name past)) (form conn s past)) (form conn s past)) (ne_eqb seq s apart)
+
+pub cleared_again : (u : Under) (c : Course) (position seq : ℕ) (e : Entry) (call : Call) → Holds u c → IsTurn u c position seq e → form u.conn seq c.past ≡ Some call
+    → Answers e.policy (level e.name c.past) (moment c.past) call (noted e.name seq c.past) redact
+    → Holds u (record c { past = Redacted seq e.name e.version ∷ c.past; row = begin_again seq c.row })
+cleared_again u c position seq e call h turn is answers =
+    let new : Behind = Redacted seq e.name e.version ∷ c.past in
+    record {
+      prefix = (
+        h.prefix,
+        may-redact u c.past seq e.name e.version turn.free (record { entry = e; at = turn.at; gives = gives-by u c.past seq e call redact is answers; present = refl }),
+      );
+      settled = record { malformed = λ awaits. awaits; quota = λ awaits. awaits; link = works-on new turn.free.works };
+      row = row-begins u c.past new seq 0 (length (taken c.past)) (length (chain c.past).entries) c.row
+          (λ s p less. stands-still u c.past new s p refl (λ d. lets-still u c.past new s d (form-others u.conn seq s e.version e.name c.past (λ same. omega (arith, same, less))) refl)) h.row;
+      calls = numbers-same (λ call. cond (nat_lt call.0 seq) call.1 0) c.row ∙ h.calls;
+      notes_ascend = h.notes_ascend;
+      failed = h.failed;
+      none_left = λ ended. ended-still (λ call. cond (nat_lt call.0 seq) call.1 0) c.row (h.none_left ended);
+    }

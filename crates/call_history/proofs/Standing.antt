@@ -1,0 +1,61 @@
+-- The calls that stand once one more happening came.
+use Rattle.std.proofs.Common.{◌≡◌, ◌≢◌, ℕ, ◌+◌, ◌<◌, Bool, true, false, ◌||◌, ◌==◌, cond, not, List, [], ◌∷◌, ◌++◌, length, map, refl, sym, ap, ◌∙◌, arith}
+use Rattle.std.specs.Prelude.{filter}
+use Rattle.std.specs.List.{list_any}
+use Rattle.std.proofs.lemmas.List.Elements.{filter-append, filter_agree}
+use Rattle.std.proofs.lemmas.List.{map-append}
+use Rattle.call_history.specs.Behind.{Behind, taken, is_fate_of, stands, standing}
+use Rattle.call_history.specs.Events.{Row, without_call}
+use Rattle.call_history.specs.Legal.{IsPrefix}
+use Rattle.call_history.specs.Rules.{Under}
+use Rattle.call_history.specs.declared.happening.Cause.{Cause}
+use Rattle.call_history.specs.declared.happening.Happening.{Happening}
+use Rattle.call_history.specs.declared.happening.Happening.TheVariants.{Took, Sent, Refused}
+use Rattle.call_history.specs.declared.happening.Taken.{Taken}
+use Rattle.call_history.proofs.Prefixes.{fateless}
+
+-- dropping what passes one of two tests is dropping by the one, and then by the other
+filter-both : {A : Type 0} (p q : A → Bool) (xs : List A) → filter (λ x. not (p x || q x)) xs ≡ filter (λ x. not (p x)) (filter (λ x. not (q x)) xs)
+filter-both p q [] = refl
+filter-both {A} p q (x ∷ xs) =
+    let kept : List A = filter (λ y. not (q y)) xs in
+    let rest : filter (λ y. not (p y || q y)) xs ≡ filter (λ y. not (p y)) kept = filter-both p q xs in
+    let both : List A = filter (λ y. not (p y || q y)) xs in
+    let last : List A = filter (λ y. not (p y)) kept in
+    elim (q x) as (λ b. cond (not (p x || b)) (x ∷ both) both ≡ filter (λ y. not (p y)) (cond (not b) (x ∷ kept) kept)) [
+      | true ↦ elim (p x) as (λ b. cond (not (b || true)) (x ∷ both) both ≡ last) [ true ↦ rest | false ↦ rest ]
+      | false ↦ elim (p x) as (λ b. cond (not (b || false)) (x ∷ both) both ≡ cond (not b) (x ∷ last) last) [ true ↦ rest | false ↦ ap (λ ys. x ∷ ys) rest ]
+    ]
+
+pub map-filter : {A B : Type 0} (f : A → B) (p : B → Bool) (xs : List A) → map f (filter (λ x. p (f x)) xs) ≡ filter p (map f xs)
+map-filter f p [] = refl
+map-filter {A} {B} f p (x ∷ xs) =
+    elim (p (f x)) as (λ b. map f (cond b (x ∷ filter (λ y. p (f y)) xs) (filter (λ y. p (f y)) xs)) ≡ cond b (f x ∷ filter p (map f xs)) (filter p (map f xs)))
+    [ true ↦ ap (λ ys. f x ∷ ys) (map-filter f p xs) | false ↦ map-filter f p xs ]
+
+-- ---- acceptance
+
+pub standing-took : (u : Under) (past : Behind) (call : Taken) → IsPrefix u past → call.seq ≡ length (taken past) + 1 → standing (Took call ∷ past) ≡ standing past ++ call ∷ []
+standing-took u past call prefix next =
+    filter-append (stands past) (taken past) (call ∷ [])
+    ∙ ap (λ b. standing past ++ cond (not b) (call ∷ []) []) (fateless u past call.seq prefix (omega (arith, next)))
+
+-- ---- fates
+
+-- the calls but that of a number
+abbrev pub others_of : ℕ → List Taken → List Taken
+others_of seq calls = filter (λ call. not (seq == call.seq)) calls
+
+pub standing-sent : (past : Behind) (seq bytes : ℕ) → standing (Sent seq bytes ∷ past) ≡ others_of seq (standing past)
+standing-sent past seq bytes = filter-both (λ call. seq == call.seq) (λ call. list_any (is_fate_of call.seq) past) (taken past)
+
+pub standing-refused : (past : Behind) (seq : ℕ) (why : Cause) → standing (Refused seq why ∷ past) ≡ others_of seq (standing past)
+standing-refused past seq why = filter-both (λ call. seq == call.seq) (λ call. list_any (is_fate_of call.seq) past) (taken past)
+
+-- a row and the calls that stand lose one call alike
+pub calls-without : (seq : ℕ) (row : Row) (calls : List Taken) → map (λ call. call.0) row ≡ map (λ call. call.seq) calls
+    → map (λ call. call.0) (without_call seq row) ≡ map (λ call. call.seq) (others_of seq calls)
+calls-without seq row calls same =
+    map-filter (λ (call : ℕ × ℕ). call.0) (λ n. not (seq == n)) row
+    ∙ ap (filter (λ n. not (seq == n))) same
+    ∙ sym (map-filter (λ (call : Taken). call.seq) (λ n. not (seq == n)) calls)

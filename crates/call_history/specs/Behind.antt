@@ -1,0 +1,176 @@
+-- What a list of happenings has made of a connection. The list is what is behind: the happenings of one connection,
+-- the latest first (this project's own).
+use Rattle.std.specs.Prelude.{ℕ, ◌+◌, ◌-◌, ◌==◌, Bool, true, false, not, ◌&&◌, List, [], ◌∷◌, ◌++◌, drop, filter, find, length, map, option_map, option_and_then, take, Option, Some, None, if◌then◌else◌, unwrap_or, slice_get}
+use Rattle.std.specs.List.{list_any, filter_map}
+use Rattle.std.specs.Option.{option_map_or}
+use Rattle.std.specs.Str.{bytes_eq}
+use Rattle.mrpc_table.specs.Node.{Node}
+use Rattle.policy_access.specs.declared.call.Call.{Call}
+use Rattle.policy_redact.specs.Redacting.{cleared_call}
+use Rattle.engine_core.specs.Answers.{Past, nothing, charged, drawn, counted}
+use Rattle.engine_core.specs.Chains.{Chain, Entry, new_entry, upgraded}
+use Rattle.engine_core.specs.Policies.{first_level, level_at, level_under}
+use Rattle.engine_core.specs.declared.op.Op.{Op as Step}
+use Rattle.engine_core.specs.declared.op.Op.TheVariants.{Attach, Detach, Upgrade}
+use Rattle.engine_core.specs.declared.policy.Policy.{Policy}
+use Rattle.engine_core.specs.declared.policy.Policy.TheVariants.{Redact}
+use Rattle.call_history.specs.declared.happening.Cause.TheVariants as cause
+use Rattle.call_history.specs.declared.happening.Happening.{Happening}
+use Rattle.call_history.specs.declared.happening.Happening.TheVariants.{Took, Away, Op, Moment, Charged, Drawn, Counted, Redacted, Sent, Refused}
+use Rattle.call_history.specs.declared.happening.Taken.{Taken}
+use Rattle.call_history.specs.declared.happening.TookCopy.{TookCopy}
+use Rattle.call_history.specs.declared.happening.TookCopy.TheVariants.{Copy, Malformed}
+
+-- what is behind, the latest first
+abbrev pub Behind : Type 0
+Behind = List Happening
+
+-- ---- the chain
+
+-- the entry has the name
+abbrev pub is_named : List ℕ → Entry → Bool
+is_named name e = bytes_eq e.name name
+
+-- what a step makes of a chain that doesn't refuse it
+abbrev pub changed : Step → Chain → Chain
+changed (Attach at name label policy) chain = record {
+  entries = take at chain.entries ++ new_entry name (chain.attached + 1) policy ∷ drop at chain.entries;
+  attached = chain.attached + 1;
+}
+changed (Detach name) chain = record {
+  entries = filter (λ e. not (is_named name e)) chain.entries;
+  attached = chain.attached;
+}
+changed (Upgrade name label policy) chain = record {
+  entries = map (λ e. if is_named name e then upgraded e policy else e) chain.entries;
+  attached = chain.attached;
+}
+
+abbrev pub empty_chain : Chain
+empty_chain = record { entries = []; attached = 0 }
+
+-- the chain: that of the operator's steps, one after another
+abbrev pub chain : Behind → Chain
+chain [] = empty_chain
+chain (Op step ∷ past) = changed step (chain past)
+chain (_ ∷ past) = chain past
+
+-- the policy of the entry of a name
+abbrev pub policy_of : List ℕ → Behind → Option Policy
+policy_of name past = option_map (λ e. e.policy) (find (is_named name) (chain past).entries)
+
+-- ---- the clock and the buckets
+
+-- the latest moment, in milliseconds; 0 before the first
+abbrev pub moment : Behind → ℕ
+moment [] = 0
+moment (Moment ms ∷ past) = ms
+moment (_ ∷ past) = moment past
+
+-- the level of a name's bucket under another policy, and some milliseconds later; nothing changes where no entry has
+-- the name
+abbrev pub converted : Option Policy → Policy → ℕ → ℕ
+converted None new level = level
+converted (Some old) new level = level_under old new level
+
+abbrev pub filled : Option Policy → ℕ → ℕ → ℕ
+filled None passed level = level
+filled (Some policy) passed level = level_at policy level passed
+
+-- The level of the bucket of a name, since its latest attachment. It begins full, time fills it, a call's charge leaves
+-- what the note says, and an upgrade converts it. A policy that isn't one of rates has the level 0.
+abbrev pub level : List ℕ → Behind → ℕ
+level name [] = 0
+level name (Op (Attach at other label policy) ∷ past) =
+    if bytes_eq other name then first_level policy else level name past
+level name (Op (Upgrade other label policy) ∷ past) =
+    if bytes_eq other name then converted (policy_of name past) policy (level name past) else level name past
+level name (Moment ms ∷ past) = filled (policy_of name past) (ms - moment past) (level name past)
+level name (Charged seq other left ∷ past) = if bytes_eq other name then left else level name past
+level name (_ ∷ past) = level name past
+
+-- ---- notes
+
+-- what was noted of a call by the entry of a name, since its latest attachment
+abbrev pub noted : List ℕ → ℕ → Behind → Past
+noted name seq [] = nothing
+noted name seq (Op (Attach at other label policy) ∷ past) = if bytes_eq other name then nothing else noted name seq past
+noted name seq (Charged call other left ∷ past) =
+    if (call == seq) && bytes_eq other name then charged else noted name seq past
+noted name seq (Drawn call other window ticket ∷ past) =
+    if (call == seq) && bytes_eq other name then drawn ticket else noted name seq past
+noted name seq (Counted call other ∷ past) =
+    if (call == seq) && bytes_eq other name then counted else noted name seq past
+noted name seq (_ ∷ past) = noted name seq past
+
+-- the calls that the entry of a name has charged, drawn for or counted since its latest attachment, the latest first
+abbrev pub noted_calls : List ℕ → Behind → List ℕ
+noted_calls name [] = []
+noted_calls name (Op (Attach at other label policy) ∷ past) = if bytes_eq other name then [] else noted_calls name past
+noted_calls name (Charged call other left ∷ past) =
+    if bytes_eq other name then call ∷ noted_calls name past else noted_calls name past
+noted_calls name (Drawn call other window ticket ∷ past) =
+    if bytes_eq other name then call ∷ noted_calls name past else noted_calls name past
+noted_calls name (Counted call other ∷ past) =
+    if bytes_eq other name then call ∷ noted_calls name past else noted_calls name past
+noted_calls name (_ ∷ past) = noted_calls name past
+
+-- ---- calls
+
+-- the calls that were accepted, in order
+abbrev pub taken : Behind → List Taken
+taken [] = []
+taken (Took call ∷ past) = taken past ++ call ∷ []
+taken (_ ∷ past) = taken past
+
+-- the happening is the fate of a call: it was sent, or refused
+abbrev pub is_fate_of : ℕ → Happening → Bool
+is_fate_of seq (Sent call bytes) = call == seq
+is_fate_of seq (Refused call why) = call == seq
+is_fate_of seq _ = false
+
+-- the call was accepted and has no fate yet
+abbrev pub stands : Behind → Taken → Bool
+stands past call = not (list_any (is_fate_of call.seq) past)
+
+-- the calls that stand, in order
+abbrev pub standing : Behind → List Taken
+standing past = filter (stands past) (taken past)
+
+-- the link has failed: a call was refused for it
+abbrev pub is_transport_refusal : Happening → Bool
+is_transport_refusal (Refused seq cause.Transport) = true
+is_transport_refusal _ = false
+
+abbrev pub has_failed : Behind → Bool
+has_failed past = list_any is_transport_refusal past
+
+-- ---- the form of a call
+
+-- a call as policies judge it
+abbrev pub with_tree : ℕ → Taken → Node → Call
+with_tree conn call tree = record {
+  conn = conn;
+  seq = call.seq;
+  method = call.method;
+  number = call.number;
+  tree = tree;
+}
+
+-- the call with its copy, if it has one
+abbrev pub copied : ℕ → Taken → TookCopy → Option Call
+copied conn call (Copy tree) = Some (with_tree conn call tree)
+copied conn call (Malformed reason place value) = None
+
+-- what a policy leaves of a call, where it redacts
+abbrev pub redacted : Option Policy → Call → Call
+redacted (Some (Redact clears)) call = cleared_call clears call
+redacted _ call = call
+
+-- The form of the call of a number: its copy, less what was cleared from it since. A malformed call has none.
+abbrev pub form : ℕ → ℕ → Behind → Option Call
+form conn seq [] = None
+form conn seq (Took call ∷ past) = if call.seq == seq then copied conn call call.copy else form conn seq past
+form conn seq (Redacted call name version ∷ past) =
+    if call == seq then option_map (redacted (policy_of name past)) (form conn seq past) else form conn seq past
+form conn seq (_ ∷ past) = form conn seq past

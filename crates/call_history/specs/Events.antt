@@ -1,0 +1,201 @@
+-- What one step of a connection adds to its history, and how it moves its calls along the chain (this project's own).
+use Rattle.std.specs.Prelude.{◌≡◌, ℕ, ◌+◌, ◌-◌, ◌<◌, ◌≤◌, ◌==◌, nat_lt, min, not, Bool, true, false, List, [], ◌∷◌, ◌++◌, filter, find, All, Contains, length, map, if◌then◌else◌, Option, Some, None, slice_get}
+use Rattle.policy_access.specs.Verdict.{rule_name}
+use Rattle.policy_access.specs.declared.call.Call.{Call}
+use Rattle.engine_core.specs.Answers.{nothing}
+use Rattle.engine_core.specs.Chains.{Changes, Entry}
+use Rattle.engine_core.specs.Turns.{ComesOut}
+use Rattle.engine_core.specs.declared.op.Op.{Op as Step}
+use Rattle.engine_core.specs.declared.op.Op.TheVariants.{Attach, Detach, Upgrade}
+use Rattle.engine_core.specs.declared.outcome.Noted.{Noted}
+use Rattle.engine_core.specs.declared.outcome.Noted.TheVariants as notes
+use Rattle.engine_core.specs.declared.outcome.Outcome.{Outcome}
+use Rattle.engine_core.specs.declared.outcome.Outcome.TheVariants as outcomes
+use Rattle.engine_core.specs.declared.outcome.Why.{Why}
+use Rattle.engine_core.specs.declared.outcome.Why.TheVariants.{Denied, Short, Over}
+use Rattle.engine_core.specs.declared.policy.Policy.{Policy}
+use Rattle.engine_core.specs.declared.policy.Policy.TheVariants.{Access}
+use Rattle.call_history.specs.Behind.{Behind, chain, changed, is_named, moment, level, noted, noted_calls, standing, has_failed, form}
+use Rattle.call_history.specs.Legal.{IsLegalBehind}
+use Rattle.call_history.specs.Places.{ArePlaces}
+use Rattle.call_history.specs.Rules.{Under, MayTake, header, payload}
+use Rattle.call_history.specs.declared.happening.Cause.{Cause}
+use Rattle.call_history.specs.declared.happening.Cause.TheVariants as cause
+use Rattle.call_history.specs.declared.happening.Happening.{Happening}
+use Rattle.call_history.specs.declared.happening.Happening.TheVariants.{Took, Away, Op, Moment, Charged, Drawn, Counted, Redacted, Sent, Refused}
+use Rattle.call_history.specs.declared.happening.Taken.{Taken}
+use Rattle.call_history.specs.declared.limits.TheConstants.{MAX_STANDING}
+use Rattle.call_history.specs.declared.happening.TookCopy.TheVariants.{Copy, Malformed}
+use Rattle.mrpc_table.specs.Node.{Node}
+use Rattle.graph_form.specs.declared.reason.Reason.{Reason}
+
+-- the calls that stand, in order, each a number and a position; the chain's length is the position for transport
+abbrev pub Row : Type 0
+Row = List (ℕ × ℕ)
+
+-- a connection between two steps: what is behind, where its calls stand, and whether its link has failed
+pub record Course : Type 0 where
+  pub past : Behind
+  pub row : Row
+  pub ended : Bool
+
+-- ---- moves
+
+-- the first call at a position
+abbrev pub first_at : ℕ → Row → Option (ℕ × ℕ)
+first_at position row = find (λ call. call.1 == position) row
+
+-- calls behind a position go back to it
+abbrev pub back_to : ℕ → Row → Row
+back_to position row = map (λ call. (call.0, min call.1 position)) row
+
+-- calls behind an entry that leaves move up
+abbrev pub moved_up : ℕ → Row → Row
+moved_up position row = map (λ call. (call.0, if nat_lt position call.1 then call.1 - 1 else call.1)) row
+
+-- one call goes on by an entry
+abbrev pub goes_on : ℕ → Row → Row
+goes_on seq row = map (λ call. (call.0, if call.0 == seq then call.1 + 1 else call.1)) row
+
+-- a call and those of greater numbers begin again
+abbrev pub begin_again : ℕ → Row → Row
+begin_again seq row = map (λ call. (call.0, if nat_lt call.0 seq then call.1 else 0)) row
+
+-- one call is gone
+abbrev pub without_call : ℕ → Row → Row
+without_call seq row = filter (λ call. not (seq == call.0)) row
+
+-- the position of the entry of a name; the number of entries where there is none
+abbrev pub place_of : List ℕ → List Entry → ℕ
+place_of name [] = 0
+place_of name (e ∷ entries) = if is_named name e then 0 else place_of name entries + 1
+
+-- how a step of an operator moves calls
+abbrev pub moved_by : Step → List Entry → Row → Row
+moved_by (Attach at name label policy) entries row = back_to at row
+moved_by (Detach name) entries row = moved_up (place_of name entries) row
+moved_by (Upgrade name label policy) entries row = back_to (place_of name entries) row
+
+-- ---- turns
+
+-- the happening of a note
+abbrev pub note_behind : List ℕ → ℕ → Noted → Behind → Behind
+note_behind name seq notes.Nothing past = past
+note_behind name seq (notes.Charged left) past = Charged seq name left ∷ past
+note_behind name seq (notes.Drawn window ticket) past = Drawn seq name window ticket ∷ past
+note_behind name seq notes.Counted past = Counted seq name ∷ past
+
+-- the name of the rule at a place of a policy; a policy without rules has none
+abbrev pub rule_of : Policy → ℕ → List ℕ
+rule_of (Access policy) place = rule_name policy place
+rule_of _ place = []
+
+-- the cause of a refusal by an entry
+abbrev pub cause_of : Entry → Why → Cause
+cause_of e (Denied rule) = cause.Access e.name e.version (rule_of e.policy rule)
+cause_of e (Short left cost) = cause.Rate e.name left cost
+cause_of e (Over ticket cap) = cause.Quota e.name ticket cap
+
+-- what a turn of an entry adds, by how it comes out for a call, and where the calls stand after it
+abbrev pub turned : Entry → ℕ → Outcome → Course → Course
+turned e seq (outcomes.Passed n) c = record c { past = note_behind e.name seq n c.past; row = goes_on seq c.row }
+turned e seq (outcomes.Held left cost) c = c
+turned e seq (outcomes.Refused n why) c = record c {
+  past = Refused seq (cause_of e why) ∷ note_behind e.name seq n c.past;
+  row = without_call seq c.row;
+}
+turned e seq outcomes.Redacted c = record c {
+  past = Redacted seq e.name e.version ∷ c.past;
+  row = begin_again seq c.row;
+}
+
+-- ---- events
+
+-- what a step of a connection is
+pub data Event : Type 0 where
+  -- a call is accepted; one without a copy is refused at once
+  accepts : Taken → Event
+  -- a call is submitted and not accepted, since as many calls stand as may
+  turns_away : (method number addr : ℕ) → Event
+  operates : Step → Event
+  -- the clock shows a moment
+  shows : ℕ → Event
+  -- the entry at a position has a turn, and it comes out so for the call of a number
+  turns : (position seq : ℕ) → Outcome → Event
+  -- the call of a number is sent, in a frame of so many bytes
+  sends : (seq bytes : ℕ) → Event
+  -- the link has failed
+  fails : Event
+
+-- what is behind after an acceptance, and where the calls stand
+abbrev pub accepted : Taken → Course → Course
+accepted call c = elim call.copy [
+  | Copy tree ↦ record c { past = Took call ∷ c.past; row = c.row ++ (call.seq, 0) ∷ [] }
+  | Malformed reason place value ↦ record c { past = Refused call.seq cause.Malformed ∷ Took call ∷ c.past }
+]
+
+-- calls are refused for the link, one after another
+abbrev pub refused_for_link : List Taken → Behind → Behind
+refused_for_link [] past = past
+refused_for_link (call ∷ calls) past = refused_for_link calls (Refused call.seq cause.Transport ∷ past)
+
+-- the entry at a position has a turn with the first call there
+pub record HasTurn (u : Under) (c : Course) (position seq : ℕ) (outcome : Outcome) (e : Entry) : Type 0 where
+  pub entry : slice_get (chain c.past).entries position ≡ Some e
+  pub first : first_at position c.row ≡ Some (seq, position)
+  pub call : Call
+  pub is_form : form u.conn seq c.past ≡ Some call
+  pub comes : ComesOut e.policy (level e.name c.past) (moment c.past) call (noted e.name seq c.past) outcome
+
+-- the first call that stands for transport has this number, and its form a frame of so many bytes
+pub record IsReady (u : Under) (c : Course) (seq bytes : ℕ) : Type 0 where
+  pub first : first_at (length (chain c.past).entries) c.row ≡ Some (seq, length (chain c.past).entries)
+  pub sent : Call
+  pub is_form : form u.conn seq c.past ≡ Some sent
+  pub long : bytes ≡ header + length (payload u.table sent)
+
+-- an event leads from one course to the next
+pub data Comes (u : Under) (old : Course) (event : Event) (new : Course) : Type 0 where
+  takes : (call : Taken) → event ≡ accepts call → old.ended ≡ false → MayTake u old.past call
+      → new ≡ accepted call old → Comes u old event new
+  is_away : (method number addr : ℕ) → event ≡ turns_away method number addr → length (standing old.past) ≡ MAX_STANDING
+      → new ≡ record old { past = Away method number addr ∷ old.past } → Comes u old event new
+  changes : (step : Step) → event ≡ operates step → Changes (chain old.past) step (changed step (chain old.past))
+      → new ≡ record old { past = Op step ∷ old.past; row = moved_by step (chain old.past).entries old.row }
+      → Comes u old event new
+  rises : (ms : ℕ) → event ≡ shows ms → moment old.past < ms
+      → new ≡ record old { past = Moment ms ∷ old.past } → Comes u old event new
+  -- a moment that isn't greater changes nothing
+  stays : (ms : ℕ) → event ≡ shows ms → ms ≤ moment old.past → new ≡ old → Comes u old event new
+  has_turn : (position seq : ℕ) (outcome : Outcome) (e : Entry) → event ≡ turns position seq outcome
+      → HasTurn u old position seq outcome e → new ≡ turned e seq outcome old → Comes u old event new
+  is_sent : (seq bytes : ℕ) → event ≡ sends seq bytes → old.ended ≡ false → IsReady u old seq bytes
+      → new ≡ record old { past = Sent seq bytes ∷ old.past; row = without_call seq old.row } → Comes u old event new
+  -- the calls that stand are refused
+  link_failed : event ≡ fails
+      → new ≡ record { past = refused_for_link (standing old.past) old.past; row = []; ended = true }
+      → Comes u old event new
+
+-- events lead from one course to another, one after the other
+abbrev pub Lead : Under → Course → List Event → Course → Type 0
+Lead u old [] new = new ≡ old
+Lead u old (event ∷ events) new = (next : Course) × Comes u old event next × Lead u next events new
+
+-- a connection at its beginning
+abbrev pub beginning : Course
+beginning = record { past = []; row = []; ended = false }
+
+-- a call that stands and of which an entry has noted nothing comes behind all calls that it has noted
+abbrev pub NotesAscend : Behind → Type 0
+NotesAscend past = (name : List ℕ) (seq : ℕ) → Contains (map (λ call. call.seq) (standing past)) seq
+    → noted name seq past ≡ nothing → All (λ other. other < seq) (noted_calls name past)
+
+-- What holds of a connection between two steps: its history is legal, its row has exactly the calls that stand, in
+-- order, at places where they may stand, entries note calls in order, and behind a failed link none stands.
+pub record IsCourse (u : Under) (c : Course) : Type 0 where
+  pub legal : IsLegalBehind u c.past
+  pub calls : map (λ call. call.0) c.row ≡ map (λ call. call.seq) (standing c.past)
+  pub places : ArePlaces u c.past (map (λ call. call.1) c.row)
+  pub notes_ascend : NotesAscend c.past
+  pub failed : has_failed c.past ≡ true → c.ended ≡ true
+  pub none_left : c.ended ≡ true → c.row ≡ []

@@ -1,0 +1,71 @@
+-- Which histories are legal (this project's own).
+use Rattle.std.specs.Prelude.{◌≡◌, ℕ, ◌<◌, ◌==◌, List, [], ◌∷◌, ◌++◌, Bool, true, false, reverse, Option, Some, None}
+use Rattle.std.specs.List.{filter_map}
+use Rattle.std.specs.Prelude.{if◌then◌else◌}
+use Rattle.mrpc_table.specs.declared.table.Table.{Table}
+use Rattle.engine_core.specs.declared.policy.Policy.{Policy}
+use Rattle.call_history.specs.Behind.{Behind, policy_of, standing, has_failed}
+use Rattle.call_history.specs.Rules.{Under, May, cap_of}
+use Rattle.call_history.specs.declared.happening.Happened.{Happened}
+use Rattle.call_history.specs.declared.happening.Happening.{Happening}
+use Rattle.call_history.specs.declared.happening.Happening.TheVariants.{Took, Drawn}
+use Rattle.call_history.specs.declared.happening.TookCopy.{TookCopy}
+use Rattle.call_history.specs.declared.happening.TookCopy.TheVariants.{Copy, Malformed}
+
+-- a history of all connections, in order
+abbrev pub History : Type 0
+History = List Happened
+
+-- what happened on a connection, in order
+abbrev pub on : ℕ → History → List Happening
+on conn h = filter_map (λ x. if x.conn == conn then Some x.what else None) h
+
+-- the same, the latest first
+abbrev pub behind : ℕ → History → Behind
+behind conn h = reverse (on conn h)
+
+-- what is behind came as the rules say; something may be left open
+abbrev pub IsPrefix : Under → Behind → Type 0
+IsPrefix u [] = Unit {0}
+IsPrefix u (last ∷ past) = IsPrefix u past × May u past last
+
+-- a malformed call waits for its refusal
+abbrev pub HasNoCopy : TookCopy → Type 0
+HasNoCopy (Copy tree) = ⊥
+HasNoCopy (Malformed reason place value) = Unit {0}
+
+abbrev pub AwaitsMalformed : Behind → Type 0
+AwaitsMalformed (Took call ∷ past) = HasNoCopy call.copy
+AwaitsMalformed _ = ⊥
+
+-- a call whose ticket isn't below the cap waits for its refusal
+pub record IsOver (past : Behind) (name : List ℕ) (ticket : ℕ) : Type 0 where
+  pub policy : Policy
+  pub cap : ℕ
+  pub is_policy : policy_of name past ≡ Some policy
+  pub is_cap : cap_of policy ≡ Some cap
+  pub over : (ticket < cap) → ⊥
+
+abbrev pub AwaitsQuota : Behind → Type 0
+AwaitsQuota (Drawn seq name window ticket ∷ past) = IsOver past name ticket
+AwaitsQuota _ = ⊥
+
+-- calls stand on a link that has failed
+pub record AwaitsLink (past : Behind) : Type 0 where
+  pub failed : has_failed past ≡ true
+  pub some_stand : standing past ≡ [] → ⊥
+
+-- nothing is left open
+pub record IsSettledUp (past : Behind) : Type 0 where
+  pub malformed : AwaitsMalformed past → ⊥
+  pub quota : AwaitsQuota past → ⊥
+  pub link : AwaitsLink past → ⊥
+
+-- the happenings of a connection are legal: each came as the rules say, and nothing is left open
+pub record IsLegalBehind (u : Under) (past : Behind) : Type 0 where
+  pub prefix : IsPrefix u past
+  pub closed : IsSettledUp past
+
+-- a history is legal where what happened on each connection is
+abbrev pub IsLegal : Table → ℕ → History → Type 0
+IsLegal T limit h = (conn : ℕ) → IsLegalBehind (record { conn = conn; table = T; limit = limit }) (behind conn h)

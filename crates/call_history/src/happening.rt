@@ -1,0 +1,126 @@
+//! What can happen on a connection.
+
+use engine_core::Op;
+use graph_form::Reason;
+use mrpc_table::{Name, Tree};
+
+/// What the service took of a call's arguments.
+#[derive(Drop)]
+pub enum TookCopy {
+    /// A private copy.
+    Copy {
+        tree: Tree,
+    },
+    /// The graph is malformed: why, and the place and the value of the last word that was loaded.
+    Malformed {
+        reason: Reason,
+        place: u64,
+        value: u64,
+    },
+}
+
+/// A call that was accepted.
+#[derive(Drop)]
+pub struct Taken {
+    /// The number of the call among those accepted on its connection, from 1.
+    pub seq: u32,
+    /// The index of its method.
+    pub method: u16,
+    /// 0 of a request, or the number of the request that it answers.
+    pub number: u32,
+    /// Where its message stands in the heap.
+    pub addr: u64,
+    /// How many stores had been made on that heap before it.
+    pub after: u64,
+    /// How many words were loaded for it.
+    pub count: u64,
+    pub copy: TookCopy,
+}
+
+/// Why a call was refused.
+#[derive(Drop)]
+pub enum Cause {
+    /// Its graph is malformed.
+    Malformed,
+    /// An access policy denied it: the name and the version of its entry, and the name of the rule.
+    Access {
+        name: Name,
+        version: u32,
+        rule: Name,
+    },
+    /// The level of a rate policy was below the cost.
+    Rate {
+        name: Name,
+        level: u64,
+        cost: u64,
+    },
+    /// Its ticket wasn't below the cap of a quota.
+    Quota {
+        name: Name,
+        ticket: u64,
+        cap: u64,
+    },
+    /// The link failed.
+    Transport,
+}
+
+/// One thing that happened on a connection. A call is named by its number there, an entry of the chain by its name.
+#[derive(Drop)]
+pub enum Happening {
+    /// A call was accepted.
+    Took(Taken),
+    /// A call was submitted and not accepted, since as many calls stood as may.
+    Away {
+        method: u16,
+        number: u32,
+        addr: u64,
+    },
+    /// An operator changed the chain.
+    Op(Op),
+    /// The clock of the connection shows a moment, in milliseconds.
+    Moment {
+        ms: u64,
+    },
+    /// A rate policy charged a call, and this is the level after it.
+    Charged {
+        seq: u32,
+        name: Name,
+        level: u64,
+    },
+    /// A ticket of a quota was drawn for a call, in a window.
+    Drawn {
+        seq: u32,
+        name: Name,
+        window: u64,
+        ticket: u64,
+    },
+    /// A call was counted.
+    Counted {
+        seq: u32,
+        name: Name,
+    },
+    /// A redacting policy of this version cleared fields from a call.
+    Redacted {
+        seq: u32,
+        name: Name,
+        version: u32,
+    },
+    /// A call's frame was handed over; its length is that of header and payload.
+    Sent {
+        seq: u32,
+        bytes: u64,
+    },
+    /// A call was refused, and is never sent.
+    Refused {
+        seq: u32,
+        cause: Cause,
+    },
+}
+
+/// A happening, with its connection.
+#[derive(Drop)]
+pub struct Happened {
+    /// The connection, 1 to 16.
+    pub conn: u32,
+    pub what: Happening,
+}

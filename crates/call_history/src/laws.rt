@@ -1,0 +1,141 @@
+//! Laws of histories. These functions do nothing; their clauses hold.
+
+ghost use Rattle.std.specs.Prelude.{◌≡◌, ◌≢◌, ◌+◌, ◌-◌, ◌==◌, ℕ, not, List, [], ◌∷◌, ◌++◌, All, filter, length, option_map};
+ghost use Rattle.mrpc_table.specs.declared.table.Table.{Table};
+ghost use Rattle.engine_core.specs.Answers.{nothing, charged, drawn, counted};
+ghost use Rattle.engine_core.specs.Chains.{Chain, Changes, IsChain};
+ghost use Rattle.engine_core.specs.Policies.{first_level};
+ghost use Rattle.engine_core.specs.declared.op.Op.{Op as Step};
+ghost use Rattle.engine_core.specs.declared.op.Op.TheVariants.{Attach, Upgrade};
+ghost use Rattle.engine_core.specs.declared.policy.Policy.{Policy};
+ghost use Rattle.call_history.specs.Behind.{Behind, chain, changed, converted, copied, filled, form, level, moment, noted, policy_of, redacted, standing, taken};
+ghost use Rattle.call_history.specs.Events.{Course, Event, Comes, Lead, IsCourse, beginning, refused_for_link};
+ghost use Rattle.call_history.specs.Legal.{History, IsLegal, IsLegalBehind, IsPrefix, behind};
+ghost use Rattle.call_history.specs.Rules.{Under, May};
+ghost use Rattle.call_history.specs.declared.happening.Cause.{Cause};
+ghost use Rattle.call_history.specs.declared.happening.Cause.TheVariants as cause;
+ghost use Rattle.call_history.specs.declared.happening.Happened.{Happened};
+ghost use Rattle.call_history.specs.declared.happening.Happening.{Happening};
+ghost use Rattle.call_history.specs.declared.happening.Happening.TheVariants.{Took, Op, Moment, Charged, Drawn, Counted, Redacted, Sent, Refused};
+ghost use Rattle.call_history.specs.declared.happening.Taken.{Taken};
+
+use engine_core::stays_chain;
+
+/// What is behind on a connection once a history goes on.
+pub fn histories_go_on()
+    ensures joined { (conn : ℕ) (h k : History) → behind conn (h ++ k) ≡ behind conn k ++ behind conn h }
+    ensures one_more { (conn : ℕ) (h : History) (x : Happened) → x.conn ≡ conn
+        → behind conn (h ++ x ∷ []) ≡ x.what ∷ behind conn h }
+    ensures prefix { (u : Under) (h : History) (x : Happened) → x.conn ≡ u.conn → IsPrefix u (behind u.conn h)
+        → May u (behind u.conn h) x.what → IsPrefix u (behind u.conn (h ++ x ∷ [])) }
+    ensures earlier { (u : Under) (h : History) (x : Happened) → x.conn ≡ u.conn
+        → IsPrefix u (behind u.conn (h ++ x ∷ [])) → IsPrefix u (behind u.conn h) }
+    ensures may { (u : Under) (h : History) (x : Happened) → x.conn ≡ u.conn
+        → IsPrefix u (behind u.conn (h ++ x ∷ [])) → May u (behind u.conn h) x.what }
+{}
+
+/// What happens on other connections changes nothing on a connection, and is legal or not by itself.
+pub fn connections_are_apart()
+    ensures behind { (conn : ℕ) (h k : History) → All (λ x. x.conn ≢ conn) k → behind conn (h ++ k) ≡ behind conn h }
+    ensures legal { (u : Under) (h k : History) → All (λ x. x.conn ≢ u.conn) k → IsLegalBehind u (behind u.conn h)
+        → IsLegalBehind u (behind u.conn (h ++ k)) }
+    ensures one { (T : Table) (limit conn : ℕ) (h k : History) → IsLegal T limit h → All (λ x. x.conn ≡ conn) k
+        → IsLegalBehind (record { conn = conn; table = T; limit = limit }) (behind conn (h ++ k))
+        → IsLegal T limit (h ++ k) }
+{}
+
+/// The chain once a step of an operator comes.
+pub fn chain_goes_on()
+    ensures step { (past : Behind) (step : Step) → chain (Op step ∷ past) ≡ changed step (chain past) }
+    ensures computes { (before after : Chain) (step : Step) → IsChain before → Changes before step after
+        → after ≡ changed step before }
+    ensures is_chain { (u : Under) (past : Behind) → IsPrefix u past → IsChain (chain past) }
+{
+    stays_chain();
+}
+
+/// The level of the bucket of a name once one more thing happens.
+pub fn levels_go_on()
+    ensures attached { (past : Behind) (at : ℕ) (name label : List ℕ) (policy : Policy)
+        → level name (Op (Attach at name label policy) ∷ past) ≡ first_level policy }
+    ensures attached_other { (past : Behind) (at : ℕ) (name other label : List ℕ) (policy : Policy) → name ≢ other
+        → level other (Op (Attach at name label policy) ∷ past) ≡ level other past }
+    ensures upgraded { (past : Behind) (name label : List ℕ) (policy : Policy)
+        → level name (Op (Upgrade name label policy) ∷ past)
+        ≡ converted (policy_of name past) policy (level name past) }
+    ensures upgraded_other { (past : Behind) (name other label : List ℕ) (policy : Policy) → name ≢ other
+        → level other (Op (Upgrade name label policy) ∷ past) ≡ level other past }
+    ensures filled { (past : Behind) (ms : ℕ) (name : List ℕ)
+        → level name (Moment ms ∷ past) ≡ filled (policy_of name past) (ms - moment past) (level name past) }
+    ensures charged { (past : Behind) (seq left : ℕ) (name : List ℕ)
+        → level name (Charged seq name left ∷ past) ≡ left }
+    ensures charged_other { (past : Behind) (seq left : ℕ) (name other : List ℕ) → name ≢ other
+        → level other (Charged seq name left ∷ past) ≡ level other past }
+{}
+
+/// What was noted of a call by the entry of a name once one more thing happens.
+pub fn notes_go_on()
+    ensures attached { (past : Behind) (at seq : ℕ) (name label : List ℕ) (policy : Policy)
+        → noted name seq (Op (Attach at name label policy) ∷ past) ≡ nothing }
+    ensures attached_other { (past : Behind) (at seq : ℕ) (name other label : List ℕ) (policy : Policy) → name ≢ other
+        → noted other seq (Op (Attach at name label policy) ∷ past) ≡ noted other seq past }
+    ensures charged { (past : Behind) (seq left : ℕ) (name : List ℕ)
+        → noted name seq (Charged seq name left ∷ past) ≡ charged }
+    ensures charged_another { (past : Behind) (seq s left : ℕ) (name other : List ℕ) → seq ≢ s
+        → noted other s (Charged seq name left ∷ past) ≡ noted other s past }
+    ensures charged_elsewhere { (past : Behind) (seq s left : ℕ) (name other : List ℕ) → name ≢ other
+        → noted other s (Charged seq name left ∷ past) ≡ noted other s past }
+    ensures drawn { (past : Behind) (seq window ticket : ℕ) (name : List ℕ)
+        → noted name seq (Drawn seq name window ticket ∷ past) ≡ drawn ticket }
+    ensures drawn_another { (past : Behind) (seq s window ticket : ℕ) (name other : List ℕ) → seq ≢ s
+        → noted other s (Drawn seq name window ticket ∷ past) ≡ noted other s past }
+    ensures drawn_elsewhere { (past : Behind) (seq s window ticket : ℕ) (name other : List ℕ) → name ≢ other
+        → noted other s (Drawn seq name window ticket ∷ past) ≡ noted other s past }
+    ensures counted { (past : Behind) (seq : ℕ) (name : List ℕ) → noted name seq (Counted seq name ∷ past) ≡ counted }
+    ensures counted_another { (past : Behind) (seq s : ℕ) (name other : List ℕ) → seq ≢ s
+        → noted other s (Counted seq name ∷ past) ≡ noted other s past }
+    ensures counted_elsewhere { (past : Behind) (seq s : ℕ) (name other : List ℕ) → name ≢ other
+        → noted other s (Counted seq name ∷ past) ≡ noted other s past }
+{}
+
+/// The form of a call once a call is accepted or fields are cleared.
+pub fn forms_go_on()
+    ensures taken { (conn : ℕ) (past : Behind) (call : Taken)
+        → form conn call.seq (Took call ∷ past) ≡ copied conn call call.copy }
+    ensures taken_another { (conn seq : ℕ) (past : Behind) (call : Taken) → call.seq ≢ seq
+        → form conn seq (Took call ∷ past) ≡ form conn seq past }
+    ensures cleared { (conn seq version : ℕ) (name : List ℕ) (past : Behind)
+        → form conn seq (Redacted seq name version ∷ past)
+        ≡ option_map (redacted (policy_of name past)) (form conn seq past) }
+    ensures cleared_another { (conn seq s version : ℕ) (name : List ℕ) (past : Behind) → seq ≢ s
+        → form conn s (Redacted seq name version ∷ past) ≡ form conn s past }
+{}
+
+/// The calls that stand once a call is accepted, sent or refused.
+pub fn standing_goes_on()
+    ensures taken { (u : Under) (past : Behind) (call : Taken) → IsPrefix u past
+        → call.seq ≡ length (taken past) + 1 → standing (Took call ∷ past) ≡ standing past ++ call ∷ [] }
+    ensures malformed { (u : Under) (past : Behind) (call : Taken) → IsPrefix u past
+        → call.seq ≡ length (taken past) + 1
+        → standing (Refused call.seq cause.Malformed ∷ Took call ∷ past) ≡ standing past }
+    ensures sent { (past : Behind) (seq bytes : ℕ)
+        → standing (Sent seq bytes ∷ past) ≡ filter (λ call. not (seq == call.seq)) (standing past) }
+    ensures sent_first { (u : Under) (past : Behind) (call : Taken) (others : List Taken) (bytes : ℕ) → IsPrefix u past
+        → standing past ≡ call ∷ others → standing (Sent call.seq bytes ∷ past) ≡ others }
+    ensures refused { (past : Behind) (seq : ℕ) (why : Cause)
+        → standing (Refused seq why ∷ past) ≡ filter (λ call. not (seq == call.seq)) (standing past) }
+    ensures link_failed { (u : Under) (past : Behind) → IsLegalBehind u past
+        → standing (refused_for_link (standing past) past) ≡ [] }
+{}
+
+/// What holds of a connection between two steps holds at its beginning, and each event keeps it. So behind every list of
+/// events the history is legal, the calls in the row are those that stand, in order, and their positions are places.
+pub fn events_keep()
+    ensures beginning { (u : Under) → IsCourse u beginning }
+    ensures event { (u : Under) (old new : Course) (event : Event) → IsCourse u old → Comes u old event new
+        → IsCourse u new }
+    ensures events { (u : Under) (old new : Course) (events : List Event) → IsCourse u old → Lead u old events new
+        → IsCourse u new }
+{
+    stays_chain();
+}

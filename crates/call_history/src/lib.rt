@@ -1,0 +1,20 @@
+//! Histories of calls: what happens on a connection, what has become of its chain and its calls by then, which
+//! histories are legal, and where calls stand.
+//!
+//! A [`Happening`] is one thing that happened on a connection; a history is a list of them. `specs/Behind.antt` reads
+//! from a list what it has made of a connection: its chain, its moment, the level of each bucket, what was noted of a
+//! call, the form of a call, and which calls stand. `specs/Rules.antt` says which happening may come next, rule by rule,
+//! and `specs/Legal.antt` which histories are legal. `specs/Places.antt` says where calls may stand, and
+//! `specs/Events.antt` what one step of a connection adds.
+//!
+//! It stands on the engines, for what an entry of a chain answers to a call and how a step changes a chain, and on
+//! graphs, for why one is malformed. The layers above use one contract: these definitions, and the laws on them.
+#![tactic(auto)]
+
+mod happening;
+mod laws;
+mod limits;
+
+pub use happening::{Cause, Happened, Happening, Taken, TookCopy};
+pub use laws::{chain_goes_on, connections_are_apart, events_keep, forms_go_on, histories_go_on, levels_go_on, notes_go_on, standing_goes_on};
+pub use limits::MAX_STANDING;
