@@ -8,8 +8,10 @@ use Rattle.engine_core.specs.Answers.{nothing}
 use Rattle.engine_core.specs.Chains.{Chain, Changes, Entry, names_of, new_entry, IsAgainst, is_taken, is_past, taken as is_taken_name, no_place}
 use Rattle.engine_core.specs.declared.op.Op.TheVariants.{Attach}
 use Rattle.engine_core.specs.declared.policy.Policy.{Policy}
-use Rattle.call_history.specs.Behind.{Behind, chain, changed, noted, noted_calls, standing}
-use Rattle.call_history.specs.Events.{Course, NotesAscend, back_to}
+use Rattle.call_history.specs.Behind.{Behind, chain, noted, noted_calls, standing}
+use Rattle.engine_core.specs.Chains.{changed}
+use Rattle.call_history.specs.Events.{Course, NotesAscend}
+use Rattle.engine_core.specs.Moves.{back_to}
 use Rattle.call_history.specs.Rules.{Under, Lets}
 use Rattle.call_history.specs.declared.happening.Happening.TheVariants.{Op}
 use Rattle.call_history.specs.declared.happening.Taken.{Taken}

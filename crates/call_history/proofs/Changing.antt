@@ -8,7 +8,7 @@ use Rattle.engine_core.specs.Chains.{Chain, IsChain, Entry, names_of, new_entry,
 use Rattle.engine_core.specs.declared.op.Op.{Op as Step}
 use Rattle.engine_core.specs.declared.op.Op.TheVariants.{Attach, Detach, Upgrade}
 use Rattle.engine_core.specs.declared.policy.Policy.{Policy}
-use Rattle.call_history.specs.Behind.{changed, is_named}
+use Rattle.engine_core.specs.Chains.{changed, is_named}
 use Rattle.call_history.proofs.Chained.{named-there, contains-middle, front-apart}
 use Rattle.call_history.proofs.Detaching.{others_of}
 use Rattle.call_history.proofs.Further.{contains-first, contains-later}

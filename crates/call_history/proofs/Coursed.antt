@@ -3,7 +3,7 @@ use Rattle.std.proofs.Common.{◌≡◌, ℕ, ◌+◌, ◌<◌, ◌≤◌, zero,
 use Rattle.std.specs.Prelude.{slice_get, Some, None}
 use Rattle.std.specs.List.{AllZip}
 use Rattle.call_history.specs.Behind.{Behind, chain, standing}
-use Rattle.call_history.specs.Events.{Row}
+use Rattle.engine_core.specs.Moves.{Row}
 use Rattle.call_history.specs.Places.{NeverRise, MayStandAt, ArePlaces}
 use Rattle.call_history.specs.Rules.{Under}
 use Rattle.call_history.specs.declared.happening.Taken.{Taken}

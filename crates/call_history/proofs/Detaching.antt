@@ -7,8 +7,10 @@ use Rattle.std.proofs.lemmas.List.Elements.{All-nil, All-cons, All-head, All-tai
 use Rattle.mrpc_table.specs.Valid.{AreDistinct}
 use Rattle.engine_core.specs.Chains.{Chain, Changes, Entry, names_of, IsAgainst, detaches_none, no_such}
 use Rattle.engine_core.specs.declared.op.Op.TheVariants.{Detach}
-use Rattle.call_history.specs.Behind.{Behind, chain, changed, is_named}
-use Rattle.call_history.specs.Events.{Course, moved_up, place_of}
+use Rattle.call_history.specs.Behind.{Behind, chain}
+use Rattle.engine_core.specs.Chains.{changed, is_named}
+use Rattle.call_history.specs.Events.{Course}
+use Rattle.engine_core.specs.Moves.{moved_up, place_of}
 use Rattle.call_history.specs.Rules.{Under, Lets}
 use Rattle.call_history.specs.declared.happening.Happening.TheVariants.{Op}
 use Rattle.call_history.proofs.Further.{contains-cases, contains-first, contains-later}

@@ -4,7 +4,7 @@ use Rattle.std.specs.Prelude.{Contains, find, Some, None, Option}
 use Rattle.std.proofs.lemmas.Bool.{eq-eqb, ne_eqb, eqb-true, eqb-false}
 use Rattle.std.proofs.lemmas.List.Elements.{Contains-append_cases, Contains-push_cases}
 use Rattle.call_history.specs.Behind.{Behind}
-use Rattle.call_history.specs.Events.{Row, first_at, goes_on}
+use Rattle.engine_core.specs.Moves.{Row, first_at, goes_on}
 use Rattle.call_history.specs.Rules.{Under}
 use Rattle.call_history.proofs.Rowed.{StandsAt, IsPlaced, IsRow, row-weaker, placed-weaker}
 

@@ -5,7 +5,8 @@ use Rattle.engine_core.specs.Chains.{Changes}
 use Rattle.engine_core.specs.declared.outcome.Noted.TheVariants as notes
 use Rattle.engine_core.specs.declared.op.Op.{Op as Step}
 use Rattle.engine_core.specs.declared.policy.Policy.{Policy}
-use Rattle.call_history.specs.Behind.{Behind, chain, changed, moment, policy_of, standing, has_failed}
+use Rattle.call_history.specs.Behind.{Behind, chain, moment, policy_of, standing, has_failed}
+use Rattle.engine_core.specs.Chains.{changed}
 use Rattle.call_history.specs.Legal.{HasNoCopy, AwaitsMalformed, IsOver, AwaitsQuota, AwaitsLink, IsSettledUp}
 use Rattle.call_history.specs.Rules.{Under, MayTake, IsRefusedAtOnce, IsNoMalformedRefusal, RefusesMalformed, IsNumbered, KeepsChain, NotesWhatIsDue, SendsInOrder, RefusesAsAnswered, cap_of, RefusesDrawn, IsCalledFor, IsCleared, IsSentNext, IsAnswered, IsQuiet, IsLeft, IsLinkRefusal, May}
 use Rattle.call_history.specs.declared.happening.Cause.{Cause}

@@ -7,7 +7,7 @@ use Rattle.std.proofs.lemmas.Bool.{eq-eqb, ne_eqb, cases_eq}
 use Rattle.std.proofs.lemmas.List.{reverse-append}
 use Rattle.std.proofs.lemmas.List.Elements.{All-head, All-tail, All-weaker, filter_map-append}
 use Rattle.mrpc_table.specs.declared.table.Table.{Table}
-use Rattle.policy_access.specs.declared.call.Call.{Call}
+use Rattle.mrpc_table.specs.declared.call.Call.{Call}
 use Rattle.engine_core.specs.Answers.{Past, nothing, charged, drawn, counted}
 use Rattle.engine_core.specs.Policies.{first_level}
 use Rattle.engine_core.specs.declared.op.Op.TheVariants.{Attach, Upgrade}

@@ -6,7 +6,8 @@ use Rattle.std.proofs.lemmas.List.Elements.{All-weaker}
 use Rattle.std.proofs.lemmas.Option.{slice_get_within}
 use Rattle.engine_core.specs.Chains.{Entry}
 use Rattle.call_history.specs.Behind.{Behind, chain, taken, standing, has_failed}
-use Rattle.call_history.specs.Events.{Row, Course, NotesAscend, IsCourse, first_at, beginning}
+use Rattle.call_history.specs.Events.{Course, NotesAscend, IsCourse, beginning}
+use Rattle.engine_core.specs.Moves.{Row, first_at}
 use Rattle.call_history.specs.Legal.{IsPrefix, IsSettledUp, AwaitsLink, AwaitsMalformed, AwaitsQuota}
 use Rattle.std.specs.List.{AllZip}
 use Rattle.call_history.specs.Places.{NeverRise, MayStandAt}

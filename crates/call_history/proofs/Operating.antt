@@ -4,7 +4,8 @@ use Rattle.std.specs.Prelude.{All, Contains}
 use Rattle.std.proofs.lemmas.List.Elements.{All-nil, All-cons, All-head, All-tail}
 use Rattle.engine_core.specs.Chains.{Changes, Entry}
 use Rattle.engine_core.specs.declared.op.Op.{Op as Step}
-use Rattle.call_history.specs.Behind.{Behind, chain, changed, taken}
+use Rattle.call_history.specs.Behind.{Behind, chain, taken}
+use Rattle.engine_core.specs.Chains.{changed}
 use Rattle.call_history.specs.Events.{Course, NotesAscend}
 use Rattle.call_history.specs.Rules.{Under}
 use Rattle.call_history.specs.declared.happening.Happening.TheVariants.{Op}

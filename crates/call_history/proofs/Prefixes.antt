@@ -8,7 +8,8 @@ use Rattle.engine_core.specs.Chains.{Chain, IsChain, Changes}
 use Rattle.std.specs.Str.{bytes_eq}
 use Rattle.engine_core.specs.declared.op.Op.{Op as Step}
 use Rattle.engine_core.specs.declared.op.Op.TheVariants.{Attach, Detach, Upgrade}
-use Rattle.call_history.specs.Behind.{Behind, chain, changed, taken, is_fate_of, stands, standing, noted_calls}
+use Rattle.call_history.specs.Behind.{Behind, chain, taken, is_fate_of, stands, standing, noted_calls}
+use Rattle.engine_core.specs.Chains.{changed}
 use Rattle.call_history.specs.Legal.{IsPrefix}
 use Rattle.call_history.specs.Rules.{Under, May, IsRefusedAtOnce, RefusesMalformed, IsFirst, IsSentNext}
 use Rattle.call_history.specs.declared.happening.Cause.{Cause}

@@ -2,11 +2,12 @@
 use Rattle.std.proofs.Common.{◌≡◌, ◌≢◌, ℕ, ◌+◌, ◌<◌, ◌≤◌, ◌==◌, Bool, true, false, cond, List, [], ◌∷◌, length, map, refl, sym, ap, ◌∙◌, subst, arith}
 use Rattle.std.specs.Prelude.{Contains, Option, Some, None, nat_lt, option_map}
 use Rattle.std.proofs.lemmas.Bool.{ne_eqb}
-use Rattle.policy_access.specs.declared.call.Call.{Call}
+use Rattle.mrpc_table.specs.declared.call.Call.{Call}
 use Rattle.engine_core.specs.Answers.{redact, Answers}
 use Rattle.engine_core.specs.Chains.{Entry}
 use Rattle.call_history.specs.Behind.{Behind, chain, taken, standing, form, level, moment, noted, policy_of, redacted}
-use Rattle.call_history.specs.Events.{Course, begin_again}
+use Rattle.call_history.specs.Events.{Course}
+use Rattle.engine_core.specs.Moves.{begin_again}
 use Rattle.call_history.specs.Rules.{Under}
 use Rattle.call_history.specs.declared.happening.Happening.TheVariants.{Redacted}
 use Rattle.call_history.proofs.Going.{may-redact}

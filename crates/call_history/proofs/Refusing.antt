@@ -2,7 +2,7 @@
 use Rattle.std.proofs.Common.{◌≡◌, ◌≢◌, ℕ, ◌+◌, ◌<◌, ◌≤◌, ◌==◌, ◌||◌, Bool, true, false, cond, not, inl, inr, List, [], ◌∷◌, ◌++◌, length, map, take, refl, sym, ap, ◌∙◌, subst, arith}
 use Rattle.std.specs.Prelude.{All, Contains, filter, Option, Some, None, slice_get}
 use Rattle.std.proofs.lemmas.Bool.{cases_eq, eq-eqb, ne_eqb}
-use Rattle.policy_access.specs.declared.call.Call.{Call}
+use Rattle.mrpc_table.specs.declared.call.Call.{Call}
 use Rattle.engine_core.specs.Answers.{Past, nothing, charged, drawn, counted, Answer, pass, deny, refuse, over, note, past_after, level_left, Answers, allows, denies, was_charged, charges, holds, refuses, is_within, is_over, draws, was_counted, counts, is_clear, redacts}
 use Rattle.engine_core.specs.Chains.{Entry}
 use Rattle.engine_core.specs.Turns.{refusal}
@@ -13,7 +13,8 @@ use Rattle.engine_core.specs.declared.outcome.Why.TheVariants.{Denied, Short, Ov
 use Rattle.engine_core.specs.declared.policy.Policy.{Policy}
 use Rattle.engine_core.specs.declared.policy.Policy.TheVariants.{Access, Rate, Quota, Count, Redact}
 use Rattle.call_history.specs.Behind.{Behind, chain, taken, standing, has_failed, is_transport_refusal, form, level, moment, noted, policy_of}
-use Rattle.call_history.specs.Events.{Row, Course, NotesAscend, first_at, without_call, note_behind, rule_of, cause_of}
+use Rattle.call_history.specs.Events.{Course, NotesAscend, note_behind, rule_of, cause_of}
+use Rattle.engine_core.specs.Moves.{Row, first_at, without_call}
 use Rattle.call_history.specs.Legal.{IsSettledUp}
 use Rattle.call_history.specs.Rules.{Under, Lets, Gives, IsAt, Meets, IsDenied, IsAnswered, IsNoMalformedRefusal, RefusesAsAnswered, IsLinkRefusal, May, cap_of}
 use Rattle.call_history.specs.declared.happening.Cause.{Cause}

@@ -6,7 +6,7 @@ use Rattle.std.specs.List.{AllZip}
 use Rattle.std.proofs.lemmas.Bool.{eq-eqb, ne_eqb, eqb-true, eqb-false, cases_eq, cases_lt, cases_Bool, lt-ltb, le-ltb}
 use Rattle.std.proofs.lemmas.List.Elements.{All-nil}
 use Rattle.call_history.specs.Behind.{Behind, chain, standing}
-use Rattle.call_history.specs.Events.{Row, first_at, goes_on, begin_again, without_call}
+use Rattle.engine_core.specs.Moves.{Row, first_at, goes_on, begin_again, without_call}
 use Rattle.call_history.specs.Places.{NeverRise, MayStandAt, ArePlaces}
 use Rattle.call_history.specs.Rules.{Under, Lets}
 use Rattle.call_history.specs.declared.happening.Taken.{Taken}

@@ -10,7 +10,7 @@ use Rattle.mrpc_table.specs.declared.table.Table.{Table}
 use Rattle.wire_base.specs.Encoding.{varint, groups}
 use Rattle.graph_form.specs.declared.reason.Reason.TheVariants.{Address}
 use Rattle.policy_access.specs.Verdict.{AccessPolicy}
-use Rattle.policy_access.specs.declared.call.Call.{Call}
+use Rattle.mrpc_table.specs.declared.call.Call.{Call}
 use Rattle.policy_access.specs.declared.rule.About.TheVariants.{Every, Calls as OfCalls}
 use Rattle.policy_access.specs.declared.rule.Comparison.TheVariants.{Equal}
 use Rattle.policy_access.specs.declared.rule.Condition.TheVariants.{Compares}

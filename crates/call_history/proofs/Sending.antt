@@ -4,7 +4,8 @@ use Rattle.std.specs.Prelude.{All, Contains, filter, Some, None}
 use Rattle.std.proofs.lemmas.Bool.{eqb-false}
 use Rattle.engine_core.specs.Chains.{Entry}
 use Rattle.call_history.specs.Behind.{Behind, chain, taken, standing}
-use Rattle.call_history.specs.Events.{Row, Course, IsReady, first_at, without_call}
+use Rattle.call_history.specs.Events.{Course, IsReady}
+use Rattle.engine_core.specs.Moves.{Row, first_at, without_call}
 use Rattle.call_history.specs.Rules.{Under, Lets, IsSentNext}
 use Rattle.call_history.specs.declared.happening.Happening.TheVariants.{Sent}
 use Rattle.call_history.specs.declared.happening.Taken.{Taken}

@@ -5,7 +5,7 @@ use Rattle.std.specs.List.{list_any}
 use Rattle.std.proofs.lemmas.List.Elements.{filter-append, filter_agree}
 use Rattle.std.proofs.lemmas.List.{map-append}
 use Rattle.call_history.specs.Behind.{Behind, taken, is_fate_of, stands, standing}
-use Rattle.call_history.specs.Events.{Row, without_call}
+use Rattle.engine_core.specs.Moves.{Row, without_call}
 use Rattle.call_history.specs.Legal.{IsPrefix}
 use Rattle.call_history.specs.Rules.{Under}
 use Rattle.call_history.specs.declared.happening.Cause.{Cause}

@@ -8,7 +8,7 @@ use Rattle.mrpc_table.specs.declared.table.Kind.TheVariants.{Uint64}
 use Rattle.mrpc_table.specs.declared.table.Label.TheVariants.{Plain}
 use Rattle.mrpc_table.specs.declared.table.Table.{Table}
 use Rattle.wire_base.specs.Encoding.{varint, groups}
-use Rattle.policy_access.specs.declared.call.Call.{Call}
+use Rattle.mrpc_table.specs.declared.call.Call.{Call}
 use Rattle.engine_core.specs.Answers.{nothing, charged}
 use Rattle.engine_core.specs.Answers as answers
 use Rattle.engine_core.specs.Chains.{Chain, Changes, Entry, names_of, new_entry, Refusal, IsAgainst, detaches_none, upgrades_none, is_taken, is_past, is_full, is_other}
@@ -20,8 +20,10 @@ use Rattle.engine_core.specs.declared.outcome.Outcome.TheVariants as outcomes
 use Rattle.engine_core.specs.declared.outcome.Why.TheVariants.{Denied}
 use Rattle.engine_core.specs.declared.policy.Policy.{Policy}
 use Rattle.engine_core.specs.declared.policy.Policy.TheVariants.{Access, Rate, Quota, Count, Redact}
-use Rattle.call_history.specs.Behind.{Behind, chain, changed, form, standing, taken}
-use Rattle.call_history.specs.Events.{Course, Event, IsReady, first_at, accepts, operates, shows, turns as has_turn_of, sends, fails, Comes, takes, changes, has_turn, is_sent, link_failed, Lead, beginning, IsCourse}
+use Rattle.call_history.specs.Behind.{Behind, chain, form, standing, taken}
+use Rattle.engine_core.specs.Chains.{changed}
+use Rattle.call_history.specs.Events.{Course, Event, IsReady, accepts, operates, shows, turns as has_turn_of, sends, fails, Comes, takes, changes, has_turn, is_sent, link_failed, Lead, beginning, IsCourse}
+use Rattle.engine_core.specs.Moves.{first_at}
 use Rattle.call_history.specs.Legal.{IsLegalBehind}
 use Rattle.call_history.specs.Rules.{Under, MayTake, header, payload}
 use Rattle.call_history.specs.declared.happening.Cause.TheVariants as cause

@@ -5,8 +5,10 @@ use Rattle.std.proofs.lemmas.List.Elements.{All-weaker}
 use Rattle.engine_core.specs.Chains.{Changes, Entry, upgraded}
 use Rattle.engine_core.specs.declared.op.Op.TheVariants.{Upgrade}
 use Rattle.engine_core.specs.declared.policy.Policy.{Policy}
-use Rattle.call_history.specs.Behind.{Behind, chain, changed, is_named}
-use Rattle.call_history.specs.Events.{Course, back_to, place_of}
+use Rattle.call_history.specs.Behind.{Behind, chain}
+use Rattle.engine_core.specs.Chains.{changed, is_named}
+use Rattle.call_history.specs.Events.{Course}
+use Rattle.engine_core.specs.Moves.{back_to, place_of}
 use Rattle.call_history.specs.Rules.{Under, Lets}
 use Rattle.call_history.specs.declared.happening.Happening.TheVariants.{Op}
 use Rattle.call_history.proofs.Holding.{Holds}

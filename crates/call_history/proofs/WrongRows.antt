@@ -4,7 +4,7 @@ use Rattle.std.specs.Prelude.{All}
 use Rattle.std.proofs.lemmas.List.Elements.{All-head}
 use Rattle.graph_form.specs.declared.reason.Reason.TheVariants.{Address}
 use Rattle.policy_access.specs.Verdict.{AccessPolicy, verdict}
-use Rattle.policy_access.specs.declared.call.Call.{Call}
+use Rattle.mrpc_table.specs.declared.call.Call.{Call}
 use Rattle.engine_core.specs.Answers.{Past, nothing, charged, drawn, counted, Answer, pass, note, Answers, allows, denies, was_charged, charges, holds, refuses, is_within, is_over, draws, was_counted, counts, is_clear, redacts}
 use Rattle.engine_core.specs.Chains.{Entry, new_entry}
 use Rattle.engine_core.specs.declared.outcome.Noted.TheVariants as notes

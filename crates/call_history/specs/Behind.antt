@@ -5,10 +5,10 @@ use Rattle.std.specs.List.{list_any, filter_map}
 use Rattle.std.specs.Option.{option_map_or}
 use Rattle.std.specs.Str.{bytes_eq}
 use Rattle.mrpc_table.specs.Node.{Node}
-use Rattle.policy_access.specs.declared.call.Call.{Call}
+use Rattle.mrpc_table.specs.declared.call.Call.{Call}
 use Rattle.policy_redact.specs.Redacting.{cleared_call}
 use Rattle.engine_core.specs.Answers.{Past, nothing, charged, drawn, counted}
-use Rattle.engine_core.specs.Chains.{Chain, Entry, new_entry, upgraded}
+use Rattle.engine_core.specs.Chains.{Chain, changed, is_named}
 use Rattle.engine_core.specs.Policies.{first_level, level_at, level_under}
 use Rattle.engine_core.specs.declared.op.Op.{Op as Step}
 use Rattle.engine_core.specs.declared.op.Op.TheVariants.{Attach, Detach, Upgrade}
@@ -26,25 +26,6 @@ abbrev pub Behind : Type 0
 Behind = List Happening
 
 -- ---- the chain
-
--- the entry has the name
-abbrev pub is_named : List ℕ → Entry → Bool
-is_named name e = bytes_eq e.name name
-
--- what a step makes of a chain that doesn't refuse it
-abbrev pub changed : Step → Chain → Chain
-changed (Attach at name label policy) chain = record {
-  entries = take at chain.entries ++ new_entry name (chain.attached + 1) policy ∷ drop at chain.entries;
-  attached = chain.attached + 1;
-}
-changed (Detach name) chain = record {
-  entries = filter (λ e. not (is_named name e)) chain.entries;
-  attached = chain.attached;
-}
-changed (Upgrade name label policy) chain = record {
-  entries = map (λ e. if is_named name e then upgraded e policy else e) chain.entries;
-  attached = chain.attached;
-}
 
 abbrev pub empty_chain : Chain
 empty_chain = record { entries = []; attached = 0 }

@@ -1,9 +1,10 @@
 -- What one step of a connection adds to its history, and how it moves its calls along the chain (this project's own).
 use Rattle.std.specs.Prelude.{◌≡◌, ℕ, ◌+◌, ◌-◌, ◌<◌, ◌≤◌, ◌==◌, nat_lt, min, not, Bool, true, false, List, [], ◌∷◌, ◌++◌, filter, find, All, Contains, length, map, if◌then◌else◌, Option, Some, None, slice_get}
 use Rattle.policy_access.specs.Verdict.{rule_name}
-use Rattle.policy_access.specs.declared.call.Call.{Call}
+use Rattle.mrpc_table.specs.declared.call.Call.{Call}
 use Rattle.engine_core.specs.Answers.{nothing}
-use Rattle.engine_core.specs.Chains.{Changes, Entry}
+use Rattle.engine_core.specs.Chains.{Changes, Entry, changed}
+use Rattle.engine_core.specs.Moves.{Row, first_at, goes_on, begin_again, without_call, moved_by}
 use Rattle.engine_core.specs.Turns.{ComesOut}
 use Rattle.engine_core.specs.declared.op.Op.{Op as Step}
 use Rattle.engine_core.specs.declared.op.Op.TheVariants.{Attach, Detach, Upgrade}
@@ -15,7 +16,7 @@ use Rattle.engine_core.specs.declared.outcome.Why.{Why}
 use Rattle.engine_core.specs.declared.outcome.Why.TheVariants.{Denied, Short, Over}
 use Rattle.engine_core.specs.declared.policy.Policy.{Policy}
 use Rattle.engine_core.specs.declared.policy.Policy.TheVariants.{Access}
-use Rattle.call_history.specs.Behind.{Behind, chain, changed, is_named, moment, level, noted, noted_calls, standing, has_failed, form}
+use Rattle.call_history.specs.Behind.{Behind, chain, moment, level, noted, noted_calls, standing, has_failed, form}
 use Rattle.call_history.specs.Legal.{IsLegalBehind}
 use Rattle.call_history.specs.Places.{ArePlaces}
 use Rattle.call_history.specs.Rules.{Under, MayTake, header, payload}
@@ -29,52 +30,11 @@ use Rattle.call_history.specs.declared.happening.TookCopy.TheVariants.{Copy, Mal
 use Rattle.mrpc_table.specs.Node.{Node}
 use Rattle.graph_form.specs.declared.reason.Reason.{Reason}
 
--- the calls that stand, in order, each a number and a position; the chain's length is the position for transport
-abbrev pub Row : Type 0
-Row = List (ℕ × ℕ)
-
 -- a connection between two steps: what is behind, where its calls stand, and whether its link has failed
 pub record Course : Type 0 where
   pub past : Behind
   pub row : Row
   pub ended : Bool
-
--- ---- moves
-
--- the first call at a position
-abbrev pub first_at : ℕ → Row → Option (ℕ × ℕ)
-first_at position row = find (λ call. call.1 == position) row
-
--- calls behind a position go back to it
-abbrev pub back_to : ℕ → Row → Row
-back_to position row = map (λ call. (call.0, min call.1 position)) row
-
--- calls behind an entry that leaves move up
-abbrev pub moved_up : ℕ → Row → Row
-moved_up position row = map (λ call. (call.0, if nat_lt position call.1 then call.1 - 1 else call.1)) row
-
--- one call goes on by an entry
-abbrev pub goes_on : ℕ → Row → Row
-goes_on seq row = map (λ call. (call.0, if call.0 == seq then call.1 + 1 else call.1)) row
-
--- a call and those of greater numbers begin again
-abbrev pub begin_again : ℕ → Row → Row
-begin_again seq row = map (λ call. (call.0, if nat_lt call.0 seq then call.1 else 0)) row
-
--- one call is gone
-abbrev pub without_call : ℕ → Row → Row
-without_call seq row = filter (λ call. not (seq == call.0)) row
-
--- the position of the entry of a name; the number of entries where there is none
-abbrev pub place_of : List ℕ → List Entry → ℕ
-place_of name [] = 0
-place_of name (e ∷ entries) = if is_named name e then 0 else place_of name entries + 1
-
--- how a step of an operator moves calls
-abbrev pub moved_by : Step → List Entry → Row → Row
-moved_by (Attach at name label policy) entries row = back_to at row
-moved_by (Detach name) entries row = moved_up (place_of name entries) row
-moved_by (Upgrade name label policy) entries row = back_to (place_of name entries) row
 
 -- ---- turns
 

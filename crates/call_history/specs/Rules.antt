@@ -10,7 +10,7 @@ use Rattle.wire_base.specs.Encoding.{encoding}
 use Rattle.graph_form.specs.declared.reason.Reason.{Reason}
 use Rattle.graph_form.specs.declared.reason.Reason.TheVariants.{NoMethod}
 use Rattle.policy_access.specs.Verdict.{AccessPolicy, rule_name}
-use Rattle.policy_access.specs.declared.call.Call.{Call}
+use Rattle.mrpc_table.specs.declared.call.Call.{Call}
 use Rattle.engine_core.specs.Answers.{Answer, Answers, pass, deny, refuse, over, note, redact}
 use Rattle.engine_core.specs.Chains.{Chain, Changes, Entry}
 use Rattle.engine_core.specs.declared.op.Op.{Op as Step}
@@ -18,7 +18,8 @@ use Rattle.engine_core.specs.declared.outcome.Noted.{Noted}
 use Rattle.engine_core.specs.declared.outcome.Noted.TheVariants as notes
 use Rattle.engine_core.specs.declared.policy.Policy.TheVariants.{Access, Quota}
 use Rattle.engine_core.specs.declared.policy.Policy.{Policy}
-use Rattle.call_history.specs.Behind.{Behind, chain, changed, policy_of, moment, level, noted, noted_calls, taken, standing, has_failed, form}
+use Rattle.call_history.specs.Behind.{Behind, chain, policy_of, moment, level, noted, noted_calls, taken, standing, has_failed, form}
+use Rattle.engine_core.specs.Chains.{changed}
 use Rattle.call_history.specs.declared.happening.Cause.{Cause}
 use Rattle.call_history.specs.declared.happening.Cause.TheVariants as cause
 use Rattle.call_history.specs.declared.happening.Happening.{Happening}
