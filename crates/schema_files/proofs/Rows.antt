@@ -202,7 +202,7 @@ a_path = record { some = omega arith; short = omega arith; form = refl }
 right_row : (text : List ℕ) → HaveRightPaths (set_of text)
 right_row text = record {
   each = All-cons IsPath path [] a_path (All-nil IsPath);
-  distinct = λ i j d lt within. absurd (omega (arith, within));
+  distinct = λ i j d lt within. absurd (omega (arith, lt, within));
 }
 
 -- its path is refused where it stands a second time
