@@ -6,6 +6,7 @@ mod ClearTraces
 mod Coursed
 mod Detaching
 mod Failing
+mod Fates
 mod Fitting
 mod Further
 mod Going
