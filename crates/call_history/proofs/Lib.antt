@@ -3,6 +3,7 @@ mod Attaching
 mod Chained
 mod Changing
 mod ClearTraces
+mod Copies
 mod Coursed
 mod Detaching
 mod Failing
@@ -16,6 +17,7 @@ mod Keeping
 mod LiveTraces
 mod Looking
 mod Noting
+mod Once
 mod Operating
 mod Passing
 mod Prefixes
