@@ -3,6 +3,7 @@ mod Attaching
 mod Chained
 mod Changing
 mod ClearTraces
+mod Clearing
 mod Copies
 mod Coursed
 mod Detaching
