@@ -162,7 +162,7 @@ Attach-fits u past at seq name policy e has before =
       ]
     ]
 
-in-filter : (q : Entry → Bool) (es : List Entry) (e : Entry) → Contains (filter q es) e → Contains es e
+pub in-filter : (q : Entry → Bool) (es : List Entry) (e : Entry) → Contains (filter q es) e → Contains es e
 in-filter q [] e has = has
 in-filter q (x ∷ es) e has =
     let given : (b : Bool) → Contains (cond b (x ∷ filter q es) (filter q es)) e → Contains (x ∷ es) e = λ b. elim b as (λ b. Contains (cond b (x ∷ filter q es) (filter q es)) e → Contains (x ∷ es) e) [
@@ -172,12 +172,12 @@ in-filter q (x ∷ es) e has =
     given (q x) has
 
 -- an entry of a chain whose entry of a name was upgraded comes from one before
-record IsFrom (es : List Entry) (name : List ℕ) (policy : Policy) (e : Entry) : Type 0 where
-  old : Entry
-  there : Contains es old
-  is : e ≡ cond (is_named name old) (upgraded old policy) old
+pub record IsFrom (es : List Entry) (name : List ℕ) (policy : Policy) (e : Entry) : Type 0 where
+  pub old : Entry
+  pub there : Contains es old
+  pub is : e ≡ cond (is_named name old) (upgraded old policy) old
 
-from-map : (es : List Entry) (name : List ℕ) (policy : Policy) (e : Entry) → Contains (map (λ x. if is_named name x then upgraded x policy else x) es) e → IsFrom es name policy e
+pub from-map : (es : List Entry) (name : List ℕ) (policy : Policy) (e : Entry) → Contains (map (λ x. if is_named name x then upgraded x policy else x) es) e → IsFrom es name policy e
 from-map [] name policy e has = absurd (omega (arith, has.1))
 from-map (x ∷ es) name policy e has = elim (contains-cases (cond (is_named name x) (upgraded x policy) x) (map (λ y. if is_named name y then upgraded y policy else y) es) e has) [
   | inl same ↦ record { old = x; there = contains-first x es x refl; is = sym same }

@@ -91,7 +91,7 @@ stands-still u past new seq position same lets h = record {
 pub works-on : (past : Behind) → has_failed past ≡ false → AwaitsLink past → ⊥
 works-on past works awaits = let wrong : false ≡ true = sym works ∙ awaits.failed in cc
 
-pub contains-kept : (p : ℕ → Bool) (xs : List ℕ) (y : ℕ) → Contains (filter p xs) y → Contains xs y
+pub contains-kept : {X : Type 0} (p : X → Bool) (xs : List X) (y : X) → Contains (filter p xs) y → Contains xs y
 contains-kept p [] y has = has
 contains-kept p (x ∷ xs) y has =
     let given : (b : Bool) → Contains (cond b (x ∷ filter p xs) (filter p xs)) y → Contains (x ∷ xs) y = λ b. elim b as (λ b. Contains (cond b (x ∷ filter p xs) (filter p xs)) y → Contains (x ∷ xs) y) [

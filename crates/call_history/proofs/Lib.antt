@@ -3,9 +3,12 @@ mod Attaching
 mod Chained
 mod Changing
 mod ClearTraces
+mod Clearing
+mod Copies
 mod Coursed
 mod Detaching
 mod Failing
+mod Fates
 mod Fitting
 mod Further
 mod Going
@@ -15,6 +18,7 @@ mod Keeping
 mod LiveTraces
 mod Looking
 mod Noting
+mod Once
 mod Operating
 mod Passing
 mod Prefixes

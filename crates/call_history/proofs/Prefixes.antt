@@ -85,7 +85,7 @@ is-first-few top [] seq h is = absurd is
 is-first-few top (x ∷ calls) seq h is = omega (arith, h.1, is)
 
 -- a call is refused as malformed right behind its acceptance
-refused-at-once : (copy : TookCopy) (seq number : ℕ) → IsRefusedAtOnce copy seq (Refused number cause.Malformed) → number ≡ seq
+pub refused-at-once : (copy : TookCopy) (seq number : ℕ) → IsRefusedAtOnce copy seq (Refused number cause.Malformed) → number ≡ seq
 refused-at-once (Copy tree) seq number is = absurd is
 refused-at-once (Malformed reason place value) seq number is = cc
 

@@ -17,6 +17,7 @@ use Rattle.policy_access.specs.declared.rule.Condition.TheVariants.{Compares}
 use Rattle.policy_access.specs.declared.rule.Operand.TheVariants.{Number}
 use Rattle.policy_access.specs.declared.rule.Rule.{Rule}
 use Rattle.policy_rate.specs.declared.rate.Rate.{Rate as RatePolicy}
+use Rattle.mrpc_table.specs.declared.call.Sort.TheVariants.{Request}
 use Rattle.policy_redact.specs.declared.redact.Clear.{Clear}
 use Rattle.engine_core.specs.Answers.{nothing, charged, drawn, counted}
 use Rattle.engine_core.specs.Chains.{Chain, Entry, new_entry}
@@ -57,7 +58,7 @@ abbrev pub where_equal : List ℕ → Bool → ℕ → ℕ → Rule
 where_equal name allow at v = record {
   name = name;
   allow = allow;
-  about = OfCalls (record { method = 0; reply = false; test = Some (record { path = record { way = []; number = at; kind = Uint64; label = Plain }; condition = Compares Equal (Number v) }) });
+  about = OfCalls (record { method = 0; sort = Request; test = Some (record { path = record { way = []; number = at; kind = Uint64; label = Plain }; condition = Compares Equal (Number v) }) });
 }
 
 abbrev pub acl : List ℕ
@@ -272,7 +273,7 @@ but_5 = record { rules = where_equal (codes "big") false 2 5 ∷ []; allow = tru
 
 -- the field 2 of requests
 abbrev pub clear_2 : Clear
-clear_2 = record { method = 0; reply = false; path = record { way = []; number = 2; kind = Uint64; label = Plain } }
+clear_2 = record { method = 0; sort = Request; path = record { way = []; number = 2; kind = Uint64; label = Plain } }
 
 abbrev pub seven_nine : Taken
 seven_nine = request 1 2 2 (field 1 (one (number 7)) (field 2 (one (number 9)) no_fields))

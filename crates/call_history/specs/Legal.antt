@@ -3,12 +3,15 @@ use Rattle.std.specs.Prelude.{◌≡◌, ℕ, ◌<◌, ◌==◌, List, [], ◌�
 use Rattle.std.specs.List.{filter_map}
 use Rattle.std.specs.Prelude.{if◌then◌else◌}
 use Rattle.mrpc_table.specs.declared.table.Table.{Table}
+use Rattle.mrpc_table.specs.Calls.{IsCallOf}
+use Rattle.mrpc_table.specs.declared.call.Call.{Call}
 use Rattle.engine_core.specs.declared.policy.Policy.{Policy}
-use Rattle.call_history.specs.Behind.{Behind, policy_of, standing, has_failed}
+use Rattle.call_history.specs.Behind.{Behind, policy_of, standing, has_failed, form}
 use Rattle.call_history.specs.Rules.{Under, May, cap_of}
 use Rattle.call_history.specs.declared.happening.Happened.{Happened}
 use Rattle.call_history.specs.declared.happening.Happening.{Happening}
 use Rattle.call_history.specs.declared.happening.Happening.TheVariants.{Took, Drawn}
+use Rattle.call_history.specs.declared.happening.Taken.{Taken}
 use Rattle.call_history.specs.declared.happening.TookCopy.{TookCopy}
 use Rattle.call_history.specs.declared.happening.TookCopy.TheVariants.{Copy, Malformed}
 
@@ -65,6 +68,14 @@ pub record IsSettledUp (past : Behind) : Type 0 where
 pub record IsLegalBehind (u : Under) (past : Behind) : Type 0 where
   pub prefix : IsPrefix u past
   pub closed : IsSettledUp past
+
+-- an accepted call has a form, which is a call of its method and sort with a normal tree
+pub record HasForm (u : Under) (past : Behind) (call : Taken) : Type 0 where
+  pub now : Call
+  pub is_form : form u.conn call.seq past ≡ Some now
+  pub of_table : IsCallOf u.table now
+  pub method : now.method ≡ call.method
+  pub number : now.number ≡ call.number
 
 -- a history is legal where what happened on each connection is
 abbrev pub IsLegal : Table → ℕ → History → Type 0

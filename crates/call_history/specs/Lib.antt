@@ -1,4 +1,5 @@
 pub mod Behind
+pub mod Clears
 pub mod Events
 pub mod Legal
 pub mod Places

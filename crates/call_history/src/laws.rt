@@ -1,6 +1,7 @@
 //! Laws of histories. These functions do nothing; their clauses hold.
 
-ghost use Rattle.std.specs.Prelude.{◌≡◌, ◌≢◌, ◌+◌, ◌-◌, ◌==◌, ℕ, not, List, [], ◌∷◌, ◌++◌, All, filter, length, option_map};
+ghost use Rattle.std.specs.Prelude.{◌≡◌, ◌≢◌, ◌<◌, ◌≤◌, ◌+◌, ◌-◌, ◌==◌, ℕ, true, not, List, [], ◌∷◌, ◌++◌, All, Contains, count_by, filter, length, option_map};
+ghost use Rattle.std.specs.List.{list_any};
 ghost use Rattle.mrpc_table.specs.declared.table.Table.{Table};
 ghost use Rattle.engine_core.specs.Answers.{nothing, charged, drawn, counted};
 ghost use Rattle.engine_core.specs.Chains.{Chain, Changes, IsChain};
@@ -8,10 +9,10 @@ ghost use Rattle.engine_core.specs.Policies.{first_level};
 ghost use Rattle.engine_core.specs.declared.op.Op.{Op as Step};
 ghost use Rattle.engine_core.specs.declared.op.Op.TheVariants.{Attach, Upgrade};
 ghost use Rattle.engine_core.specs.declared.policy.Policy.{Policy};
-ghost use Rattle.call_history.specs.Behind.{Behind, chain, converted, copied, filled, form, level, moment, noted, policy_of, redacted, standing, taken};
+ghost use Rattle.call_history.specs.Behind.{Behind, chain, converted, copied, filled, form, is_fate_of, level, moment, noted, policy_of, redacted, standing, taken};
 ghost use Rattle.engine_core.specs.Chains.{changed};
 ghost use Rattle.call_history.specs.Events.{Course, Event, Comes, Lead, IsCourse, beginning, refused_for_link};
-ghost use Rattle.call_history.specs.Legal.{History, IsLegal, IsLegalBehind, IsPrefix, behind};
+ghost use Rattle.call_history.specs.Legal.{HasForm, HasNoCopy, History, IsLegal, IsLegalBehind, IsPrefix, behind};
 ghost use Rattle.call_history.specs.Rules.{Under, May};
 ghost use Rattle.call_history.specs.declared.happening.Cause.{Cause};
 ghost use Rattle.call_history.specs.declared.happening.Cause.TheVariants as cause;
@@ -19,8 +20,10 @@ ghost use Rattle.call_history.specs.declared.happening.Happened.{Happened};
 ghost use Rattle.call_history.specs.declared.happening.Happening.{Happening};
 ghost use Rattle.call_history.specs.declared.happening.Happening.TheVariants.{Took, Op, Moment, Charged, Drawn, Counted, Redacted, Sent, Refused};
 ghost use Rattle.call_history.specs.declared.happening.Taken.{Taken};
+ghost use Rattle.call_history.specs.declared.limits.TheConstants.{MAX_STANDING};
 
 use engine_core::stays_chain;
+use policy_redact::stays_normal;
 
 /// What is behind on a connection once a history goes on.
 pub fn histories_go_on()
@@ -128,6 +131,50 @@ pub fn standing_goes_on()
     ensures link_failed { (u : Under) (past : Behind) → IsLegalBehind u past
         → standing (refused_for_link (standing past) past) ≡ [] }
 {}
+
+/// In a legal history each call of a connection has one fate at most, and it is one that was accepted before.
+pub fn one_fate()
+    ensures once { (T : Table) (limit conn seq : ℕ) (h : History) → IsLegal T limit h
+        → count_by (is_fate_of seq) (behind conn h) ≤ 1 }
+    ensures accepted { (T : Table) (limit conn seq : ℕ) (h : History) → IsLegal T limit h
+        → list_any (is_fate_of seq) (behind conn h) ≡ true → seq ≤ length (taken (behind conn h)) }
+{}
+
+/// In a legal history the calls of a connection are sent in the order of their numbers.
+pub fn sent_in_order()
+    ensures { (T : Table) (limit conn m n a b : ℕ) (h : History) (later between earlier : Behind) → IsLegal T limit h
+        → behind conn h ≡ later ++ Sent n b ∷ between ++ Sent m a ∷ earlier → m < n }
+{}
+
+/// In a legal history at most `MAX_STANDING` calls stand on a connection, and each has a copy, and a form of its method
+/// and sort with a normal tree.
+pub fn standing_calls_have_forms()
+    ensures few { (T : Table) (limit conn : ℕ) (h : History) → IsLegal T limit h
+        → length (standing (behind conn h)) ≤ MAX_STANDING }
+    ensures copies { (u : Under) (past : Behind) (call : Taken) → IsLegalBehind u past → Contains (standing past) call
+        → HasNoCopy call.copy → ⊥ }
+    ensures forms { (u : Under) (past : Behind) (call : Taken) → IsLegalBehind u past → Contains (standing past) call
+        → HasForm u past call }
+{
+    stays_normal();
+}
+
+/// In a legal history no call is charged, drawn for or counted twice for one attachment: what is noted of it comes where
+/// nothing was noted since.
+pub fn noted_once()
+    ensures charged { (T : Table) (limit conn seq left : ℕ) (name : List ℕ) (h : History) (later earlier : Behind)
+        → IsLegal T limit h → behind conn h ≡ later ++ Charged seq name left ∷ earlier
+        → noted name seq earlier ≡ nothing }
+    ensures drawn { (T : Table) (limit conn seq window ticket : ℕ) (name : List ℕ) (h : History)
+        (later earlier : Behind)
+        → IsLegal T limit h → behind conn h ≡ later ++ Drawn seq name window ticket ∷ earlier
+        → noted name seq earlier ≡ nothing }
+    ensures counted { (T : Table) (limit conn seq : ℕ) (name : List ℕ) (h : History) (later earlier : Behind)
+        → IsLegal T limit h → behind conn h ≡ later ++ Counted seq name ∷ earlier
+        → noted name seq earlier ≡ nothing }
+{
+    stays_chain();
+}
 
 /// What holds of a connection between two steps holds at its beginning, and each event keeps it. So behind every list of
 /// events the history is legal, the calls in the row are those that stand, in order, and their positions are places.

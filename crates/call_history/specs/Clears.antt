@@ -1,0 +1,15 @@
+-- What was cleared from a call, and by which version of a policy (this project's own).
+use Rattle.std.specs.Prelude.{ℕ, ◌==◌, ◌&&◌, List, [], ◌∷◌, if◌then◌else◌}
+use Rattle.std.specs.Str.{bytes_eq}
+use Rattle.engine_core.specs.declared.op.Op.TheVariants.{Attach}
+use Rattle.call_history.specs.Behind.{Behind}
+use Rattle.call_history.specs.declared.happening.Happening.TheVariants.{Op, Redacted}
+
+-- the versions in which the entry of a name has cleared fields from a call since its latest attachment, the latest first
+abbrev pub cleared_in : List ℕ → ℕ → Behind → List ℕ
+cleared_in name seq [] = []
+cleared_in name seq (Op (Attach at other label policy) ∷ past) =
+    if bytes_eq other name then [] else cleared_in name seq past
+cleared_in name seq (Redacted call other version ∷ past) =
+    if (call == seq) && bytes_eq other name then version ∷ cleared_in name seq past else cleared_in name seq past
+cleared_in name seq (_ ∷ past) = cleared_in name seq past
