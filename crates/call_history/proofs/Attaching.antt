@@ -61,8 +61,8 @@ attached_holds u c at name label policy h changes =
         → All (Lets u (Op (Attach at name label policy) ∷ c.past) seq) (take k (chain c.past).entries)
     front-lets seq k free lets = all-step (Lets u c.past seq) (Lets u (Op (Attach at name label policy) ∷ c.past) seq) (take k (chain c.past).entries)
         (λ e has let_e. lets-still u c.past (Op (Attach at name label policy) ∷ c.past) seq e refl
-            (ap (λ b. cond b nothing (noted e.name seq c.past)) (other-name name e.name (λ same. free.apart (subst (λ (n : List ℕ). Contains (names_of (chain c.past).entries) n) (sym same) (named-there (chain c.past).entries e (in-front (chain c.past).entries k e has))))))
-            let_e)
+        (ap (λ b. cond b nothing (noted e.name seq c.past)) (other-name name e.name (λ same. free.apart (subst (λ (n : List ℕ). Contains (names_of (chain c.past).entries) n) (sym same) (named-there (chain c.past).entries e (in-front (chain c.past).entries k e has))))))
+        let_e)
         lets
 
     keeps : IsFree (chain c.past).entries at name → (seq position : ℕ) → StandsAt u c.past seq position → StandsAt u (Op (Attach at name label policy) ∷ c.past) seq (min position at)

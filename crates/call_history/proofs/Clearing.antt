@@ -137,7 +137,7 @@ redacted-clear laws u past call seq version other e prefix due there old = recor
     others : IsClearOf e.policy (form u.conn seq past) → IsClearOf e.policy (form u.conn seq (Redacted call other version ∷ past))
     others is = elim (cases_eq call seq) [
       | inl same ↦ subst (λ (f : Option Call). IsClearOf e.policy f) (sym (ap (λ n. form u.conn seq (Redacted n other version ∷ past)) same ∙ form-cleared u.conn seq version other past))
-        (clear-still laws.either e.policy (policy_of other past) (form u.conn seq past) is)
+          (clear-still laws.either e.policy (policy_of other past) (form u.conn seq past) is)
       | inr apart ↦ subst (λ (f : Option Call). IsClearOf e.policy f) (sym (form-others u.conn call seq version other past apart)) is
     ]
 
@@ -158,7 +158,7 @@ redacted-clear laws u past call seq version other e prefix due there old = recor
 
     given : (b : Bool) → ((call == seq) && bytes_eq other e.name) ≡ b
         → All (λ v. v ≤ e.version) (cond b (version ∷ cleared_in e.name seq past) (cleared_in e.name seq past))
-          × (Contains (cond b (version ∷ cleared_in e.name seq past) (cleared_in e.name seq past)) e.version → IsClearOf e.policy (form u.conn seq (Redacted call other version ∷ past)))
+        × (Contains (cond b (version ∷ cleared_in e.name seq past) (cleared_in e.name seq past)) e.version → IsClearOf e.policy (form u.conn seq (Redacted call other version ∷ past)))
     given true test =
         let parts = and_parts (call == seq) (bytes_eq other e.name) test in
         let name_is : other ≡ e.name = same-name other e.name parts.1 in

@@ -102,19 +102,19 @@ formed : StaysNormal → (u : Under) (past : Behind) (call : Taken) → IsPrefix
 formed normal u [] call prefix has copy = absurd (omega (arith, has.1))
 formed normal u (Took new ∷ past) call prefix has copy = elim (Contains-push_cases (taken past) new call has) [
   | inl before ↦ (
-    let next : new.seq ≡ length (taken past) + 1 = prefix.1.numbered.number in
-    let few : call.seq ≤ length (taken past) = taken-few u past call prefix.0 before in
-    subst (λ (f : Option Call). FormIs u f call) (sym (form-other u.conn call.seq past new (λ same. omega (arith, same, next, few)))) (formed normal u past call prefix.0 before copy)
-  )
+      let next : new.seq ≡ length (taken past) + 1 = prefix.1.numbered.number in
+      let few : call.seq ≤ length (taken past) = taken-few u past call prefix.0 before in
+      subst (λ (f : Option Call). FormIs u f call) (sym (form-other u.conn call.seq past new (λ same. omega (arith, same, next, few)))) (formed normal u past call prefix.0 before copy)
+      )
   | inr same ↦ subst (λ (c : Taken). FormIs u (form u.conn c.seq (Took new ∷ past)) c) same
-    (subst (λ (f : Option Call). FormIs u f new) (sym (form-own u.conn new.seq past new refl)) (copy-form u new new.copy prefix.1.numbered.copy (subst (λ (c : Taken). HasNoCopy c.copy → ⊥) (sym same) copy)))
+      (subst (λ (f : Option Call). FormIs u f new) (sym (form-own u.conn new.seq past new refl)) (copy-form u new new.copy prefix.1.numbered.copy (subst (λ (c : Taken). HasNoCopy c.copy → ⊥) (sym same) copy)))
 ]
 formed normal u (Redacted seq name version ∷ past) call prefix has copy =
     let before : FormIs u (form u.conn call.seq past) call = formed normal u past call prefix.0 has copy in
     elim (cases_eq seq call.seq) [
       | inl same ↦ subst (λ (f : Option Call). FormIs u f call)
-        (sym (ap (λ n. form u.conn call.seq (Redacted n name version ∷ past)) same ∙ form-cleared u.conn call.seq version name past))
-        (cleared-form normal u call (policy_of name past) (form u.conn call.seq past) before)
+          (sym (ap (λ n. form u.conn call.seq (Redacted n name version ∷ past)) same ∙ form-cleared u.conn call.seq version name past))
+          (cleared-form normal u call (policy_of name past) (form u.conn call.seq past) before)
       | inr apart ↦ subst (λ (f : Option Call). FormIs u f call) (sym (form-others u.conn seq call.seq version name past apart)) before
     ]
 formed normal u (x ∷ past) call prefix has copy = formed normal u past call prefix.0 has copy

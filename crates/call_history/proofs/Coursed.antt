@@ -23,8 +23,7 @@ row-from u past below top bound (x ∷ row) (call ∷ calls) same each falls fir
     let stands : StandsAt u past x.0 x.1 = subst (λ n. StandsAt u past n x.1) (sym number) (record { within = each.0.within; let_pass = each.0.let_pass }) in
     let rest : IsRow u past call.seq top x.1 row =
     row-from u past call.seq top x.1 row calls others each.1 (λ i j p q less at_i at_j. falls (suc i) (suc j) p q (omega (arith, less)) at_i at_j)
-    (λ p at. falls 0 1 x.1 p (omega arith) refl at) rises.2 in
-    (
+    (λ p at. falls 0 1 x.1 p (omega arith) refl at) rises.2 in (
       record {
         number = omega (arith, number, rises.0);
         few = omega (arith, number, rises.1);

@@ -137,18 +137,18 @@ later u (Took call ∷ past) m prefix is =
     (sym (map-append (λ (other : Taken). other.seq) (standing past) (call ∷ [])) ∙ ap (map (λ (other : Taken). other.seq)) (sym (standing-took u past call prefix.0 next)))
     (All-push (λ n. m < n) (map (λ other. other.seq) (standing past)) call.seq before (omega (arith, next, few)))
 later u (Sent call bytes ∷ past) m prefix is = subst (λ (calls : List Taken). All (λ n. m < n) (map (λ other. other.seq) calls)) (sym (standing-sent past call bytes)) (
-  elim (or_cases (call == m) (list_any (is_sent m) past) is) [
-    | inl here ↦ (
-      let next : IsSentNext u past call bytes = prefix.1.in_order in
-      let number : next.call.seq ≡ m = next.number ∙ eqb-true call m here in
-      let rises : Rising 0 (length (taken past)) (next.call ∷ next.others) = subst (Rising 0 (length (taken past))) next.first (rising u past prefix.0) in
-      let others : others_of call (standing past) ≡ next.others =
-      ap (λ n. others_of n (standing past)) (sym next.number) ∙ ap (others_of next.call.seq) next.first ∙ without-first (length (taken past)) next.call next.others rises in
-      subst (λ (calls : List Taken). All (λ n. m < n) (map (λ other. other.seq) calls)) (sym others) (all-above next.call.seq (length (taken past)) m next.others (omega (arith, number)) rises.2)
+    elim (or_cases (call == m) (list_any (is_sent m) past) is) [
+      | inl here ↦ (
+          let next : IsSentNext u past call bytes = prefix.1.in_order in
+          let number : next.call.seq ≡ m = next.number ∙ eqb-true call m here in
+          let rises : Rising 0 (length (taken past)) (next.call ∷ next.others) = subst (Rising 0 (length (taken past))) next.first (rising u past prefix.0) in
+          let others : others_of call (standing past) ≡ next.others =
+          ap (λ n. others_of n (standing past)) (sym next.number) ∙ ap (others_of next.call.seq) next.first ∙ without-first (length (taken past)) next.call next.others rises in
+          subst (λ (calls : List Taken). All (λ n. m < n) (map (λ other. other.seq) calls)) (sym others) (all-above next.call.seq (length (taken past)) m next.others (omega (arith, number)) rises.2)
+          )
+      | inr rest ↦ numbers-left (λ n. m < n) call (standing past) (later u past m prefix.0 rest)
+    ]
     )
-    | inr rest ↦ numbers-left (λ n. m < n) call (standing past) (later u past m prefix.0 rest)
-  ]
-)
 later u (Refused call why ∷ past) m prefix is = subst (λ (calls : List Taken). All (λ n. m < n) (map (λ other. other.seq) calls)) (sym (standing-refused past call why))
     (numbers-left (λ n. m < n) call (standing past) (later u past m prefix.0 is))
 later u (x ∷ past) m prefix is = later u past m prefix.0 is

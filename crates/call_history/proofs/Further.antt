@@ -122,7 +122,7 @@ goes-further u past new below top bound position seq (x ∷ row) is less keeps s
     let given : (b : Bool) → (x.1 == position) ≡ b → cond b (Some x) (first_at position row) ≡ Some (seq, position) → IsRow u new below top bound (goes_on seq (x ∷ row)) = λ b. elim b as (λ b. (x.1 == position) ≡ b → cond b (Some x) (first_at position row) ≡ Some (seq, position) → IsRow u new below top bound (goes_on seq (x ∷ row))) [
       | true ↦ λ test first. here (cc)
       | false ↦ λ test first. other (eqb-false x.1 position test) (found u past x.0 top x.1 position row (seq, position) first h.1)
-        (λ closer. goes-further u past new x.0 top x.1 position seq row first closer keeps step h.1)
+          (λ closer. goes-further u past new x.0 top x.1 position seq row first closer keeps step h.1)
     ] in
     given (x.1 == position) refl is
   where
@@ -134,7 +134,7 @@ goes-further u past new below top bound position seq (x ∷ row) is less keeps s
         moves-on u new below top bound seq x (goes_on seq row) true (eq-eqb x.0 seq number) (
           record { number = h.0.number; few = h.0.few; falls = omega (arith, at, less); stands = stands },
           row-weaker u new x.0 x.0 top top x.1 (x.1 + 1) (goes_on seq row) (omega arith) (omega arith) (omega arith)
-          (goes-later u past new x.0 top x.1 seq row (omega (arith, number)) keeps h.1),
+              (goes-later u past new x.0 top x.1 seq row (omega (arith, number)) keeps h.1),
         )
 
     other : (x.1 ≡ position → ⊥) → IsFound u past x.0 top x.1 position row (seq, position) → (position < x.1 → IsRow u new x.0 top x.1 (goes_on seq row))

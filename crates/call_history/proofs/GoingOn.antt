@@ -62,7 +62,7 @@ pub legal-where : (T : Table) (limit conn : ℕ) (h k : History) → IsLegal T l
 legal-where T limit conn h k legal own here other = elim (cases_eq other conn) [
   | inl same ↦ subst (λ n. IsLegalBehind (record { conn = n; table = T; limit = limit }) (behind n (h ++ k))) (sym same) here
   | inr apart ↦ legal-apart (record { conn = other; table = T; limit = limit }) h k
-    (All-weaker (λ (x : Happened). x.conn ≡ conn) (λ (x : Happened). x.conn ≢ other) (λ x is same. apart (sym same ∙ is)) k own) (legal other)
+      (All-weaker (λ (x : Happened). x.conn ≡ conn) (λ (x : Happened). x.conn ≢ other) (λ x is same. apart (sym same ∙ is)) k own) (legal other)
 ]
 
 -- ---- standing calls

@@ -33,7 +33,6 @@ use Rattle.call_history.proofs.Further.{contains-cases}
 use Rattle.call_history.proofs.Keeping.{course-begins, events-keep}
 use Rattle.call_history.proofs.Prefixes.{StaysChain}
 use Rattle.call_history.proofs.Rows.{table, with_number, request, acl, rl, no150, opening, but_150, holding, seven, call_150, denied, failing}
-
 use Rattle.policy_access.specs.Verdict.{AccessPolicy}
 use Rattle.policy_rate.specs.declared.rate.Rate.{Rate as RatePolicy}
 use Rattle.engine_core.specs.Policies.{is_same_kind}

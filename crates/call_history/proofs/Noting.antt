@@ -206,7 +206,7 @@ note-ascends u c new position seq e n h noting something entry first is name s s
       | inr rest ↦ elim rest [
         | inl less ↦ All-cons (λ other. other < s) seq (noted_calls name c.past) less (h.notes_ascend name s stood (sym (noted-call c.past new seq s e.name name n is (λ equal. omega (arith, equal, less))) ∙ none))
         | inr more ↦ absurd (earlier-noted u c position seq s e h noting entry first stood more
-          (subst (λ (m : List ℕ). noted m s c.past ≡ nothing) (sym same) (sym (noted-call c.past new seq s e.name name n is (λ equal. omega (arith, equal, more))) ∙ none)))
+            (subst (λ (m : List ℕ). noted m s c.past ≡ nothing) (sym same) (sym (noted-call c.past new seq s e.name name n is (λ equal. omega (arith, equal, more))) ∙ none)))
       ]
     ]
 

@@ -39,7 +39,7 @@ pub row-left : (u : Under) (past new : Behind) (seq below top bound : ℕ) (row 
 row-left u past new seq below top bound [] keeps h = tt
 row-left u past new seq below top bound (call ∷ row) keeps h = elim (cases_eq seq call.0) [
   | inl same ↦ subst (λ b. IsRow u new below top bound (cond (not b) (call ∷ without_call seq row) (without_call seq row))) (sym (eq-eqb seq call.0 same))
-    (row-weaker u new call.0 below top top call.1 bound (without_call seq row) (omega (arith, h.0.number)) (omega arith) (omega (arith, h.0.falls)) (row-left u past new seq call.0 top call.1 row keeps h.1))
+      (row-weaker u new call.0 below top top call.1 bound (without_call seq row) (omega (arith, h.0.number)) (omega arith) (omega (arith, h.0.falls)) (row-left u past new seq call.0 top call.1 row keeps h.1))
   | inr apart ↦ subst (λ b. IsRow u new below top bound (cond (not b) (call ∷ without_call seq row) (without_call seq row))) (sym (ne_eqb seq call.0 apart)) (
     record { number = h.0.number; few = h.0.few; falls = h.0.falls; stands = keeps call.0 call.1 (λ same. apart (sym same)) h.0.stands },
     row-left u past new seq call.0 top call.1 row keeps h.1,

@@ -51,20 +51,18 @@ Keeps u past new top = (seq position : ℕ) → seq ≤ top → StandsAt u past 
 
 pub row-kept : (u : Under) (past new : Behind) (below top bound : ℕ) (row : Row) → Keeps u past new top → IsRow u past below top bound row → IsRow u new below top bound row
 row-kept u past new below top bound [] keeps h = tt
-row-kept u past new below top bound (call ∷ row) keeps h =
-    (
-      record { number = h.0.number; few = h.0.few; falls = h.0.falls; stands = keeps call.0 call.1 h.0.few h.0.stands },
-      row-kept u past new call.0 top call.1 row keeps h.1,
-    )
+row-kept u past new below top bound (call ∷ row) keeps h = (
+  record { number = h.0.number; few = h.0.few; falls = h.0.falls; stands = keeps call.0 call.1 h.0.few h.0.stands },
+  row-kept u past new call.0 top call.1 row keeps h.1,
+)
 
 -- a new call at the front
 pub row-more : (u : Under) (past : Behind) (below top seq bound : ℕ) (row : Row) → top < seq → below < seq → IsRow u past below top bound row → IsRow u past below seq bound (row ++ (seq, 0) ∷ [])
 row-more u past below top seq bound [] above over h = (record { number = over; few = omega arith; falls = omega arith; stands = stands-first u past seq }, tt)
-row-more u past below top seq bound (call ∷ row) above over h =
-    (
-      record { number = h.0.number; few = omega (arith, h.0.few, above); falls = h.0.falls; stands = h.0.stands },
-      row-more u past call.0 top seq call.1 row above (omega (arith, h.0.few, above)) h.1,
-    )
+row-more u past below top seq bound (call ∷ row) above over h = (
+  record { number = h.0.number; few = omega (arith, h.0.few, above); falls = h.0.falls; stands = h.0.stands },
+  row-more u past call.0 top seq call.1 row above (omega (arith, h.0.few, above)) h.1,
+)
 
 -- one call is gone
 pub row-without : (u : Under) (past : Behind) (below top bound seq : ℕ) (row : Row) → IsRow u past below top bound row → IsRow u past below top bound (without_call seq row)
@@ -82,11 +80,10 @@ pub row-moved : (u : Under) (past new : Behind) (f : ℕ → ℕ) (below top bou
     → ((seq position : ℕ) → StandsAt u past seq position → StandsAt u new seq (f position))
     → IsRow u past below top bound row → IsRow u new below top (f bound) (map (λ call. (call.0, f call.1)) row)
 row-moved u past new f below top bound [] rises keeps h = tt
-row-moved u past new f below top bound (call ∷ row) rises keeps h =
-    (
-      record { number = h.0.number; few = h.0.few; falls = rises call.1 bound h.0.falls; stands = keeps call.0 call.1 h.0.stands },
-      row-moved u past new f call.0 top call.1 row rises keeps h.1,
-    )
+row-moved u past new f below top bound (call ∷ row) rises keeps h = (
+  record { number = h.0.number; few = h.0.few; falls = rises call.1 bound h.0.falls; stands = keeps call.0 call.1 h.0.stands },
+  row-moved u past new f call.0 top call.1 row rises keeps h.1,
+)
 
 -- a call and those of greater numbers begin again
 begin-later : (u : Under) (past new : Behind) (seq below top bound : ℕ) (row : Row) → seq ≤ below → IsRow u past below top bound row → IsRow u new below top 0 (begin_again seq row)

@@ -132,9 +132,9 @@ standing-denied = refl
 
 abbrev pub held : Behind
 held = reverse (
-  Op (Attach 0 rl rl (holding 2)) ∷ Took (seven 1) ∷ Took (seven 2) ∷ Took (seven 3) ∷ Charged 1 rl 1000 ∷ Charged 2 rl 0
-  ∷ Sent 1 18 ∷ Sent 2 18 ∷ Moment 999 ∷ []
-)
+    Op (Attach 0 rl rl (holding 2)) ∷ Took (seven 1) ∷ Took (seven 2) ∷ Took (seven 3) ∷ Charged 1 rl 1000 ∷ Charged 2 rl 0
+    ∷ Sent 1 18 ∷ Sent 2 18 ∷ Moment 999 ∷ []
+    )
 
 level-before : level rl (reverse (Op (Attach 0 rl rl (holding 2)) ∷ [])) ≡ 2000
 level-before = refl
@@ -157,9 +157,9 @@ standing-held = refl
 -- a millisecond later, also in one step
 abbrev pub filled : Behind
 filled = reverse (
-  Op (Attach 0 rl rl (holding 2)) ∷ Took (seven 1) ∷ Took (seven 2) ∷ Took (seven 3) ∷ Charged 1 rl 1000 ∷ Charged 2 rl 0
-  ∷ Sent 1 18 ∷ Sent 2 18 ∷ Moment 1000 ∷ []
-)
+    Op (Attach 0 rl rl (holding 2)) ∷ Took (seven 1) ∷ Took (seven 2) ∷ Took (seven 3) ∷ Charged 1 rl 1000 ∷ Charged 2 rl 0
+    ∷ Sent 1 18 ∷ Sent 2 18 ∷ Moment 1000 ∷ []
+    )
 
 level-filled : level rl filled ≡ 1000
 level-filled = refl
@@ -177,9 +177,9 @@ noted_calls-charged = refl
 
 abbrev pub upgraded_before : Behind
 upgraded_before = reverse (
-  Op (Attach 0 acl (codes "p1") opening) ∷ Op (Attach 1 rl rl (holding 2)) ∷ Took call_150 ∷ Took (request 2 2 1 (with_number 7))
-  ∷ Charged 1 rl 1000 ∷ Charged 2 rl 0 ∷ Op (Upgrade acl (codes "p2") (Access but_150)) ∷ []
-)
+    Op (Attach 0 acl (codes "p1") opening) ∷ Op (Attach 1 rl rl (holding 2)) ∷ Took call_150 ∷ Took (request 2 2 1 (with_number 7))
+    ∷ Charged 1 rl 1000 ∷ Charged 2 rl 0 ∷ Op (Upgrade acl (codes "p2") (Access but_150)) ∷ []
+    )
 
 chain-upgraded : chain upgraded_before ≡ record {
   entries = record { name = acl; attach = 1; version = 2; policy = Access but_150 } ∷ new_entry rl 2 (holding 2) ∷ [];
@@ -200,9 +200,9 @@ standing-upgraded = refl
 
 abbrev pub again : Behind
 again = reverse (
-  Op (Attach 0 rl r1 (holding 1)) ∷ Took (seven 1) ∷ Took (seven 2) ∷ Took (seven 3) ∷ Charged 1 rl 0 ∷ Sent 1 18
-  ∷ Op (Detach rl) ∷ Op (Attach 0 rl r1 (holding 1)) ∷ []
-)
+    Op (Attach 0 rl r1 (holding 1)) ∷ Took (seven 1) ∷ Took (seven 2) ∷ Took (seven 3) ∷ Charged 1 rl 0 ∷ Sent 1 18
+    ∷ Op (Detach rl) ∷ Op (Attach 0 rl r1 (holding 1)) ∷ []
+    )
 
 chain-between : chain (Op (Detach rl) ∷ reverse (Op (Attach 0 rl r1 (holding 1)) ∷ [])) ≡ record { entries = []; attached = 1 }
 chain-between = refl
@@ -240,8 +240,8 @@ standing-failed = refl
 
 abbrev pub drawn_over : Behind
 drawn_over = reverse (
-  Op (Attach 0 q q (Quota 0 1000 1)) ∷ Took (seven 1) ∷ Took (seven 2) ∷ Drawn 1 q 0 0 ∷ Drawn 2 q 0 1 ∷ []
-)
+    Op (Attach 0 q q (Quota 0 1000 1)) ∷ Took (seven 1) ∷ Took (seven 2) ∷ Drawn 1 q 0 0 ∷ Drawn 2 q 0 1 ∷ []
+    )
 
 noted-first_drawn : noted q 1 drawn_over ≡ drawn 0
 noted-first_drawn = refl
@@ -280,8 +280,8 @@ seven_nine = request 1 2 2 (field 1 (one (number 7)) (field 2 (one (number 9)) n
 
 abbrev pub cleared : AccessPolicy → Behind
 cleared policy = reverse (
-  Op (Attach 0 acl acl (Access policy)) ∷ Op (Attach 1 cut cut (Redact (clear_2 ∷ []))) ∷ Took seven_nine ∷ Redacted 1 cut 1 ∷ []
-)
+    Op (Attach 0 acl acl (Access policy)) ∷ Op (Attach 1 cut cut (Redact (clear_2 ∷ []))) ∷ Took seven_nine ∷ Redacted 1 cut 1 ∷ []
+    )
 
 form-cleared : form 1 1 (cleared but_5) ≡ form_of seven_nine (with_number 7)
 form-cleared = refl

@@ -67,7 +67,7 @@ free-attach entries at name label policy refusal none within few (is_other n l p
 pub attached : (entries : List Entry) (many at : ℕ) (front back : List Entry) (name label : List ℕ) (policy : Policy) → (Contains (names_of entries) name → ⊥) → length entries < 8
     → entries ≡ front ++ back → length front ≡ at
     → changed (Attach at name label policy) (record { entries = entries; attached = many })
-      ≡ record { entries = front ++ new_entry name (many + 1) policy ∷ back; attached = many + 1 }
+    ≡ record { entries = front ++ new_entry name (many + 1) policy ∷ back; attached = many + 1 }
     → at ≤ length entries
     → Changes (record { entries = entries; attached = many }) (Attach at name label policy) (changed (Attach at name label policy) (record { entries = entries; attached = many }))
 attached entries many at front back name label policy none few whole place makes within = record {

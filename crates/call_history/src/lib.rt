@@ -16,5 +16,8 @@ mod laws;
 mod limits;
 
 pub use happening::{Cause, Happened, Happening, Taken, TookCopy};
-pub use laws::{chain_goes_on, connections_are_apart, events_keep, forms_go_on, histories_go_on, levels_go_on, noted_once, notes_go_on, one_fate, sent_in_order, standing_calls_have_forms, standing_goes_on};
+pub use laws::{
+    chain_goes_on, connections_are_apart, events_keep, forms_go_on, histories_go_on, levels_go_on,
+    noted_once, notes_go_on, one_fate, sent_in_order, standing_calls_have_forms, standing_goes_on,
+};
 pub use limits::MAX_STANDING;
