@@ -11,6 +11,7 @@ ghost use Rattle.engine_core.specs.declared.op.Op.TheVariants.{Attach, Upgrade};
 ghost use Rattle.engine_core.specs.declared.policy.Policy.{Policy};
 ghost use Rattle.call_history.specs.Behind.{Behind, chain, converted, copied, filled, form, is_fate_of, level, moment, noted, policy_of, redacted, standing, taken};
 ghost use Rattle.engine_core.specs.Chains.{changed};
+ghost use Rattle.call_history.specs.Clears.{cleared_in};
 ghost use Rattle.call_history.specs.Events.{Course, Event, Comes, Lead, IsCourse, beginning, refused_for_link};
 ghost use Rattle.call_history.specs.Legal.{HasForm, HasNoCopy, History, IsLegal, IsLegalBehind, IsPrefix, behind};
 ghost use Rattle.call_history.specs.Rules.{Under, May};
@@ -23,7 +24,7 @@ ghost use Rattle.call_history.specs.declared.happening.Taken.{Taken};
 ghost use Rattle.call_history.specs.declared.limits.TheConstants.{MAX_STANDING};
 
 use engine_core::stays_chain;
-use policy_redact::stays_normal;
+use policy_redact::{any_order, clear_again, stays_normal};
 
 /// What is behind on a connection once a history goes on.
 pub fn histories_go_on()
@@ -174,6 +175,17 @@ pub fn noted_once()
         → noted name seq earlier ≡ nothing }
 {
     stays_chain();
+}
+
+/// In a legal history no call is redacted twice for one attachment and version.
+pub fn redacted_once()
+    ensures { (T : Table) (limit conn seq version : ℕ) (name : List ℕ) (h : History) (later earlier : Behind)
+        → IsLegal T limit h → behind conn h ≡ later ++ Redacted seq name version ∷ earlier
+        → Contains (cleared_in name seq earlier) version → ⊥ }
+{
+    stays_chain();
+    clear_again();
+    any_order();
 }
 
 /// What holds of a connection between two steps holds at its beginning, and each event keeps it. So behind every list of
