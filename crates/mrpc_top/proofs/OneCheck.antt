@@ -25,9 +25,9 @@ use Rattle.mrpc_top.specs.declared.check.Spot.TheVariants.{Line, InFile, OfFile}
 same_set : SetLaw → {text : List ℕ} {files others : List PackedFile} → Spells text files → Spells text others → others ≡ files
 same_set law {text} {files} {others} a b = law.one_set text others files b a
 
-set_fault : SetLaw → {text : List ℕ} {files others : List PackedFile} {e : FilesFault} → Spells text files → Spells text others
-    → IsFirstFault others e → IsFirstFault files e
-set_fault law {text} {files} {others} {e} a b fault =
+set_fault : SetLaw → {text : List ℕ} {files others : List PackedFile} → Spells text files → Spells text others
+    → (e : FilesFault) → IsFirstFault others e → IsFirstFault files e
+set_fault law {text} {files} {others} a b e fault =
     subst (λ (fs : List PackedFile). IsFirstFault fs e) (same_set law a b) fault
 
 same_path : (i j : ℕ) → files_fault.Path i ≡ files_fault.Path j → i ≡ j
@@ -85,18 +85,18 @@ one_check_fault law sets text m n w v (wrong_path files i set are refused) (unre
 one_check_fault law sets text m n w v (wrong_path files i set are refused) (no_such_file l set' broken) =
     absurd (sets.set_or_fault text files l are broken)
 one_check_fault law sets text m n w v (wrong_path files i set are refused) (wrong_path others j set' are' refused') =
-    let same = same_path i j (sets.one_files_fault files (files_fault.Path i) (files_fault.Path j) refused (set_fault sets are are' refused')) in
+    let same = same_path i j (sets.one_files_fault files (files_fault.Path i) (files_fault.Path j) refused (set_fault sets are are' (files_fault.Path j) refused')) in
     (ap (λ (k : ℕ). OfFile (k + 1)) same, refl)
 one_check_fault law sets text m n w v (wrong_path files i set are refused) (in_set others j k r set' are' stands) =
-    absurd (not_path i j k r (sets.one_files_fault files (files_fault.Path i) (files_fault.At j k r) refused (set_fault sets are are' stands)))
+    absurd (not_path i j k r (sets.one_files_fault files (files_fault.Path i) (files_fault.At j k r) refused (set_fault sets are are' (files_fault.At j k r) stands)))
 one_check_fault law sets text m n w v (in_set files i l q set are stands) (unread r t alone fault) = absurd (alone set)
 one_check_fault law sets text m n w v (in_set files i l q set are stands) (unresolved G r t alone reads offence) = absurd (alone set)
 one_check_fault law sets text m n w v (in_set files i l q set are stands) (no_such_file k set' broken) =
     absurd (sets.set_or_fault text files k are broken)
 one_check_fault law sets text m n w v (in_set files i l q set are stands) (wrong_path others j set' are' refused) =
-    absurd (not_path j i l q (sets.one_files_fault files (files_fault.Path j) (files_fault.At i l q) (set_fault sets are are' refused) stands))
+    absurd (not_path j i l q (sets.one_files_fault files (files_fault.Path j) (files_fault.At i l q) (set_fault sets are are' (files_fault.Path j) refused) stands))
 one_check_fault law sets text m n w v (in_set files i l q set are stands) (in_set others j k r set' are' stands') =
-    let same = same_file i j l k q r (sets.one_files_fault files (files_fault.At i l q) (files_fault.At j k r) stands (set_fault sets are are' stands')) in
+    let same = same_file i j l k q r (sets.one_files_fault files (files_fault.At i l q) (files_fault.At j k r) stands (set_fault sets are are' (files_fault.At j k r) stands')) in
     let place : i ≡ j = same.0 in
     let line : l ≡ k = same.1 in
     let spot : InFile (i + 1) l ≡ InFile (j + 1) k = cc in
@@ -116,9 +116,9 @@ no_check_fault law sets text word T spot (a_set files set are resolves) (unresol
 no_check_fault law sets text word T spot (a_set files set are resolves) (no_such_file k set' broken) =
     sets.set_or_fault text files k are broken
 no_check_fault law sets text word T spot (a_set files set are resolves) (wrong_path others i set' are' refused) =
-    sets.table_or_files_fault files T (files_fault.Path i) resolves (set_fault sets are are' refused)
+    sets.table_or_files_fault files T (files_fault.Path i) resolves (set_fault sets are are' (files_fault.Path i) refused)
 no_check_fault law sets text word T spot (a_set files set are resolves) (in_set others i l q set' are' stands) =
-    sets.table_or_files_fault files T (files_fault.At i l q) resolves (set_fault sets are are' stands)
+    sets.table_or_files_fault files T (files_fault.At i l q) resolves (set_fault sets are are' (files_fault.At i l q) stands)
 
 abbrev pub NotBoth : Type 0
 NotBoth = (text word : List ℕ) (T : Table) (spot : Spot) → ChecksAs text T → IsCheckFault text spot word → ⊥
