@@ -224,13 +224,11 @@ fn of_inner_value(
 {
     match typed_step(alloc, text, name, token)? {
         NameStep::More(name) => Ok(MapStep::More(MapState::InnerValue(outer, depth, name))),
-        NameStep::Whole(_) if is_mark(token, b'>') => Ok(MapStep::More(MapState::Close(outer, depth))),
+        NameStep::Whole(_) if is_mark(token, b'>') => Ok(MapStep::More(MapState::Close(
+            outer, depth,
+        ))),
         NameStep::Whole(value) if begins_map(&value, token) => {
-            Ok(MapStep::More(MapState::InnerKey(
-                outer,
-                depth + 1,
-                NameState::Start,
-            )))
+            Ok(MapStep::More(MapState::InnerKey(outer, depth + 1, NameState::Start)))
         }
         NameStep::Whole(_) => Err(unexpected(token)),
     }

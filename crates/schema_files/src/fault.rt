@@ -51,7 +51,9 @@ pub enum FilesFault {
     /// The first file, by its place in the set, from 0, whose path isn't of the form of a path, or is that of a file
     /// before it. It counts before all that the files say.
     #[error("file {file} has a wrong path")]
-    Path { file: usize },
+    Path {
+        file: usize,
+    },
     /// The first fault: the file's place in the set, from 0, the line in which it stands there, and its reason.
     #[error("file {file}, line {line}: {reason}")]
     At {
