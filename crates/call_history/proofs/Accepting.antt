@@ -1,12 +1,12 @@
 -- A call is accepted, and refused at once where it is malformed.
-use Rattle.std.proofs.Common.{◌≡◌, ◌≢◌, ℕ, ◌+◌, ◌<◌, ◌≤◌, ◌==◌, cond, not, Bool, false, true, inl, inr, List, [], ◌∷◌, ◌++◌, length, map, refl, sym, ap, ◌∙◌, subst, arith, length-append, append-nil}
-use Rattle.std.specs.Prelude.{All, Contains, filter}
+use Rattle.std.proofs.Common.{◌≡◌, ◌≢◌, ℕ, ◌+◌, ◌<◌, ◌≤◌, ◌==◌, cond, not, false, true, inl, inr, List, [], ◌∷◌, ◌++◌, length, map, refl, sym, ap, ◌∙◌, subst, arith, length-append, append-nil}
+use Rattle.std.specs.Prelude.{All, Contains}
 use Rattle.std.proofs.lemmas.Bool.{eq-eqb, ne_eqb}
 use Rattle.std.proofs.lemmas.List.{map-append}
 use Rattle.std.proofs.lemmas.List.Elements.{All-weaker, filter-append, Contains-push_cases}
 use Rattle.call_history.specs.Behind.{Behind, chain, taken, standing, form, noted, noted_calls, copied}
 use Rattle.engine_core.specs.Answers.{nothing}
-use Rattle.call_history.specs.Events.{Course, accepted, NotesAscend}
+use Rattle.call_history.specs.Events.{Course, accepted}
 use Rattle.call_history.specs.Legal.{HasNoCopy, IsPrefix}
 use Rattle.call_history.specs.Rules.{Under, MayTake}
 use Rattle.call_history.specs.declared.happening.Cause.TheVariants as cause
@@ -18,7 +18,7 @@ use Rattle.call_history.proofs.Going.{IsOpen, may-take, may-refuse_malformed}
 use Rattle.call_history.proofs.Holding.{Holds, stands-still, works-running, works-on}
 use Rattle.call_history.proofs.Looking.{lets-still}
 use Rattle.call_history.proofs.Prefixes.{Rising, rising, noted-few}
-use Rattle.call_history.proofs.Rowed.{Keeps, StandsAt, IsRow, row-kept, row-more, row-weaker}
+use Rattle.call_history.proofs.Rowed.{Keeps, row-kept, row-more, row-weaker}
 use Rattle.call_history.proofs.Standing.{standing-took, standing-refused, others_of}
 
 -- the form of a call of another number stays

@@ -1,14 +1,14 @@
 -- An attachment leaves the entries before it, and what those noted.
-use Rattle.std.proofs.Common.{◌≡◌, ◌≢◌, ℕ, ◌+◌, ◌-◌, ◌<◌, ◌≤◌, zero, suc, min, Bool, true, false, cond, inl, inr, List, [], ◌∷◌, ◌++◌, length, map, take, drop, refl, sym, ap, ◌∙◌, subst, arith, length-append, length-take-le}
+use Rattle.std.proofs.Common.{◌≡◌, ℕ, ◌+◌, ◌<◌, ◌≤◌, zero, suc, min, Bool, true, false, cond, inl, inr, List, [], ◌∷◌, ◌++◌, length, map, take, drop, refl, sym, ap, subst, arith, length-append, length-take-le}
 use Rattle.std.specs.Prelude.{All, Contains}
 use Rattle.std.specs.Str.{bytes_eq}
 use Rattle.std.proofs.lemmas.Bool.{cases_lt}
 use Rattle.std.proofs.lemmas.List.Elements.{All-nil}
 use Rattle.engine_core.specs.Answers.{nothing}
-use Rattle.engine_core.specs.Chains.{Chain, Changes, Entry, names_of, new_entry, IsAgainst, is_taken, is_past, taken as is_taken_name, no_place}
+use Rattle.engine_core.specs.Chains.{Chain, Changes, Entry, names_of, new_entry, is_taken, is_past, taken as is_taken_name, no_place}
 use Rattle.engine_core.specs.declared.op.Op.TheVariants.{Attach}
 use Rattle.engine_core.specs.declared.policy.Policy.{Policy}
-use Rattle.call_history.specs.Behind.{Behind, chain, noted, noted_calls, standing}
+use Rattle.call_history.specs.Behind.{chain, noted, noted_calls, standing}
 use Rattle.engine_core.specs.Chains.{changed}
 use Rattle.call_history.specs.Events.{Course, NotesAscend}
 use Rattle.engine_core.specs.Moves.{back_to}
@@ -18,7 +18,7 @@ use Rattle.call_history.specs.declared.happening.Taken.{Taken}
 use Rattle.call_history.proofs.Chained.{all-step, named-there}
 use Rattle.call_history.proofs.Holding.{Holds}
 use Rattle.call_history.proofs.Looking.{other-name, lets-still}
-use Rattle.call_history.proofs.Operating.{Moves, moved-holds, all-fewer, in-front}
+use Rattle.call_history.proofs.Operating.{moved-holds, all-fewer, in-front}
 use Rattle.call_history.proofs.Rowed.{StandsAt}
 
 -- where an attachment may stand

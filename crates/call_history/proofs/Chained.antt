@@ -1,7 +1,6 @@
 -- Entries of a chain by their names and places.
-use Rattle.std.proofs.Common.{◌≡◌, ◌≢◌, ℕ, ◌+◌, ◌<◌, ◌≤◌, zero, suc, Bool, true, false, cond, inl, inr, List, [], ◌∷◌, ◌++◌, length, map, take, refl, sym, ap, ◌∙◌, subst, arith, add-one}
-use Rattle.std.specs.Prelude.{All, Contains, find, slice_get, slice_index_or, Option, Some, None}
-use Rattle.std.specs.Str.{bytes_eq}
+use Rattle.std.proofs.Common.{◌≡◌, ◌≢◌, ℕ, ◌<◌, zero, suc, cond, inl, inr, List, [], ◌∷◌, ◌++◌, length, take, refl, sym, ap, ◌∙◌, subst, arith}
+use Rattle.std.specs.Prelude.{All, Contains, find, slice_get, slice_index_or, Some}
 use Rattle.std.proofs.lemmas.List.Elements.{Contains-get_or}
 use Rattle.mrpc_table.specs.Valid.{AreDistinct}
 use Rattle.engine_core.specs.Chains.{Entry, names_of}

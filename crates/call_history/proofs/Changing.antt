@@ -1,15 +1,15 @@
 -- A chain that doesn't refuse a step becomes what the step makes of it, computed.
-use Rattle.std.proofs.Common.{◌≡◌, ◌≢◌, ℕ, ◌+◌, ◌<◌, ◌≤◌, zero, suc, Bool, true, false, cond, if◌then◌else◌, not, List, [], ◌∷◌, ◌++◌, length, map, take, drop, refl, sym, ap, ◌∙◌, subst, arith}
-use Rattle.std.specs.Prelude.{Contains, filter}
+use Rattle.std.proofs.Common.{◌≡◌, ◌≢◌, ℕ, ◌+◌, cond, if◌then◌else◌, not, List, [], ◌∷◌, ◌++◌, length, take, drop, refl, sym, ap, ◌∙◌, subst}
+use Rattle.std.specs.Prelude.{Contains}
 use Rattle.std.proofs.lemmas.List.{map-append}
 use Rattle.std.proofs.lemmas.List.Elements.{filter-append}
 use Rattle.mrpc_table.specs.Valid.{AreDistinct}
 use Rattle.engine_core.specs.Chains.{Chain, IsChain, Entry, names_of, new_entry, upgraded, Makes, attaches, detaches, upgrades, Changes}
 use Rattle.engine_core.specs.declared.op.Op.{Op as Step}
-use Rattle.engine_core.specs.declared.op.Op.TheVariants.{Attach, Detach, Upgrade}
+use Rattle.engine_core.specs.declared.op.Op.TheVariants.{Attach}
 use Rattle.engine_core.specs.declared.policy.Policy.{Policy}
 use Rattle.engine_core.specs.Chains.{changed, is_named}
-use Rattle.call_history.proofs.Chained.{named-there, contains-middle, front-apart}
+use Rattle.call_history.proofs.Chained.{named-there, front-apart}
 use Rattle.call_history.proofs.Detaching.{others_of}
 use Rattle.call_history.proofs.Further.{contains-first, contains-later}
 use Rattle.call_history.proofs.Looking.{equal-name, other-name}

@@ -1,6 +1,6 @@
 -- No call is redacted twice for one attachment and version.
-use Rattle.std.proofs.Common.{◌≡◌, ◌≢◌, ℕ, ◌+◌, ◌<◌, ◌≤◌, ◌==◌, ◌&&◌, Bool, true, false, cond, if◌then◌else◌, not, inl, inr, List, [], ◌∷◌, ◌++◌, length, map, take, drop, refl, sym, ap, ◌∙◌, subst, arith, take-append-drop, length-append}
-use Rattle.std.specs.Prelude.{All, Contains, filter, find, IsSomeAnd, Option, Some, None, option_map}
+use Rattle.std.proofs.Common.{◌≡◌, ◌≢◌, ℕ, ◌+◌, ◌<◌, ◌≤◌, ◌==◌, ◌&&◌, Bool, true, false, cond, not, inl, inr, List, [], ◌∷◌, ◌++◌, length, take, drop, refl, sym, ap, ◌∙◌, subst, arith, take-append-drop, length-append}
+use Rattle.std.specs.Prelude.{All, Contains, find, IsSomeAnd, Option, Some, None, option_map}
 use Rattle.std.specs.Str.{bytes_eq}
 use Rattle.std.proofs.lemmas.Bool.{and_parts, cases_eq, eqb-true, and_left}
 use Rattle.std.proofs.lemmas.Bool.{ne_eqb}
@@ -19,12 +19,11 @@ use Rattle.engine_core.specs.Chains.{is_named}
 use Rattle.call_history.specs.Clears.{cleared_in}
 use Rattle.call_history.specs.Legal.{IsPrefix}
 use Rattle.call_history.specs.Rules.{Under, IsCleared}
-use Rattle.call_history.specs.declared.happening.Happening.TheVariants.{Took, Away, Op, Moment, Charged, Drawn, Counted, Redacted, Sent, Refused}
-use Rattle.call_history.specs.declared.happening.Taken.{Taken}
+use Rattle.call_history.specs.declared.happening.Happening.TheVariants.{Took, Op, Redacted}
 use Rattle.call_history.proofs.Accepting.{form-other}
 use Rattle.call_history.proofs.Chained.{contains-in, same-entry, find-entry}
 use Rattle.call_history.proofs.Fitting.{IsFrom, from-map, in-filter}
-use Rattle.call_history.proofs.Further.{contains-cases, contains-first, contains-later}
+use Rattle.call_history.proofs.Further.{contains-cases}
 use Rattle.call_history.proofs.GoingOn.{form-cleared}
 use Rattle.call_history.proofs.Looking.{same-name, equal-name}
 use Rattle.call_history.proofs.Prefixes.{StaysChain, chained, stood}

@@ -1,5 +1,5 @@
 -- Calls that stand have a copy, and a form.
-use Rattle.std.proofs.Common.{◌≡◌, ◌≢◌, ℕ, ◌+◌, ◌<◌, ◌≤◌, ◌==◌, not, Bool, true, false, inl, inr, List, [], ◌∷◌, ◌++◌, length, map, refl, sym, ap, ◌∙◌, subst, arith, length-append}
+use Rattle.std.proofs.Common.{◌≡◌, ℕ, ◌+◌, ◌≤◌, ◌==◌, not, inl, inr, List, [], ◌∷◌, ◌++◌, length, refl, sym, ap, ◌∙◌, subst, arith, length-append}
 use Rattle.std.specs.Prelude.{Contains, Option, Some, None, option_map}
 use Rattle.std.proofs.lemmas.Bool.{cases_eq}
 use Rattle.std.proofs.lemmas.List.Elements.{Contains-push_cases}
@@ -13,8 +13,7 @@ use Rattle.engine_core.specs.declared.policy.Policy.{Policy}
 use Rattle.engine_core.specs.declared.policy.Policy.TheVariants.{Access, Rate, Quota, Count, Redact}
 use Rattle.call_history.specs.Behind.{Behind, taken, stands, standing, form, copied, with_tree, redacted, policy_of}
 use Rattle.call_history.specs.Legal.{IsPrefix, HasNoCopy, AwaitsMalformed, HasForm}
-use Rattle.call_history.specs.Rules.{Under, May, IsTakenBy, IsRefusedAtOnce, IsNoMalformedRefusal, RefusesMalformed}
-use Rattle.call_history.specs.declared.happening.Cause.{Cause}
+use Rattle.call_history.specs.Rules.{Under, IsTakenBy, IsRefusedAtOnce, IsNoMalformedRefusal, RefusesMalformed}
 use Rattle.call_history.specs.declared.happening.Cause.TheVariants as cause
 use Rattle.call_history.specs.declared.happening.Happening.{Happening}
 use Rattle.call_history.specs.declared.happening.Happening.TheVariants.{Took, Redacted, Sent, Refused}

@@ -1,8 +1,8 @@
 -- Places of the calls that stand, and a row of them.
-use Rattle.std.proofs.Common.{◌≡◌, ℕ, ◌+◌, ◌<◌, ◌≤◌, zero, suc, List, [], ◌∷◌, length, map, refl, sym, ap, ◌∙◌, subst, arith}
-use Rattle.std.specs.Prelude.{slice_get, Some, None}
+use Rattle.std.proofs.Common.{◌≡◌, ℕ, ◌≤◌, zero, suc, List, [], ◌∷◌, map, refl, sym, subst, arith}
+use Rattle.std.specs.Prelude.{slice_get, Some}
 use Rattle.std.specs.List.{AllZip}
-use Rattle.call_history.specs.Behind.{Behind, chain, standing}
+use Rattle.call_history.specs.Behind.{Behind, standing}
 use Rattle.engine_core.specs.Moves.{Row}
 use Rattle.call_history.specs.Places.{NeverRise, MayStandAt, ArePlaces}
 use Rattle.call_history.specs.Rules.{Under}

@@ -1,13 +1,13 @@
 -- A detached entry leaves the others in their order.
-use Rattle.std.proofs.Common.{◌≡◌, ◌≢◌, ℕ, ◌+◌, ◌-◌, ◌<◌, ◌≤◌, zero, suc, Bool, true, false, cond, if◌then◌else◌, not, inl, inr, List, [], ◌∷◌, ◌++◌, length, map, take, refl, sym, ap, ◌∙◌, subst, arith}
+use Rattle.std.proofs.Common.{◌≡◌, ℕ, ◌+◌, ◌-◌, ◌<◌, ◌≤◌, zero, suc, Bool, true, false, cond, if◌then◌else◌, not, inl, inr, List, [], ◌∷◌, length, take, refl, sym, ap, ◌∙◌, subst, arith}
 use Rattle.std.specs.Prelude.{All, Contains, filter, nat_lt}
 use Rattle.std.specs.Str.{bytes_eq}
 use Rattle.std.proofs.lemmas.Bool.{cases_lt, lt-ltb, le-ltb}
 use Rattle.std.proofs.lemmas.List.Elements.{All-nil, All-cons, All-head, All-tail, All-weaker}
 use Rattle.mrpc_table.specs.Valid.{AreDistinct}
-use Rattle.engine_core.specs.Chains.{Chain, Changes, Entry, names_of, IsAgainst, detaches_none, no_such}
+use Rattle.engine_core.specs.Chains.{Chain, Changes, Entry, names_of, detaches_none, no_such}
 use Rattle.engine_core.specs.declared.op.Op.TheVariants.{Detach}
-use Rattle.call_history.specs.Behind.{Behind, chain}
+use Rattle.call_history.specs.Behind.{chain}
 use Rattle.engine_core.specs.Chains.{changed, is_named}
 use Rattle.call_history.specs.Events.{Course}
 use Rattle.engine_core.specs.Moves.{moved_up, place_of}
@@ -16,7 +16,7 @@ use Rattle.call_history.specs.declared.happening.Happening.TheVariants.{Op}
 use Rattle.call_history.proofs.Further.{contains-cases, contains-first, contains-later}
 use Rattle.call_history.proofs.Holding.{Holds}
 use Rattle.call_history.proofs.Looking.{same-name, equal-name, other-name, lets-still}
-use Rattle.call_history.proofs.Operating.{Moves, moved-holds, all-none}
+use Rattle.call_history.proofs.Operating.{moved-holds, all-none}
 use Rattle.call_history.proofs.Prefixes.{StaysChain, chained}
 use Rattle.call_history.proofs.Rowed.{StandsAt}
 

@@ -1,10 +1,10 @@
 -- The link fails, and the calls that stand are refused for it, one after another.
-use Rattle.std.proofs.Common.{◌≡◌, ◌≢◌, ℕ, ◌+◌, ◌<◌, ◌≤◌, ◌==◌, cond, not, Bool, false, true, List, [], ◌∷◌, ◌++◌, length, map, refl, sym, ap, ◌∙◌, subst, arith}
+use Rattle.std.proofs.Common.{◌≡◌, ◌≢◌, ℕ, ◌≤◌, cond, not, true, List, [], ◌∷◌, length, map, refl, sym, ap, ◌∙◌, subst, arith}
 use Rattle.std.specs.Prelude.{Contains}
 use Rattle.std.proofs.lemmas.Bool.{eq-eqb, ne_eqb}
-use Rattle.call_history.specs.Behind.{Behind, chain, taken, standing, has_failed}
+use Rattle.call_history.specs.Behind.{Behind, taken, standing}
 use Rattle.call_history.specs.Events.{Course, refused_for_link}
-use Rattle.call_history.specs.Legal.{IsPrefix, AwaitsMalformed, AwaitsQuota, IsSettledUp}
+use Rattle.call_history.specs.Legal.{IsPrefix, AwaitsMalformed, AwaitsQuota}
 use Rattle.call_history.specs.Rules.{Under, May, IsLeft, IsFirst}
 use Rattle.call_history.specs.declared.happening.Cause.TheVariants as cause
 use Rattle.call_history.specs.declared.happening.Happening.{Happening}

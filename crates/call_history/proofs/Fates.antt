@@ -1,5 +1,5 @@
 -- Each call has one fate at most, and calls are sent in the order of their numbers.
-use Rattle.std.proofs.Common.{◌≡◌, ◌≢◌, ℕ, ◌+◌, ◌<◌, ◌≤◌, ◌==◌, ◌||◌, Bool, true, false, cond, not, inl, inr, List, [], ◌∷◌, ◌++◌, length, map, refl, sym, ap, ◌∙◌, subst, arith, append_assoc}
+use Rattle.std.proofs.Common.{◌≡◌, ℕ, ◌+◌, ◌<◌, ◌≤◌, ◌==◌, Bool, true, false, cond, not, inl, inr, List, [], ◌∷◌, ◌++◌, length, map, refl, sym, ap, ◌∙◌, subst, arith, append_assoc}
 use Rattle.std.specs.Prelude.{All, Contains, filter, count_by}
 use Rattle.std.specs.List.{list_any}
 use Rattle.std.proofs.lemmas.Bool.{eq-eqb, eqb-true, not-true, or_parts, or_cases, or_left, or_right, cases_lt, false≢true}
@@ -12,18 +12,14 @@ use Rattle.call_history.specs.Rules.{Under, May, IsFirst, IsSentNext, RefusesMal
 use Rattle.call_history.specs.declared.happening.Cause.{Cause}
 use Rattle.call_history.specs.declared.happening.Cause.TheVariants as cause
 use Rattle.call_history.specs.declared.happening.Happening.{Happening}
-use Rattle.call_history.specs.declared.happening.Happening.TheVariants.{Took, Away, Op, Moment, Charged, Drawn, Counted, Redacted, Sent, Refused}
+use Rattle.call_history.specs.declared.happening.Happening.TheVariants.{Took, Sent, Refused}
 use Rattle.call_history.specs.declared.happening.Taken.{Taken}
 use Rattle.call_history.proofs.Failing.{without-first}
-use Rattle.call_history.proofs.Further.{contains-cases, contains-first, contains-later}
-use Rattle.call_history.proofs.Prefixes.{Rising, rising, stood, refused-at-once, fateless}
-use Rattle.call_history.proofs.Sending.{stood-before}
+use Rattle.call_history.proofs.Further.{contains-cases, contains-first}
+use Rattle.call_history.proofs.Prefixes.{Rising, rising, refused-at-once, fateless}
 use Rattle.call_history.proofs.Standing.{standing-took, standing-sent, standing-refused, others_of, map-filter}
 
 -- ---- a call that stands has no fate
-
-numbers-of : List Taken → List ℕ
-numbers-of calls = map (λ call. call.seq) calls
 
 unfated-among : (past : Behind) (calls : List Taken) (seq : ℕ) → Contains (map (λ call. call.seq) (filter (stands past) calls)) seq → list_any (is_fate_of seq) past ≡ false
 unfated-among past [] seq has = absurd (omega (arith, has.1))

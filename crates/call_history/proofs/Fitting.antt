@@ -1,14 +1,13 @@
 -- What an entry has noted of a call is what a policy of its kind notes.
-use Rattle.std.proofs.Common.{◌≡◌, ◌≢◌, ℕ, ◌+◌, ◌-◌, ◌/◌, min, ◌<◌, ◌≤◌, ◌==◌, ◌&&◌, if◌then◌else◌, Bool, true, false, cond, not, ◌⊎◌, inl, inr, List, [], ◌∷◌, ◌++◌, length, map, take, drop, refl, sym, ap, ◌∙◌, subst, arith, take-append-drop}
+use Rattle.std.proofs.Common.{◌≡◌, ◌≢◌, ℕ, ◌+◌, ◌-◌, ◌/◌, min, ◌==◌, ◌&&◌, if◌then◌else◌, Bool, true, false, cond, not, inl, inr, List, [], ◌∷◌, ◌++◌, map, take, drop, refl, sym, ap, ◌∙◌, subst, arith, take-append-drop}
 use Rattle.std.specs.Prelude.{Contains, filter, IsSomeAnd, Option, Some, None}
 use Rattle.std.specs.Str.{bytes_eq}
 use Rattle.std.proofs.lemmas.Bool.{and_parts, true_from_ne_false}
 use Rattle.std.proofs.lemmas.List.Elements.{Contains-append_cases, Contains-append_left, Contains-append_right}
 use Rattle.mrpc_table.specs.declared.call.Call.{Call}
-use Rattle.engine_core.specs.Answers.{Past, nothing, charged, drawn, counted, Answer, note, Answers, allows, denies, was_charged, charges, holds, refuses, is_within, is_over, draws, was_counted, counts, is_clear, redacts}
-use Rattle.engine_core.specs.Chains.{Chain, Changes, Entry, new_entry, upgraded, IsAgainst, is_other, other_kind}
+use Rattle.engine_core.specs.Answers.{Past, nothing, charged, drawn, counted, note, Answers, allows, denies, was_charged, charges, holds, refuses, is_within, is_over, draws, was_counted, counts, is_clear, redacts}
+use Rattle.engine_core.specs.Chains.{Chain, Changes, Entry, new_entry, upgraded, is_other, other_kind}
 use Rattle.engine_core.specs.Policies.{is_same_kind}
-use Rattle.engine_core.specs.declared.op.Op.{Op as Step}
 use Rattle.engine_core.specs.declared.op.Op.TheVariants.{Attach, Detach, Upgrade}
 use Rattle.engine_core.specs.declared.outcome.Noted.{Noted}
 use Rattle.engine_core.specs.declared.outcome.Noted.TheVariants as notes
@@ -17,8 +16,8 @@ use Rattle.engine_core.specs.declared.policy.Policy.TheVariants.{Access, Rate, Q
 use Rattle.call_history.specs.Behind.{Behind, chain, noted, form, level, moment}
 use Rattle.engine_core.specs.Chains.{changed, is_named}
 use Rattle.call_history.specs.Legal.{IsPrefix}
-use Rattle.call_history.specs.Rules.{Under, Gives, IsCalledFor}
-use Rattle.call_history.specs.declared.happening.Happening.TheVariants.{Took, Away, Op, Moment, Charged, Drawn, Counted, Redacted, Sent, Refused}
+use Rattle.call_history.specs.Rules.{Under, IsCalledFor}
+use Rattle.call_history.specs.declared.happening.Happening.TheVariants.{Op, Charged, Drawn, Counted}
 use Rattle.call_history.proofs.Chained.{contains-in, same-entry}
 use Rattle.call_history.proofs.Further.{contains-cases, contains-first, contains-later}
 use Rattle.call_history.proofs.Looking.{same-name, equal-name}

@@ -1,6 +1,6 @@
 -- The first call at a position goes on by an entry.
-use Rattle.std.proofs.Common.{◌≡◌, ◌≢◌, ℕ, ◌+◌, ◌<◌, ◌≤◌, zero, suc, Bool, true, false, ◌==◌, cond, ◌⊎◌, inl, inr, List, [], ◌∷◌, ◌++◌, length, map, refl, sym, ap, ◌∙◌, subst, arith}
-use Rattle.std.specs.Prelude.{Contains, find, Some, None, Option}
+use Rattle.std.proofs.Common.{◌≡◌, ◌≢◌, ℕ, ◌+◌, ◌<◌, ◌≤◌, suc, Bool, true, false, ◌==◌, cond, ◌⊎◌, inl, inr, List, [], ◌∷◌, map, refl, sym, ap, subst, arith}
+use Rattle.std.specs.Prelude.{Contains, Some}
 use Rattle.std.proofs.lemmas.Bool.{eq-eqb, ne_eqb, eqb-true, eqb-false}
 use Rattle.std.proofs.lemmas.List.Elements.{Contains-append_cases, Contains-push_cases}
 use Rattle.call_history.specs.Behind.{Behind}
@@ -24,9 +24,6 @@ contains-cases x xs y has = elim (Contains-append_cases (x ∷ []) xs y has) [
   | inl first ↦ elim (Contains-push_cases [] x y first) [ inl none ↦ absurd (contains-none y none) | inr same ↦ inl same ]
   | inr rest ↦ inr rest
 ]
-
-pub numbers : Row → List ℕ
-numbers row = map (λ call. call.0) row
 
 -- ---- the first call at a position
 

@@ -1,18 +1,15 @@
 -- Which happening may come where nothing is left open, and what it leaves open.
-use Rattle.std.proofs.Common.{◌≡◌, ℕ, ◌+◌, ◌<◌, ◌≤◌, Bool, true, false, ◌||◌, ◌⊎◌, inl, inr, List, [], ◌∷◌, ◌++◌, length, refl, sym, ap, ◌∙◌, subst, arith}
-use Rattle.std.specs.Prelude.{Some}
+use Rattle.std.proofs.Common.{◌≡◌, ℕ, ◌<◌, true, false, List, [], ◌∷◌, refl, sym, ◌∙◌, arith}
 use Rattle.engine_core.specs.Chains.{Changes}
 use Rattle.engine_core.specs.declared.outcome.Noted.TheVariants as notes
 use Rattle.engine_core.specs.declared.op.Op.{Op as Step}
-use Rattle.engine_core.specs.declared.policy.Policy.{Policy}
-use Rattle.call_history.specs.Behind.{Behind, chain, moment, policy_of, standing, has_failed}
+use Rattle.call_history.specs.Behind.{Behind, chain, moment, standing, has_failed}
 use Rattle.engine_core.specs.Chains.{changed}
-use Rattle.call_history.specs.Legal.{HasNoCopy, AwaitsMalformed, IsOver, AwaitsQuota, AwaitsLink, IsSettledUp}
-use Rattle.call_history.specs.Rules.{Under, MayTake, IsRefusedAtOnce, IsNoMalformedRefusal, RefusesMalformed, IsNumbered, KeepsChain, NotesWhatIsDue, SendsInOrder, RefusesAsAnswered, cap_of, RefusesDrawn, IsCalledFor, IsCleared, IsSentNext, IsAnswered, IsQuiet, IsLeft, IsLinkRefusal, May}
-use Rattle.call_history.specs.declared.happening.Cause.{Cause}
+use Rattle.call_history.specs.Legal.{HasNoCopy, AwaitsMalformed, AwaitsQuota, IsSettledUp}
+use Rattle.call_history.specs.Rules.{Under, MayTake, IsRefusedAtOnce, IsNoMalformedRefusal, RefusesMalformed, IsNumbered, KeepsChain, NotesWhatIsDue, SendsInOrder, RefusesAsAnswered, RefusesDrawn, IsCalledFor, IsCleared, IsSentNext, IsQuiet, IsLeft, IsLinkRefusal, May}
 use Rattle.call_history.specs.declared.happening.Cause.TheVariants as cause
 use Rattle.call_history.specs.declared.happening.Happening.{Happening}
-use Rattle.call_history.specs.declared.happening.Happening.TheVariants.{Took, Away, Op, Moment, Charged, Drawn, Counted, Redacted, Sent, Refused}
+use Rattle.call_history.specs.declared.happening.Happening.TheVariants.{Took, Op, Moment, Charged, Drawn, Counted, Redacted, Sent, Refused}
 use Rattle.call_history.specs.declared.happening.Taken.{Taken}
 use Rattle.call_history.specs.declared.happening.TookCopy.{TookCopy}
 use Rattle.call_history.specs.declared.happening.TookCopy.TheVariants.{Copy, Malformed}

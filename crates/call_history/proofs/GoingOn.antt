@@ -1,30 +1,26 @@
 -- Histories that go on, as their connections see it.
-use Rattle.std.proofs.Common.{◌≡◌, ◌≢◌, ℕ, ◌+◌, ◌<◌, ◌==◌, ◌&&◌, Bool, true, false, cond, if◌then◌else◌, not, List, [], ◌∷◌, ◌++◌, length, reverse, refl, sym, ap, ◌∙◌, subst, arith, inl, inr}
-use Rattle.std.specs.Prelude.{All, filter, filter_map, Option, Some, None, option_map}
+use Rattle.std.proofs.Common.{◌≡◌, ◌≢◌, ℕ, ◌==◌, cond, if◌then◌else◌, List, [], ◌∷◌, ◌++◌, length, reverse, refl, sym, ap, ◌∙◌, subst, inl, inr}
+use Rattle.std.specs.Prelude.{All, Some, None, option_map}
 use Rattle.std.specs.List.{cons_option}
-use Rattle.std.specs.Str.{bytes_eq}
 use Rattle.std.proofs.lemmas.Bool.{eq-eqb, ne_eqb, cases_eq}
 use Rattle.std.proofs.lemmas.List.{reverse-append}
 use Rattle.std.proofs.lemmas.List.Elements.{All-head, All-tail, All-weaker, filter_map-append}
 use Rattle.mrpc_table.specs.declared.table.Table.{Table}
-use Rattle.mrpc_table.specs.declared.call.Call.{Call}
-use Rattle.engine_core.specs.Answers.{Past, nothing, charged, drawn, counted}
+use Rattle.engine_core.specs.Answers.{nothing, charged, drawn, counted}
 use Rattle.engine_core.specs.Policies.{first_level}
 use Rattle.engine_core.specs.declared.op.Op.TheVariants.{Attach, Upgrade}
 use Rattle.engine_core.specs.declared.policy.Policy.{Policy}
 use Rattle.call_history.specs.Behind.{Behind, policy_of, level, converted, noted, taken, standing, form, copied, redacted}
-use Rattle.call_history.specs.Events.{refused_for_link}
 use Rattle.call_history.specs.Legal.{History, on, behind, IsPrefix, IsLegalBehind, IsLegal}
 use Rattle.call_history.specs.Rules.{Under, May}
-use Rattle.call_history.specs.declared.happening.Cause.{Cause}
 use Rattle.call_history.specs.declared.happening.Happened.{Happened}
 use Rattle.call_history.specs.declared.happening.Happening.{Happening}
-use Rattle.call_history.specs.declared.happening.Happening.TheVariants.{Took, Op, Charged, Drawn, Counted, Redacted, Sent, Refused}
+use Rattle.call_history.specs.declared.happening.Happening.TheVariants.{Took, Op, Charged, Drawn, Counted, Redacted, Sent}
 use Rattle.call_history.specs.declared.happening.Taken.{Taken}
-use Rattle.call_history.proofs.Failing.{without-first, refuse-all}
-use Rattle.call_history.proofs.Looking.{equal-name, other-name, is-for, isnt-call, isnt-named}
+use Rattle.call_history.proofs.Failing.{without-first}
+use Rattle.call_history.proofs.Looking.{equal-name, other-name, is-for}
 use Rattle.call_history.proofs.Prefixes.{Rising, rising}
-use Rattle.call_history.proofs.Standing.{standing-sent, standing-refused, others_of}
+use Rattle.call_history.proofs.Standing.{standing-sent, others_of}
 
 -- ---- what is behind
 

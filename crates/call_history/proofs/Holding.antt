@@ -1,16 +1,15 @@
 -- What the steps keep, in the form in which it is proved, and that it is what holds of a connection between two steps.
-use Rattle.std.proofs.Common.{◌≡◌, ◌≢◌, ℕ, ◌+◌, ◌<◌, ◌≤◌, zero, suc, Bool, true, false, ◌||◌, ◌==◌, cond, not, inl, inr, List, [], ◌∷◌, ◌++◌, length, map, take, refl, sym, ap, ◌∙◌, subst, arith}
-use Rattle.std.specs.Prelude.{All, Contains, filter, slice_get, Some, None}
+use Rattle.std.proofs.Common.{◌≡◌, ℕ, ◌≤◌, Bool, true, false, cond, inl, inr, List, [], ◌∷◌, length, map, take, sym, ◌∙◌, subst, arith}
+use Rattle.std.specs.Prelude.{All, Contains, filter, slice_get, Some}
 use Rattle.std.proofs.lemmas.Bool.{false_from_ne_true}
 use Rattle.std.proofs.lemmas.List.Elements.{All-weaker}
-use Rattle.std.proofs.lemmas.Option.{slice_get_within}
 use Rattle.engine_core.specs.Chains.{Entry}
 use Rattle.call_history.specs.Behind.{Behind, chain, taken, standing, has_failed}
-use Rattle.call_history.specs.Events.{Course, NotesAscend, IsCourse, beginning}
+use Rattle.call_history.specs.Events.{Course, NotesAscend, IsCourse}
 use Rattle.engine_core.specs.Moves.{Row, first_at}
-use Rattle.call_history.specs.Legal.{IsPrefix, IsSettledUp, AwaitsLink, AwaitsMalformed, AwaitsQuota}
+use Rattle.call_history.specs.Legal.{IsPrefix, IsSettledUp, AwaitsLink}
 use Rattle.std.specs.List.{AllZip}
-use Rattle.call_history.specs.Places.{NeverRise, MayStandAt}
+use Rattle.call_history.specs.Places.{MayStandAt}
 use Rattle.call_history.specs.Rules.{Under, Lets}
 use Rattle.call_history.specs.declared.happening.Taken.{Taken}
 use Rattle.call_history.proofs.Further.{contains-cases, contains-first, contains-later}

@@ -1,13 +1,11 @@
 -- Each event keeps what holds of a connection between two steps.
-use Rattle.std.proofs.Common.{◌≡◌, ℕ, List, [], ◌∷◌, refl, sym, ap, subst, arith}
-use Rattle.std.specs.Prelude.{Contains}
-use Rattle.mrpc_table.specs.declared.call.Call.{Call}
-use Rattle.engine_core.specs.Chains.{Chain, Changes, Entry}
+use Rattle.std.proofs.Common.{ℕ, List, [], ◌∷◌, refl, sym, subst, arith}
+use Rattle.engine_core.specs.Chains.{Changes, Entry}
 use Rattle.engine_core.specs.Turns.{ComesOut, passes, is_noted, is_held, is_refused, is_noted_and_refused, is_redacted}
 use Rattle.engine_core.specs.declared.op.Op.{Op as Step}
 use Rattle.engine_core.specs.declared.op.Op.TheVariants.{Attach, Detach, Upgrade}
 use Rattle.engine_core.specs.declared.outcome.Outcome.{Outcome}
-use Rattle.call_history.specs.Behind.{chain, level, moment, noted, form}
+use Rattle.call_history.specs.Behind.{chain, level, moment, noted}
 use Rattle.engine_core.specs.Chains.{changed}
 use Rattle.call_history.specs.Events.{Course, Event, HasTurn, turned, Comes, takes, is_away, changes, rises, stays, has_turn, is_sent, link_failed, Lead, beginning, IsCourse}
 use Rattle.engine_core.specs.Moves.{moved_by}

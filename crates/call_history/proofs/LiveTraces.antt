@@ -1,43 +1,31 @@
 -- Courses of events in which a policy is upgraded with calls behind it, and in which fields are cleared: worked out by
 -- hand, what each adds, and that its history is legal.
-use Rattle.std.proofs.Common.{◌≡◌, ◌≢◌, ℕ, ◌+◌, ◌<◌, ◌≤◌, ◌^◌, true, false, ◌⊎◌, inl, inr, List, [], ◌∷◌, ◌++◌, codes, length, reverse, refl, ap, sym, ◌∙◌, arith}
-use Rattle.std.specs.Prelude.{Contains, Some}
-use Rattle.mrpc_table.specs.Normal.{IsNormal}
-use Rattle.mrpc_table.specs.Node.{Node, no_fields, field, one, number}
-use Rattle.mrpc_table.specs.declared.table.Kind.TheVariants.{Uint64}
-use Rattle.mrpc_table.specs.declared.table.Label.TheVariants.{Plain}
-use Rattle.mrpc_table.specs.declared.table.Table.{Table}
-use Rattle.wire_base.specs.Encoding.{varint, groups}
-use Rattle.mrpc_table.specs.declared.call.Call.{Call}
+use Rattle.std.proofs.Common.{◌≡◌, ℕ, true, false, inl, inr, List, [], ◌∷◌, codes, refl, ap, sym, ◌∙◌, arith}
+use Rattle.std.specs.Prelude.{Contains}
 use Rattle.engine_core.specs.Answers.{nothing, charged}
 use Rattle.engine_core.specs.Answers as answers
 use Rattle.engine_core.specs.Chains.{Chain, Changes, Entry, names_of, new_entry, Refusal, IsAgainst, detaches_none, upgrades_none, is_taken, is_past, is_full, is_other}
 use Rattle.engine_core.specs.Chains as chains
 use Rattle.engine_core.specs.Turns as turns
-use Rattle.engine_core.specs.declared.op.Op.TheVariants.{Attach, Detach, Upgrade}
+use Rattle.engine_core.specs.declared.op.Op.TheVariants.{Attach, Upgrade}
 use Rattle.engine_core.specs.declared.outcome.Noted.TheVariants as notes
 use Rattle.engine_core.specs.declared.outcome.Outcome.TheVariants as outcomes
 use Rattle.engine_core.specs.declared.outcome.Why.TheVariants.{Denied}
-use Rattle.engine_core.specs.declared.policy.Policy.{Policy}
-use Rattle.engine_core.specs.declared.policy.Policy.TheVariants.{Access, Rate, Quota, Count, Redact}
-use Rattle.call_history.specs.Behind.{Behind, chain, form, standing, taken}
-use Rattle.engine_core.specs.Chains.{changed}
-use Rattle.call_history.specs.Events.{Course, Event, IsReady, accepts, operates, shows, turns as has_turn_of, sends, fails, Comes, takes, changes, has_turn, is_sent, link_failed, Lead, beginning, IsCourse}
-use Rattle.engine_core.specs.Moves.{first_at}
+use Rattle.engine_core.specs.declared.policy.Policy.TheVariants.{Access}
+use Rattle.call_history.specs.Events.{Course, Event, accepts, operates, turns as has_turn_of, sends, takes, changes, has_turn, is_sent, Lead, beginning}
 use Rattle.call_history.specs.Legal.{IsLegalBehind}
-use Rattle.call_history.specs.Rules.{Under, MayTake, header, payload}
 use Rattle.call_history.specs.declared.happening.Cause.TheVariants as cause
-use Rattle.call_history.specs.declared.happening.Happening.TheVariants.{Took, Op, Charged, Redacted, Sent, Refused}
+use Rattle.call_history.specs.declared.happening.Happening.TheVariants.{Sent, Refused}
 use Rattle.call_history.specs.declared.happening.Taken.{Taken}
 use Rattle.call_history.proofs.Further.{contains-cases}
 use Rattle.call_history.proofs.Keeping.{course-begins, events-keep}
 use Rattle.call_history.proofs.Prefixes.{StaysChain}
-use Rattle.call_history.proofs.Rows.{table, with_number, request, acl, rl, no150, opening, but_150, holding, seven, call_150, denied, failing}
+use Rattle.call_history.proofs.Rows.{with_number, request, acl, rl, no150, opening, but_150, holding, call_150}
 use Rattle.policy_access.specs.Verdict.{AccessPolicy}
 use Rattle.policy_rate.specs.declared.rate.Rate.{Rate as RatePolicy}
 use Rattle.engine_core.specs.Policies.{is_same_kind}
 use Rattle.call_history.proofs.Rows.{upgraded_before}
-use Rattle.call_history.proofs.Traces.{under, form_of, normal_number, none-in, attached, taken_150, taken_7, ready, long-7}
+use Rattle.call_history.proofs.Traces.{under, form_of, normal_number, none-in, attached, taken_150, ready, long-7}
 
 -- ---- an upgrade with two calls behind the old version
 

@@ -1,12 +1,12 @@
 -- What a happening changes of what was noted of a call, and of its form; and that an entry which lets a call pass does
 -- so at every moment.
-use Rattle.std.proofs.Common.{◌≡◌, ◌≢◌, ℕ, Bool, true, false, ◌&&◌, ◌==◌, cond, List, [], ◌∷◌, refl, sym, ap, ◌∙◌, subst}
+use Rattle.std.proofs.Common.{◌≡◌, ◌≢◌, ℕ, true, false, ◌&&◌, ◌==◌, List, sym, subst}
 use Rattle.std.specs.Prelude.{Option, Some, None, IsSomeAnd}
 use Rattle.std.specs.Str.{bytes_eq}
 use Rattle.std.proofs.lemmas.Bool.{eq-eqb, ne_eqb, and_left, and_right, and_from, false_from_ne_true}
 use Rattle.std.proofs.lemmas.Slice.Eq.{bytes_eq-Decides}
 use Rattle.mrpc_table.specs.declared.call.Call.{Call}
-use Rattle.engine_core.specs.Answers.{Past, nothing, charged, drawn, counted, Answer, pass, Answers, allows, denies, was_charged, charges, holds, refuses, is_within, is_over, draws, was_counted, counts, is_clear, redacts}
+use Rattle.engine_core.specs.Answers.{Past, pass, Answers, allows, denies, was_charged, charges, holds, refuses, is_within, is_over, draws, was_counted, counts, is_clear, redacts}
 use Rattle.engine_core.specs.Chains.{Entry}
 use Rattle.engine_core.specs.declared.policy.Policy.{Policy}
 use Rattle.call_history.specs.Behind.{Behind, level, moment, noted, form}

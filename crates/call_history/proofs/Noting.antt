@@ -1,20 +1,20 @@
 -- A note of one call by one entry changes nothing that was noted of another call, or by another name; and calls are
 -- noted in order.
-use Rattle.std.proofs.Common.{◌≡◌, ◌≢◌, ℕ, ◌+◌, ◌-◌, ◌/◌, min, ◌<◌, ◌≤◌, ◌==◌, ◌&&◌, zero, suc, Bool, true, false, cond, inl, inr, List, [], ◌∷◌, ◌++◌, length, map, take, refl, sym, ap, ◌∙◌, subst, arith, add-one}
+use Rattle.std.proofs.Common.{◌≡◌, ◌≢◌, ℕ, ◌+◌, ◌<◌, ◌≤◌, ◌==◌, ◌&&◌, zero, suc, Bool, true, false, cond, inl, inr, List, [], ◌∷◌, ◌++◌, length, map, take, refl, sym, ap, ◌∙◌, subst, arith, add-one}
 use Rattle.std.specs.Prelude.{All, Contains, IsSomeAnd, Option, Some, None, slice_get}
 use Rattle.std.specs.Str.{bytes_eq}
 use Rattle.std.proofs.lemmas.Bool.{cases_order, and_right}
 use Rattle.std.proofs.lemmas.List.Elements.{All-cons, All-contains, All-push}
 use Rattle.mrpc_table.specs.Valid.{AreDistinct}
 use Rattle.mrpc_table.specs.declared.call.Call.{Call}
-use Rattle.engine_core.specs.Answers.{Past, nothing, charged, drawn, counted, Answer, pass, note, Answers, allows, denies, was_charged, charges, holds, refuses, is_within, is_over, draws, was_counted, counts, is_clear, redacts}
-use Rattle.engine_core.specs.Chains.{Entry, names_of, IsChain}
+use Rattle.engine_core.specs.Answers.{Past, nothing, Answer, pass, note, Answers, allows, denies, was_charged, charges, holds, refuses, is_within, is_over, draws, was_counted, counts, is_clear, redacts}
+use Rattle.engine_core.specs.Chains.{Entry, names_of}
 use Rattle.engine_core.specs.declared.outcome.Noted.{Noted}
 use Rattle.engine_core.specs.declared.outcome.Noted.TheVariants as notes
 use Rattle.engine_core.specs.declared.policy.Policy.{Policy}
-use Rattle.engine_core.specs.declared.policy.Policy.TheVariants.{Access, Rate, Quota, Count, Redact}
+use Rattle.engine_core.specs.declared.policy.Policy.TheVariants.{Rate, Quota, Count}
 use Rattle.call_history.specs.Behind.{Behind, chain, taken, standing, has_failed, form, level, moment, noted, noted_calls}
-use Rattle.call_history.specs.Events.{Course, HasTurn, NotesAscend}
+use Rattle.call_history.specs.Events.{Course, NotesAscend}
 use Rattle.engine_core.specs.Moves.{first_at, goes_on}
 use Rattle.call_history.specs.Rules.{Under, Lets, Gives, IsAt}
 use Rattle.call_history.specs.declared.happening.Happening.TheVariants.{Charged, Drawn, Counted}

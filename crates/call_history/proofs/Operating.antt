@@ -1,8 +1,8 @@
 -- A step of an operator moves calls by their positions alone.
-use Rattle.std.proofs.Common.{◌≡◌, ℕ, ◌+◌, ◌<◌, ◌≤◌, zero, suc, cond, List, [], ◌∷◌, ◌++◌, length, map, take, inl, inr, refl, sym, ap, ◌∙◌, subst, arith}
+use Rattle.std.proofs.Common.{ℕ, ◌≤◌, zero, suc, List, [], ◌∷◌, length, map, take, inl, inr, ◌∙◌, arith}
 use Rattle.std.specs.Prelude.{All, Contains}
 use Rattle.std.proofs.lemmas.List.Elements.{All-nil, All-cons, All-head, All-tail}
-use Rattle.engine_core.specs.Chains.{Changes, Entry}
+use Rattle.engine_core.specs.Chains.{Changes}
 use Rattle.engine_core.specs.declared.op.Op.{Op as Step}
 use Rattle.call_history.specs.Behind.{Behind, chain, taken}
 use Rattle.engine_core.specs.Chains.{changed}

@@ -1,21 +1,20 @@
 -- A call passes by an entry, once what is to be noted of it is noted.
-use Rattle.std.proofs.Common.{◌≡◌, ◌≢◌, ℕ, ◌+◌, ◌<◌, ◌≤◌, ◌==◌, Bool, true, false, cond, List, [], ◌∷◌, ◌++◌, length, map, take, refl, sym, ap, ◌∙◌, subst, arith, add-one}
-use Rattle.std.specs.Prelude.{All, Contains, find, Option, Some, None, option_map, slice_get}
+use Rattle.std.proofs.Common.{◌≡◌, ◌≢◌, ℕ, ◌+◌, ◌<◌, ◌==◌, cond, List, [], ◌∷◌, ◌++◌, length, map, take, refl, sym, ap, ◌∙◌, subst, arith, add-one}
+use Rattle.std.specs.Prelude.{All, find, Some, None, option_map, slice_get}
 use Rattle.std.proofs.lemmas.List.Elements.{All-push}
 use Rattle.mrpc_table.specs.declared.call.Call.{Call}
-use Rattle.engine_core.specs.Answers.{Past, nothing, charged, drawn, counted, Answer, pass, note, past_after, level_left, Answers, allows, denies, was_charged, charges, holds, refuses, is_within, is_over, draws, was_counted, counts, is_clear, redacts}
+use Rattle.engine_core.specs.Answers.{Past, nothing, drawn, pass, note, past_after, level_left, Answers, allows, denies, was_charged, charges, holds, refuses, is_within, is_over, draws, was_counted, counts, is_clear, redacts}
 use Rattle.engine_core.specs.Chains.{Entry, names_of}
 use Rattle.mrpc_table.specs.Valid.{AreDistinct}
 use Rattle.engine_core.specs.declared.outcome.Noted.{Noted}
 use Rattle.engine_core.specs.declared.outcome.Noted.TheVariants as notes
 use Rattle.engine_core.specs.declared.policy.Policy.{Policy}
-use Rattle.engine_core.specs.declared.policy.Policy.TheVariants.{Access, Rate, Quota, Count, Redact}
-use Rattle.call_history.specs.Behind.{Behind, chain, taken, standing, has_failed, form, level, moment, noted, policy_of}
+use Rattle.call_history.specs.Behind.{Behind, chain, taken, form, level, moment, noted, policy_of}
 use Rattle.engine_core.specs.Chains.{is_named}
-use Rattle.call_history.specs.Events.{Course, NotesAscend, note_behind}
+use Rattle.call_history.specs.Events.{Course, note_behind}
 use Rattle.engine_core.specs.Moves.{Row, first_at, goes_on}
 use Rattle.call_history.specs.Legal.{IsSettledUp, IsOver}
-use Rattle.call_history.specs.Rules.{Under, Lets, Gives, IsCalledFor, May, cap_of}
+use Rattle.call_history.specs.Rules.{Under, Lets, IsCalledFor, May, cap_of}
 use Rattle.call_history.specs.declared.happening.Happening.{Happening}
 use Rattle.call_history.specs.declared.happening.Happening.TheVariants.{Charged, Drawn, Counted}
 use Rattle.call_history.specs.declared.happening.Taken.{Taken}

@@ -1,5 +1,5 @@
 -- What holds of each list of happenings that came as the rules say.
-use Rattle.std.proofs.Common.{◌≡◌, ◌≢◌, ℕ, ◌+◌, ◌<◌, ◌≤◌, Bool, true, false, ◌||◌, ◌==◌, cond, not, List, [], ◌∷◌, ◌++◌, length, map, refl, sym, ap, ◌∙◌, subst, arith, length-append}
+use Rattle.std.proofs.Common.{◌≡◌, ℕ, ◌+◌, ◌<◌, ◌≤◌, Bool, true, false, ◌==◌, cond, List, [], ◌∷◌, ◌++◌, length, map, refl, subst, arith, length-append}
 use Rattle.std.specs.Prelude.{filter, All, Contains}
 use Rattle.std.specs.List.{list_any}
 use Rattle.std.proofs.lemmas.Bool.{ne_eqb, or_from}
@@ -7,15 +7,14 @@ use Rattle.std.proofs.lemmas.List.Elements.{All-nil, All-cons, All-contains, All
 use Rattle.engine_core.specs.Chains.{Chain, IsChain, Changes}
 use Rattle.std.specs.Str.{bytes_eq}
 use Rattle.engine_core.specs.declared.op.Op.{Op as Step}
-use Rattle.engine_core.specs.declared.op.Op.TheVariants.{Attach, Detach, Upgrade}
+use Rattle.engine_core.specs.declared.op.Op.TheVariants.{Attach}
 use Rattle.call_history.specs.Behind.{Behind, chain, taken, is_fate_of, stands, standing, noted_calls}
 use Rattle.engine_core.specs.Chains.{changed}
 use Rattle.call_history.specs.Legal.{IsPrefix}
 use Rattle.call_history.specs.Rules.{Under, May, IsRefusedAtOnce, RefusesMalformed, IsFirst, IsSentNext}
 use Rattle.call_history.specs.declared.happening.Cause.{Cause}
 use Rattle.call_history.specs.declared.happening.Cause.TheVariants as cause
-use Rattle.call_history.specs.declared.happening.Happening.{Happening}
-use Rattle.call_history.specs.declared.happening.Happening.TheVariants.{Took, Away, Op, Moment, Charged, Drawn, Counted, Redacted, Sent, Refused}
+use Rattle.call_history.specs.declared.happening.Happening.TheVariants.{Took, Op, Charged, Drawn, Counted, Sent, Refused}
 use Rattle.call_history.specs.declared.happening.Taken.{Taken}
 use Rattle.call_history.specs.declared.happening.TookCopy.{TookCopy}
 use Rattle.call_history.specs.declared.happening.TookCopy.TheVariants.{Copy, Malformed}

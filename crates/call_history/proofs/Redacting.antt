@@ -1,11 +1,11 @@
 -- Fields are cleared from a call, and it begins again, with all behind it.
-use Rattle.std.proofs.Common.{◌≡◌, ◌≢◌, ℕ, ◌+◌, ◌<◌, ◌≤◌, ◌==◌, Bool, true, false, cond, List, [], ◌∷◌, length, map, refl, sym, ap, ◌∙◌, subst, arith}
-use Rattle.std.specs.Prelude.{Contains, Option, Some, None, nat_lt, option_map}
+use Rattle.std.proofs.Common.{◌≡◌, ◌≢◌, ℕ, cond, List, ◌∷◌, length, refl, ap, ◌∙◌, arith}
+use Rattle.std.specs.Prelude.{Some, nat_lt, option_map}
 use Rattle.std.proofs.lemmas.Bool.{ne_eqb}
 use Rattle.mrpc_table.specs.declared.call.Call.{Call}
 use Rattle.engine_core.specs.Answers.{redact, Answers}
 use Rattle.engine_core.specs.Chains.{Entry}
-use Rattle.call_history.specs.Behind.{Behind, chain, taken, standing, form, level, moment, noted, policy_of, redacted}
+use Rattle.call_history.specs.Behind.{Behind, chain, taken, form, level, moment, noted, policy_of, redacted}
 use Rattle.call_history.specs.Events.{Course}
 use Rattle.engine_core.specs.Moves.{begin_again}
 use Rattle.call_history.specs.Rules.{Under}

@@ -1,9 +1,9 @@
 -- An entry refuses a call, perhaps behind the ticket that it drew for it.
-use Rattle.std.proofs.Common.{◌≡◌, ◌≢◌, ℕ, ◌+◌, ◌<◌, ◌≤◌, ◌==◌, ◌||◌, Bool, true, false, cond, not, inl, inr, List, [], ◌∷◌, ◌++◌, length, map, take, refl, sym, ap, ◌∙◌, subst, arith}
-use Rattle.std.specs.Prelude.{All, Contains, filter, Option, Some, None, slice_get}
+use Rattle.std.proofs.Common.{◌≡◌, ◌≢◌, ℕ, ◌||◌, true, false, cond, not, inl, inr, List, [], ◌∷◌, length, map, refl, sym, ap, ◌∙◌, subst, arith}
+use Rattle.std.specs.Prelude.{Contains, Some, slice_get}
 use Rattle.std.proofs.lemmas.Bool.{cases_eq, eq-eqb, ne_eqb}
 use Rattle.mrpc_table.specs.declared.call.Call.{Call}
-use Rattle.engine_core.specs.Answers.{Past, nothing, charged, drawn, counted, Answer, pass, deny, refuse, over, note, past_after, level_left, Answers, allows, denies, was_charged, charges, holds, refuses, is_within, is_over, draws, was_counted, counts, is_clear, redacts}
+use Rattle.engine_core.specs.Answers.{Past, nothing, charged, drawn, counted, pass, deny, refuse, over, note, past_after, level_left, Answers, allows, denies, was_charged, charges, holds, refuses, is_within, is_over, draws, was_counted, counts, is_clear, redacts}
 use Rattle.engine_core.specs.Chains.{Entry}
 use Rattle.engine_core.specs.Turns.{refusal}
 use Rattle.engine_core.specs.declared.outcome.Noted.{Noted}
@@ -11,27 +11,25 @@ use Rattle.engine_core.specs.declared.outcome.Noted.TheVariants as notes
 use Rattle.engine_core.specs.declared.outcome.Why.{Why}
 use Rattle.engine_core.specs.declared.outcome.Why.TheVariants.{Denied, Short, Over}
 use Rattle.engine_core.specs.declared.policy.Policy.{Policy}
-use Rattle.engine_core.specs.declared.policy.Policy.TheVariants.{Access, Rate, Quota, Count, Redact}
 use Rattle.call_history.specs.Behind.{Behind, chain, taken, standing, has_failed, is_transport_refusal, form, level, moment, noted, policy_of}
 use Rattle.call_history.specs.Events.{Course, NotesAscend, note_behind, rule_of, cause_of}
 use Rattle.engine_core.specs.Moves.{Row, first_at, without_call}
-use Rattle.call_history.specs.Legal.{IsSettledUp}
-use Rattle.call_history.specs.Rules.{Under, Lets, Gives, IsAt, Meets, IsDenied, IsAnswered, IsNoMalformedRefusal, RefusesAsAnswered, IsLinkRefusal, May, cap_of}
+use Rattle.call_history.specs.Rules.{Under, IsAt, IsDenied, IsAnswered, IsNoMalformedRefusal, IsLinkRefusal, May, cap_of}
 use Rattle.call_history.specs.declared.happening.Cause.{Cause}
 use Rattle.call_history.specs.declared.happening.Cause.TheVariants as cause
 use Rattle.call_history.specs.declared.happening.Happening.{Happening}
 use Rattle.call_history.specs.declared.happening.Happening.TheVariants.{Drawn, Refused}
 use Rattle.call_history.specs.declared.happening.Taken.{Taken}
 use Rattle.call_history.proofs.Further.{KeepsOthers}
-use Rattle.call_history.proofs.Going.{IsOpen, may, may-draw}
+use Rattle.call_history.proofs.Going.{may, may-draw}
 use Rattle.call_history.proofs.Holding.{Holds, stands-still, works-on}
 use Rattle.call_history.proofs.Looking.{lets-still}
 use Rattle.call_history.proofs.Noting.{IsTurn, before-apart, gives-by, IsNote, draw-note, noted-here, note-keeps, front-lets, note-ascends, Notes, notes-by}
 use Rattle.call_history.proofs.Passing.{called-for, policy-there, no-note}
 use Rattle.call_history.proofs.Prefixes.{StaysChain}
-use Rattle.call_history.proofs.Rowed.{StandsAt, IsRow, row-weaker}
+use Rattle.call_history.proofs.Rowed.{IsRow, row-weaker}
 use Rattle.call_history.proofs.Sending.{stood-before}
-use Rattle.call_history.proofs.Standing.{standing-refused, others_of, calls-without}
+use Rattle.call_history.proofs.Standing.{standing-refused, calls-without}
 
 -- ---- the others stay in the row
 

@@ -1,16 +1,12 @@
 -- The calls of a connection in a row, each with its position: numbers rise, positions never do, and every entry before a
 -- position lets its call pass.
-use Rattle.std.proofs.Common.{◌≡◌, ◌≢◌, ℕ, ◌+◌, ◌-◌, ◌<◌, ◌≤◌, zero, suc, min, Bool, true, false, ◌==◌, cond, not, List, [], ◌∷◌, ◌++◌, length, map, take, inl, inr, refl, sym, ap, ◌∙◌, subst, arith}
-use Rattle.std.specs.Prelude.{All, filter, find, slice_get, Some, None, nat_lt}
-use Rattle.std.specs.List.{AllZip}
-use Rattle.std.proofs.lemmas.Bool.{eq-eqb, ne_eqb, eqb-true, eqb-false, cases_eq, cases_lt, cases_Bool, lt-ltb, le-ltb}
+use Rattle.std.proofs.Common.{◌≡◌, ℕ, ◌<◌, ◌≤◌, true, false, ◌==◌, cond, not, [], ◌∷◌, ◌++◌, length, map, take, inl, inr, sym, subst, arith}
+use Rattle.std.specs.Prelude.{All, nat_lt}
+use Rattle.std.proofs.lemmas.Bool.{cases_lt, lt-ltb, le-ltb}
 use Rattle.std.proofs.lemmas.List.Elements.{All-nil}
-use Rattle.call_history.specs.Behind.{Behind, chain, standing}
-use Rattle.engine_core.specs.Moves.{Row, first_at, goes_on, begin_again, without_call}
-use Rattle.call_history.specs.Places.{NeverRise, MayStandAt, ArePlaces}
+use Rattle.call_history.specs.Behind.{Behind, chain}
+use Rattle.engine_core.specs.Moves.{Row, begin_again, without_call}
 use Rattle.call_history.specs.Rules.{Under, Lets}
-use Rattle.call_history.specs.declared.happening.Taken.{Taken}
-use Rattle.call_history.proofs.Prefixes.{Rising}
 
 -- the call of a number may stand at a position
 pub record StandsAt (u : Under) (past : Behind) (seq position : ℕ) : Type 0 where

@@ -1,36 +1,30 @@
 -- The definitions on small histories that were worked out by hand, each the happenings of one connection in order.
-use Rattle.std.proofs.Common.{◌≡◌, ℕ, ◌+◌, ◌<◌, ◌≤◌, ◌^◌, Bool, true, false, List, [], ◌∷◌, ◌++◌, codes, length, reverse, map, refl, arith}
-use Rattle.std.specs.Prelude.{Option, Some, None}
+use Rattle.std.proofs.Common.{◌≡◌, ℕ, Bool, true, false, List, [], ◌∷◌, codes, reverse, refl}
+use Rattle.std.specs.Prelude.{Option, Some}
 use Rattle.mrpc_table.specs.Node.{Node, no_fields, field, one, number}
-use Rattle.mrpc_table.specs.Normal.{IsNormal}
 use Rattle.mrpc_table.specs.declared.table.Kind.TheVariants.{Uint64}
 use Rattle.mrpc_table.specs.declared.table.Field.{Field}
 use Rattle.mrpc_table.specs.declared.table.Label.TheVariants.{Plain}
 use Rattle.mrpc_table.specs.declared.table.Table.{Table}
-use Rattle.wire_base.specs.Encoding.{varint, groups}
-use Rattle.graph_form.specs.declared.reason.Reason.TheVariants.{Address}
 use Rattle.policy_access.specs.Verdict.{AccessPolicy}
 use Rattle.mrpc_table.specs.declared.call.Call.{Call}
-use Rattle.policy_access.specs.declared.rule.About.TheVariants.{Every, Calls as OfCalls}
+use Rattle.policy_access.specs.declared.rule.About.TheVariants.{Calls as OfCalls}
 use Rattle.policy_access.specs.declared.rule.Comparison.TheVariants.{Equal}
 use Rattle.policy_access.specs.declared.rule.Condition.TheVariants.{Compares}
 use Rattle.policy_access.specs.declared.rule.Operand.TheVariants.{Number}
 use Rattle.policy_access.specs.declared.rule.Rule.{Rule}
-use Rattle.policy_rate.specs.declared.rate.Rate.{Rate as RatePolicy}
 use Rattle.mrpc_table.specs.declared.call.Sort.TheVariants.{Request}
 use Rattle.policy_redact.specs.declared.redact.Clear.{Clear}
 use Rattle.engine_core.specs.Answers.{nothing, charged, drawn, counted}
-use Rattle.engine_core.specs.Chains.{Chain, Entry, new_entry}
+use Rattle.engine_core.specs.Chains.{new_entry}
 use Rattle.engine_core.specs.declared.op.Op.TheVariants.{Attach, Detach, Upgrade}
 use Rattle.engine_core.specs.declared.policy.Policy.{Policy}
 use Rattle.engine_core.specs.declared.policy.Policy.TheVariants.{Access, Rate, Quota, Count, Redact}
 use Rattle.call_history.specs.Behind.{Behind, chain, moment, level, noted, noted_calls, standing, has_failed, form, with_tree}
 use Rattle.call_history.specs.declared.happening.Cause.TheVariants as cause
-use Rattle.call_history.specs.declared.happening.Happening.{Happening}
-use Rattle.call_history.specs.declared.happening.Happening.TheVariants.{Took, Away, Op, Moment, Charged, Drawn, Counted, Redacted, Sent, Refused}
+use Rattle.call_history.specs.declared.happening.Happening.TheVariants.{Took, Op, Moment, Charged, Drawn, Counted, Redacted, Sent, Refused}
 use Rattle.call_history.specs.declared.happening.Taken.{Taken}
-use Rattle.call_history.specs.declared.happening.TookCopy.{TookCopy}
-use Rattle.call_history.specs.declared.happening.TookCopy.TheVariants.{Copy, Malformed}
+use Rattle.call_history.specs.declared.happening.TookCopy.TheVariants.{Copy}
 
 -- messages of these fields, and a method that takes one
 abbrev pub table_of : List Field → Table

@@ -1,6 +1,6 @@
 -- The first call that stands is sent.
-use Rattle.std.proofs.Common.{◌≡◌, ℕ, ◌<◌, ◌==◌, not, cond, Bool, false, true, List, [], ◌∷◌, length, map, take, refl, sym, ap, ◌∙◌, subst, arith}
-use Rattle.std.specs.Prelude.{All, Contains, filter, Some, None}
+use Rattle.std.proofs.Common.{◌≡◌, ℕ, ◌==◌, not, cond, Bool, false, true, List, [], ◌∷◌, length, map, take, refl, sym, ap, ◌∙◌, subst, arith}
+use Rattle.std.specs.Prelude.{All, Contains, Some}
 use Rattle.std.proofs.lemmas.Bool.{eqb-false}
 use Rattle.engine_core.specs.Chains.{Entry}
 use Rattle.call_history.specs.Behind.{Behind, chain, taken, standing}

@@ -1,5 +1,5 @@
 -- A moment changes nothing of calls, nor does one that isn't accepted.
-use Rattle.std.proofs.Common.{◌≡◌, ℕ, ◌<◌, Bool, true, false, List, [], ◌∷◌, length, refl, sym, ap, ◌∙◌, arith}
+use Rattle.std.proofs.Common.{◌≡◌, ℕ, ◌<◌, true, ◌∷◌, length, refl, ap, arith}
 use Rattle.call_history.specs.Behind.{Behind, chain, moment, taken, standing, has_failed}
 use Rattle.call_history.specs.Events.{Course}
 use Rattle.call_history.specs.Rules.{Under}

@@ -1,12 +1,10 @@
 -- Small courses of events that were worked out by hand: what each adds, where its calls stand, and that its history is
 -- legal.
-use Rattle.std.proofs.Common.{◌≡◌, ◌≢◌, ℕ, ◌+◌, ◌<◌, ◌≤◌, ◌^◌, true, false, ◌⊎◌, inl, inr, List, [], ◌∷◌, ◌++◌, codes, length, reverse, refl, arith}
+use Rattle.std.proofs.Common.{◌≡◌, ℕ, ◌+◌, ◌<◌, ◌≤◌, ◌^◌, true, false, List, [], ◌∷◌, ◌++◌, codes, length, refl, arith}
 use Rattle.std.specs.Prelude.{Contains, Some}
 use Rattle.mrpc_table.specs.Normal.{IsNormal}
-use Rattle.mrpc_table.specs.Node.{Node, no_fields, field, one, number}
 use Rattle.mrpc_table.specs.declared.table.Kind.TheVariants.{Uint64}
 use Rattle.mrpc_table.specs.declared.table.Label.TheVariants.{Plain}
-use Rattle.mrpc_table.specs.declared.table.Table.{Table}
 use Rattle.wire_base.specs.Encoding.{varint, groups}
 use Rattle.mrpc_table.specs.declared.call.Call.{Call}
 use Rattle.engine_core.specs.Answers.{nothing, charged}
@@ -14,25 +12,23 @@ use Rattle.engine_core.specs.Answers as answers
 use Rattle.engine_core.specs.Chains.{Chain, Changes, Entry, names_of, new_entry, Refusal, IsAgainst, detaches_none, upgrades_none, is_taken, is_past, is_full, is_other}
 use Rattle.engine_core.specs.Chains as chains
 use Rattle.engine_core.specs.Turns as turns
-use Rattle.engine_core.specs.declared.op.Op.TheVariants.{Attach, Detach, Upgrade}
+use Rattle.engine_core.specs.declared.op.Op.TheVariants.{Attach}
 use Rattle.engine_core.specs.declared.outcome.Noted.TheVariants as notes
 use Rattle.engine_core.specs.declared.outcome.Outcome.TheVariants as outcomes
 use Rattle.engine_core.specs.declared.outcome.Why.TheVariants.{Denied}
 use Rattle.engine_core.specs.declared.policy.Policy.{Policy}
-use Rattle.engine_core.specs.declared.policy.Policy.TheVariants.{Access, Rate, Quota, Count, Redact}
+use Rattle.engine_core.specs.declared.policy.Policy.TheVariants.{Access}
 use Rattle.call_history.specs.Behind.{Behind, chain, form, standing, taken}
 use Rattle.engine_core.specs.Chains.{changed}
-use Rattle.call_history.specs.Events.{Course, Event, IsReady, accepts, operates, shows, turns as has_turn_of, sends, fails, Comes, takes, changes, has_turn, is_sent, link_failed, Lead, beginning, IsCourse}
+use Rattle.call_history.specs.Events.{Course, Event, IsReady, accepts, operates, turns as has_turn_of, sends, fails, takes, changes, has_turn, is_sent, link_failed, Lead, beginning}
 use Rattle.engine_core.specs.Moves.{first_at}
 use Rattle.call_history.specs.Legal.{IsLegalBehind}
 use Rattle.call_history.specs.Rules.{Under, MayTake, header, payload}
 use Rattle.call_history.specs.declared.happening.Cause.TheVariants as cause
-use Rattle.call_history.specs.declared.happening.Happening.TheVariants.{Took, Op, Charged, Redacted, Sent, Refused}
-use Rattle.call_history.specs.declared.happening.Taken.{Taken}
-use Rattle.call_history.proofs.Further.{contains-cases}
+use Rattle.call_history.specs.declared.happening.Happening.TheVariants.{Refused}
 use Rattle.call_history.proofs.Keeping.{course-begins, events-keep}
 use Rattle.call_history.proofs.Prefixes.{StaysChain}
-use Rattle.call_history.proofs.Rows.{table, with_number, request, acl, rl, no150, opening, but_150, holding, seven, call_150, denied, failing}
+use Rattle.call_history.proofs.Rows.{table, with_number, acl, but_150, seven, call_150, denied, failing}
 
 abbrev pub under : Under
 under = record { conn = 1; table = table; limit = 1024 }

@@ -1,11 +1,11 @@
 -- An upgrade leaves the entries before it, and what was noted.
-use Rattle.std.proofs.Common.{◌≡◌, ℕ, ◌+◌, ◌<◌, ◌≤◌, zero, suc, min, Bool, true, false, cond, if◌then◌else◌, List, [], ◌∷◌, length, map, take, refl, sym, ap, ◌∙◌, subst, arith}
+use Rattle.std.proofs.Common.{◌≡◌, ℕ, ◌+◌, ◌≤◌, zero, suc, min, Bool, true, false, cond, if◌then◌else◌, List, [], ◌∷◌, length, map, take, refl, sym, ap, subst, arith}
 use Rattle.std.specs.Prelude.{All}
 use Rattle.std.proofs.lemmas.List.Elements.{All-weaker}
 use Rattle.engine_core.specs.Chains.{Changes, Entry, upgraded}
 use Rattle.engine_core.specs.declared.op.Op.TheVariants.{Upgrade}
 use Rattle.engine_core.specs.declared.policy.Policy.{Policy}
-use Rattle.call_history.specs.Behind.{Behind, chain}
+use Rattle.call_history.specs.Behind.{chain}
 use Rattle.engine_core.specs.Chains.{changed, is_named}
 use Rattle.call_history.specs.Events.{Course}
 use Rattle.engine_core.specs.Moves.{back_to, place_of}
@@ -13,7 +13,7 @@ use Rattle.call_history.specs.Rules.{Under, Lets}
 use Rattle.call_history.specs.declared.happening.Happening.TheVariants.{Op}
 use Rattle.call_history.proofs.Holding.{Holds}
 use Rattle.call_history.proofs.Looking.{lets-still}
-use Rattle.call_history.proofs.Operating.{Moves, moved-holds, all-fewer}
+use Rattle.call_history.proofs.Operating.{moved-holds, all-fewer}
 use Rattle.call_history.proofs.Rowed.{StandsAt}
 
 -- the entries after an upgrade

@@ -1,24 +1,19 @@
 -- Small histories that aren't legal, worked out by hand.
-use Rattle.std.proofs.Common.{◌≡◌, ℕ, ◌<◌, Bool, true, false, List, [], ◌∷◌, refl, sym, ap, ◌∙◌, subst, arith}
-use Rattle.std.specs.Prelude.{All}
+use Rattle.std.proofs.Common.{◌≡◌, ℕ, ◌<◌, true, false, [], ◌∷◌, refl, sym, ap, ◌∙◌, arith}
 use Rattle.std.proofs.lemmas.List.Elements.{All-head}
 use Rattle.graph_form.specs.declared.reason.Reason.TheVariants.{Address}
 use Rattle.policy_access.specs.Verdict.{AccessPolicy, verdict}
-use Rattle.mrpc_table.specs.declared.call.Call.{Call}
-use Rattle.engine_core.specs.Answers.{Past, nothing, charged, drawn, counted, Answer, pass, note, Answers, allows, denies, was_charged, charges, holds, refuses, is_within, is_over, draws, was_counted, counts, is_clear, redacts}
-use Rattle.engine_core.specs.Chains.{Entry, new_entry}
-use Rattle.engine_core.specs.declared.outcome.Noted.TheVariants as notes
+use Rattle.engine_core.specs.Answers.{Past, nothing, pass, Answers, allows, denies, was_charged, charges, holds, refuses, is_within, is_over, draws, was_counted, counts, is_clear, redacts}
+use Rattle.engine_core.specs.Chains.{new_entry}
 use Rattle.engine_core.specs.declared.policy.Policy.{Policy}
 use Rattle.engine_core.specs.declared.policy.Policy.TheVariants.{Access}
-use Rattle.call_history.specs.Behind.{Behind}
 use Rattle.call_history.specs.Legal.{IsLegalBehind}
-use Rattle.call_history.specs.Rules.{Under, Lets, May}
+use Rattle.call_history.specs.Rules.{Lets}
 use Rattle.call_history.specs.declared.happening.Cause.TheVariants as cause
-use Rattle.call_history.specs.declared.happening.Happening.{Happening}
-use Rattle.call_history.specs.declared.happening.Happening.TheVariants.{Took, Moment, Charged, Drawn, Sent, Refused}
+use Rattle.call_history.specs.declared.happening.Happening.TheVariants.{Took, Moment, Charged, Sent, Refused}
 use Rattle.call_history.specs.declared.happening.Taken.{Taken}
 use Rattle.call_history.specs.declared.happening.TookCopy.TheVariants.{Malformed}
-use Rattle.call_history.proofs.Rows.{acl, q, rl, but_150, call_150, denied_before, drawn_over, failing, upgraded_before}
+use Rattle.call_history.proofs.Rows.{acl, q, rl, but_150, denied_before, drawn_over, failing, upgraded_before}
 use Rattle.call_history.proofs.Traces.{under, form_of}
 
 -- ---- the denied call is sent

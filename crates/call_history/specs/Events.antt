@@ -1,5 +1,5 @@
 -- What one step of a connection adds to its history, and how it moves its calls along the chain (this project's own).
-use Rattle.std.specs.Prelude.{◌≡◌, ℕ, ◌+◌, ◌-◌, ◌<◌, ◌≤◌, ◌==◌, nat_lt, min, not, Bool, true, false, List, [], ◌∷◌, ◌++◌, filter, find, All, Contains, length, map, if◌then◌else◌, Option, Some, None, slice_get}
+use Rattle.std.specs.Prelude.{◌≡◌, ℕ, ◌+◌, ◌-◌, ◌<◌, ◌≤◌, not, Bool, true, false, List, [], ◌∷◌, ◌++◌, All, Contains, length, map, Some, slice_get}
 use Rattle.policy_access.specs.Verdict.{rule_name}
 use Rattle.mrpc_table.specs.declared.call.Call.{Call}
 use Rattle.engine_core.specs.Answers.{nothing}
@@ -7,7 +7,6 @@ use Rattle.engine_core.specs.Chains.{Changes, Entry, changed}
 use Rattle.engine_core.specs.Moves.{Row, first_at, goes_on, begin_again, without_call, moved_by}
 use Rattle.engine_core.specs.Turns.{ComesOut}
 use Rattle.engine_core.specs.declared.op.Op.{Op as Step}
-use Rattle.engine_core.specs.declared.op.Op.TheVariants.{Attach, Detach, Upgrade}
 use Rattle.engine_core.specs.declared.outcome.Noted.{Noted}
 use Rattle.engine_core.specs.declared.outcome.Noted.TheVariants as notes
 use Rattle.engine_core.specs.declared.outcome.Outcome.{Outcome}
@@ -22,13 +21,10 @@ use Rattle.call_history.specs.Places.{ArePlaces}
 use Rattle.call_history.specs.Rules.{Under, MayTake, header, payload}
 use Rattle.call_history.specs.declared.happening.Cause.{Cause}
 use Rattle.call_history.specs.declared.happening.Cause.TheVariants as cause
-use Rattle.call_history.specs.declared.happening.Happening.{Happening}
 use Rattle.call_history.specs.declared.happening.Happening.TheVariants.{Took, Away, Op, Moment, Charged, Drawn, Counted, Redacted, Sent, Refused}
 use Rattle.call_history.specs.declared.happening.Taken.{Taken}
 use Rattle.call_history.specs.declared.limits.TheConstants.{MAX_STANDING}
 use Rattle.call_history.specs.declared.happening.TookCopy.TheVariants.{Copy, Malformed}
-use Rattle.mrpc_table.specs.Node.{Node}
-use Rattle.graph_form.specs.declared.reason.Reason.{Reason}
 
 -- a connection between two steps: what is behind, where its calls stand, and whether its link has failed
 pub record Course : Type 0 where

@@ -1,5 +1,5 @@
 -- Where calls stand on a chain (this project's own).
-use Rattle.std.specs.Prelude.{◌≡◌, ℕ, ◌<◌, ◌≤◌, List, [], ◌∷◌, ◌++◌, length, map, take, All, Option, Some, None, slice_get}
+use Rattle.std.specs.Prelude.{◌≡◌, ℕ, ◌<◌, ◌≤◌, List, length, take, All, Some, slice_get}
 use Rattle.std.specs.List.{AllZip}
 use Rattle.engine_core.specs.Answers.{hold}
 use Rattle.engine_core.specs.Chains.{Entry}

@@ -1,19 +1,15 @@
 -- Which happening may come next on a connection, rule by rule. Each rule looks at what is behind alone, the latest
 -- first (this project's own).
-use Rattle.std.specs.Prelude.{◌≡◌, ◌≢◌, ℕ, ◌+◌, ◌<◌, ◌≤◌, Bool, true, false, List, [], ◌∷◌, ◌++◌, length, map, All, Contains, Option, Some, None, IsSomeAnd, if◌then◌else◌, unwrap_or, option_map}
-use Rattle.std.specs.Str.{bytes_eq}
+use Rattle.std.specs.Prelude.{◌≡◌, ℕ, ◌+◌, ◌<◌, ◌≤◌, true, List, [], ◌∷◌, ◌++◌, length, map, All, Contains, Option, Some, None, IsSomeAnd}
 use Rattle.mrpc_table.specs.Calls.{message_at}
-use Rattle.mrpc_table.specs.Node.{Node}
 use Rattle.mrpc_table.specs.Normal.{IsNormal}
 use Rattle.mrpc_table.specs.declared.table.Table.{Table}
 use Rattle.wire_base.specs.Encoding.{encoding}
-use Rattle.graph_form.specs.declared.reason.Reason.{Reason}
 use Rattle.graph_form.specs.declared.reason.Reason.TheVariants.{NoMethod}
 use Rattle.policy_access.specs.Verdict.{AccessPolicy, rule_name}
 use Rattle.mrpc_table.specs.declared.call.Call.{Call}
 use Rattle.engine_core.specs.Answers.{Answer, Answers, pass, deny, refuse, over, note, redact}
-use Rattle.engine_core.specs.Chains.{Chain, Changes, Entry}
-use Rattle.engine_core.specs.declared.op.Op.{Op as Step}
+use Rattle.engine_core.specs.Chains.{Changes, Entry}
 use Rattle.engine_core.specs.declared.outcome.Noted.{Noted}
 use Rattle.engine_core.specs.declared.outcome.Noted.TheVariants as notes
 use Rattle.engine_core.specs.declared.policy.Policy.TheVariants.{Access, Quota}
