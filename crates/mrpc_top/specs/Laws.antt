@@ -12,7 +12,7 @@ use Rattle.wire_decode.specs.Faults.{IsFirstFault}
 use Rattle.wire_decode.specs.declared.fault.DecodeReason.{DecodeReason}
 use Rattle.file_bundle.specs.Bundle.{File as PackedFile}
 use Rattle.file_bundle.specs.Laws.{SpellsOnce, NeverSpellsAndBreaks, SpellsOrBreaks, BreaksOnce}
-use Rattle.schema_files.specs.Resolving.{FilesResolve, IsFirstFault}
+use Rattle.schema_files.specs.Resolving.{FilesResolve, IsFirstFault as IsFilesFault}
 use Rattle.schema_files.specs.declared.fault.FilesFault.{FilesFault}
 use Rattle.frame_transport.specs.Frames.{SplitsOnce, AlwaysEnds, EndsOnce, IsFrame, bytes_of, joined, StandFrom, IsPartial, IsFaultAt, Splits}
 use Rattle.frame_transport.specs.declared.format.Frame.{Frame}
@@ -96,12 +96,12 @@ pub record FileLaw : Type 0 where
 pub record SetLaw : Type 0 where
   pub either : SpellsOrBreaks
   pub never_neither : (files : List PackedFile) → 0 < length files → ((T : Table) → FilesResolve files T → ⊥)
-      → ((e : FilesFault) → IsFirstFault files e → ⊥) → ⊥
+      → ((e : FilesFault) → IsFilesFault files e → ⊥) → ⊥
   pub one_set : SpellsOnce
   pub one_fault : BreaksOnce
   pub set_or_fault : NeverSpellsAndBreaks
   pub one_table : (files : List PackedFile) (T U : Table) → FilesResolve files T → FilesResolve files U → T ≡ U
-  pub one_files_fault : (files : List PackedFile) (e f : FilesFault) → IsFirstFault files e → IsFirstFault files f
+  pub one_files_fault : (files : List PackedFile) (e f : FilesFault) → IsFilesFault files e → IsFilesFault files f
       → e ≡ f
   pub table_or_files_fault : (files : List PackedFile) (T : Table) (e : FilesFault) → FilesResolve files T
-      → IsFirstFault files e → ⊥
+      → IsFilesFault files e → ⊥
