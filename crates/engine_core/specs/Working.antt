@@ -1,5 +1,5 @@
 -- What a turn of an engine makes of the engine, of the call with its marks, and of the tickets.
-use Rattle.std.specs.Prelude.{◌≡◌, ◌≢◌, ℕ, ◌<◌, ◌≤◌, true, false, if◌then◌else◌, List, length, Option, None}
+use Rattle.std.specs.Prelude.{◌≡◌, ◌≢◌, ℕ, ◌<◌, ◌≤◌, true, false, if◌then◌else◌, All, List, length, Option, None, Some, set, slice_get}
 use Rattle.mrpc_base.specs.declared.tickets.TheConstants.{WINDOWS}
 use Rattle.mrpc_table.specs.Calls.{IsCallOf}
 use Rattle.mrpc_table.specs.Weight.{weight}
@@ -90,3 +90,28 @@ pub record LeavesTickets {Q : Type 0} (Knows : Q → ℕ → Type 0) (drawn_of :
   pub known : (p : Policy) → KnowsTenantOf (Knows before) p → KnowsTenantOf (Knows after) p
   pub undrawn : is_draw noted ≡ false → after ≡ before
   pub since : (first : Q) → Since first before → Since first after
+
+-- of the marks of a call those of these engines are left
+pub record KeepsMarksOf (engines : List EngineParts) (before after : StandingCall) : Type 0 where
+  pub call : after.call ≡ before.call
+  pub kept : All (λ e. note_of after.marks e.entry.attach ≡ note_of before.marks e.entry.attach) engines
+  pub gone : (attach : ℕ) → All (λ e. e.entry.attach ≢ attach) engines → note_of after.marks attach ≡ None
+
+-- the engine at a position works on the call at a place of a row, of whose marks those of the chain's engines are left
+pub record Works (engines : List EngineParts) (calls : List StandingCall) (position place moment : ℕ)
+    (outcome : Outcome) (engines' : List EngineParts) (calls' : List StandingCall) : Type 0 where
+  pub engine : EngineParts
+  pub engine' : EngineParts
+  pub is_engine : slice_get engines position ≡ Some engine
+  pub others : engines' ≡ set engines position engine'
+  pub call : StandingCall
+  pub call' : StandingCall
+  pub is_call : slice_get calls place ≡ Some call
+  pub other_calls : calls' ≡ set calls place call'
+  -- the call as the engine meets it
+  pub met : StandingCall
+  pub keeps : KeepsMarksOf engines call met
+  pub turn : IsTurn engine moment met outcome
+  pub leaves_engine : LeavesEngine outcome engine engine'
+  pub leaves_call : LeavesCall engine.entry.policy outcome call.call call'.call
+  pub leaves_marks : LeavesMarks engine.entry outcome met call'

@@ -10,6 +10,7 @@
 //! entry say.
 #![tactic(auto)]
 
+mod call_row;
 mod engine;
 mod laws;
 mod mark;
@@ -19,6 +20,7 @@ mod policy;
 mod standing;
 mod work;
 
+pub use call_row::{CallRow, MAX_CALLS};
 pub use engine::{Engine, State};
 pub use laws::{
     allows_at_any_time, bounded_charges_of_engines, change_is_changed, denied_by_a_rule,

@@ -1,0 +1,131 @@
+//! The calls that stand on a chain, in one row.
+
+ghost use Rattle.std.specs.Prelude.{◌≡◌, ◌<◌, ◌≤◌, ◌++◌, ◌∷◌, ◌↔◌, [], ℕ, List, Some, IfOk, IsTrue, length, remove, slice_get};
+ghost use Rattle.mrpc_table.specs.Calls.{IsCallOf};
+
+use crate::engine::Engine;
+use crate::outcome::Outcome;
+use crate::standing::Standing;
+use mrpc_base::Tickets;
+use mrpc_table::{Memory, Table};
+use std::alloc::Global;
+use std::collections::VecDeque;
+use std::marker::Model;
+
+/// How many calls stand on a chain at most.
+pub const MAX_CALLS: usize = 64;
+
+/// The calls that stand on a chain, the first in front: a ring, so that the first leaves without a shift.
+/// Contracts see it as the list of the calls.
+#[derive(Drop)]
+pub struct CallRow {
+    calls: VecDeque<Standing>,
+}
+
+impl Model for CallRow {
+    ghost use Rattle.std.specs.Prelude.{◌≤◌, List, length};
+    ghost use Rattle.std.specs.VecDeque.{deque_capacity};
+    ghost use Rattle.engine_core.specs.Marks.{StandingCall};
+
+    ghost Value = { List StandingCall };
+
+    ghost use Rattle.std.specs.Coded.{codes};
+    ghost use Rattle.mrpc_table.specs.contracts.call.Call as c;
+
+    ghost coded = { Prim.hlevel (codes, c.the_row.coded) };
+
+    ghost view = { λ r. r.calls.items };
+
+    ghost invariant = { λ r. (length r.calls.items ≤ 64) × (64 ≤ deque_capacity r.calls) };
+}
+
+impl CallRow {
+    ghost use Rattle.engine_core.specs.Policies.{KnowsTenantOf};
+    ghost use Rattle.engine_core.specs.Turns.{noted_in};
+    ghost use Rattle.engine_core.specs.Working.{LeavesTickets, Works};
+    ghost use Rattle.engine_core.specs.Engines.{EngineParts};
+    ghost use Rattle.engine_core.specs.Marks.{StandingCall};
+
+    /// A row without a call. It takes the room for all calls, so no later call of a row takes memory.
+    pub fn open(alloc: Global) -> Result<CallRow, Memory>
+        ensures { IfOk result (λ row. row ≡ []) }
+    {
+        Ok(CallRow {
+            calls: VecDeque::with_capacity(alloc, MAX_CALLS)?,
+        })
+    }
+
+    /// How many calls stand.
+    pub fn len(&self) -> usize
+        ensures count { result ≡ length self.now }
+        ensures few { result ≤ 64 }
+    {
+        self.calls.len()
+    }
+
+    /// Whether no call stands.
+    pub fn is_empty(&self) -> bool
+        ensures { IsTrue result ↔ (self.now ≡ []) }
+    {
+        self.calls.is_empty()
+    }
+
+    /// The call at a place, from 0.
+    pub fn at(&self, place: usize) -> &Standing
+        requires { place < length self.now }
+        ensures { slice_get self.now place ≡ Some result.now }
+    {
+        &self.calls[place]
+    }
+
+    /// Puts a call behind the others, of which there are fewer than 64.
+    pub fn push(&mut self, call: Standing)
+        requires { length self.old < 64 }
+        ensures { self.new ≡ self.old ++ call ∷ [] }
+    {
+        self.calls.push_back_reserved(call);
+    }
+
+    /// Takes the call at a place from the row. That of the first moves no other.
+    pub fn take(&mut self, place: usize) -> Standing
+        requires { place < length self.old }
+        ensures call { slice_get self.old place ≡ Some result }
+        ensures rest { self.new ≡ remove self.old place }
+    {
+        self.calls.remove(place).unwrap()
+    }
+
+    /// Drops all calls.
+    pub fn clear(&mut self)
+        ensures { self.new ≡ [] }
+    {
+        self.calls.truncate(0);
+    }
+
+    /// The engine at a place works on the call at a place, from which the marks of all but these engines are taken
+    /// away first. It takes no memory.
+    pub fn work<Q: Tickets>(
+        &mut self,
+        place: usize,
+        engines: &mut [Engine],
+        at: usize,
+        table: &Table,
+        now: u64,
+        tickets: &mut Q,
+    ) -> Outcome
+        requires place { place < length self.old }
+        requires engine { at < length engines.old }
+        requires few { length engines.old ≤ 8 }
+        requires call { (s : StandingCall) → slice_get self.old place ≡ Some s → IsCallOf table.now s.call }
+        requires known { (e : EngineParts) → slice_get engines.old at ≡ Some e
+            → KnowsTenantOf (Q.knows tickets.old) e.entry.policy }
+        ensures works { Works engines.old self.old at place now result engines.new self.new }
+        ensures tickets { (e : EngineParts) → slice_get engines.old at ≡ Some e
+            → LeavesTickets Q.knows Q.drawn Q.since e.entry.policy (noted_in result) tickets.old tickets.new }
+    {
+        let call = &mut self.calls[place];
+        call.keep_marks_of(engines);
+        let engine = &mut engines[at];
+        engine.work(call, table, now, tickets)
+    }
+}
