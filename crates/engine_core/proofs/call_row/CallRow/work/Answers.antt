@@ -42,7 +42,7 @@ returns-clause-works g c =
       turn = c.work.ensures.comes_out;
       leaves_engine = c.work.ensures.engine;
       leaves_call = subst (λ (call : Call). LeavesCall (slice_index_or c.args.engines.now c.args.at c.index-engines-at.result).entry.policy c.work.result call c.work.new.call.call)
-        c.keep_marks_of.ensures.call c.work.ensures.call;
+          c.keep_marks_of.ensures.call c.work.ensures.call;
       leaves_marks = c.work.ensures.marks;
     }
 
