@@ -20,7 +20,7 @@ use Rattle.call_history.specs.declared.happening.Happening.TheVariants.{Took, Re
 use Rattle.call_history.specs.declared.happening.Taken.{Taken}
 use Rattle.call_history.specs.declared.happening.TookCopy.{TookCopy}
 use Rattle.call_history.specs.declared.happening.TookCopy.TheVariants.{Copy, Malformed}
-use Rattle.call_history.specs.declared.limits.TheConstants.{MAX_STANDING}
+use Rattle.engine_core.specs.declared.call_row.TheConstants.{MAX_CALLS}
 use Rattle.call_history.proofs.Accepting.{form-other, standing-malformed}
 use Rattle.call_history.proofs.Further.{contains-cases}
 use Rattle.call_history.proofs.GoingOn.{form-own, form-cleared}
@@ -127,7 +127,7 @@ stands-formed normal u past call prefix settled has =
 fewer : (seq : ℕ) (calls : List Taken) → length (others_of seq calls) ≤ length calls
 fewer seq calls = omega (arith, length-filter (λ (call : Taken). not (seq == call.seq)) calls, count_by-le-length (λ (call : Taken). not (seq == call.seq)) calls)
 
-pub stands-few : (u : Under) (past : Behind) → IsPrefix u past → length (standing past) ≤ MAX_STANDING
+pub stands-few : (u : Under) (past : Behind) → IsPrefix u past → length (standing past) ≤ MAX_CALLS
 stands-few u [] prefix = omega arith
 stands-few u (Took call ∷ past) prefix =
     let more : length (standing (Took call ∷ past)) ≡ length (standing past ++ call ∷ []) = ap (length {A = Taken}) (standing-took u past call prefix.0 prefix.1.numbered.number) in

@@ -4,7 +4,7 @@ use Rattle.call_history.specs.Behind.{Behind, chain, moment, taken, standing, ha
 use Rattle.call_history.specs.Events.{Course}
 use Rattle.call_history.specs.Rules.{Under}
 use Rattle.call_history.specs.declared.happening.Happening.TheVariants.{Away, Moment}
-use Rattle.call_history.specs.declared.limits.TheConstants.{MAX_STANDING}
+use Rattle.engine_core.specs.declared.call_row.TheConstants.{MAX_CALLS}
 use Rattle.std.proofs.lemmas.Bool.{false_from_ne_true}
 use Rattle.call_history.specs.declared.happening.Taken.{Taken}
 use Rattle.call_history.proofs.Going.{IsOpen, may, ended, may-show}
@@ -24,7 +24,7 @@ shown u c ms h rises = record {
   none_left = h.none_left;
 }
 
-pub away : (u : Under) (c : Course) (method number addr : ℕ) → Holds u c → length (standing c.past) ≡ MAX_STANDING → Holds u (record c { past = Away method number addr ∷ c.past })
+pub away : (u : Under) (c : Course) (method number addr : ℕ) → Holds u c → length (standing c.past) ≡ MAX_CALLS → Holds u (record c { past = Away method number addr ∷ c.past })
 away u c method number addr h full =
     let new : Behind = Away method number addr ∷ c.past in
     record {

@@ -5,7 +5,8 @@ use Rattle.engine_core.specs.declared.op.Op.TheVariants.{Attach}
 use Rattle.call_history.specs.Behind.{Behind}
 use Rattle.call_history.specs.declared.happening.Happening.TheVariants.{Op, Redacted}
 
--- the versions in which the entry of a name has cleared fields from a call since its latest attachment, the latest first
+-- the versions in which the entry of a name has cleared fields from a call since its latest attachment, the latest
+-- first
 abbrev pub cleared_in : List ℕ → ℕ → Behind → List ℕ
 cleared_in name seq [] = []
 cleared_in name seq (Op (Attach at other label policy) ∷ past) =

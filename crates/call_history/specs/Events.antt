@@ -23,7 +23,7 @@ use Rattle.call_history.specs.declared.happening.Cause.{Cause}
 use Rattle.call_history.specs.declared.happening.Cause.TheVariants as cause
 use Rattle.call_history.specs.declared.happening.Happening.TheVariants.{Took, Away, Op, Moment, Charged, Drawn, Counted, Redacted, Sent, Refused}
 use Rattle.call_history.specs.declared.happening.Taken.{Taken}
-use Rattle.call_history.specs.declared.limits.TheConstants.{MAX_STANDING}
+use Rattle.engine_core.specs.declared.call_row.TheConstants.{MAX_CALLS}
 use Rattle.call_history.specs.declared.happening.TookCopy.TheVariants.{Copy, Malformed}
 
 -- a connection between two steps: what is behind, where its calls stand, and whether its link has failed
@@ -114,7 +114,7 @@ pub record IsReady (u : Under) (c : Course) (seq bytes : ℕ) : Type 0 where
 pub data Comes (u : Under) (old : Course) (event : Event) (new : Course) : Type 0 where
   takes : (call : Taken) → event ≡ accepts call → old.ended ≡ false → MayTake u old.past call
       → new ≡ accepted call old → Comes u old event new
-  is_away : (method number addr : ℕ) → event ≡ turns_away method number addr → length (standing old.past) ≡ MAX_STANDING
+  is_away : (method number addr : ℕ) → event ≡ turns_away method number addr → length (standing old.past) ≡ MAX_CALLS
       → new ≡ record old { past = Away method number addr ∷ old.past } → Comes u old event new
   changes : (step : Step) → event ≡ operates step → Changes (chain old.past) step (changed step (chain old.past))
       → new ≡ record old { past = Op step ∷ old.past; row = moved_by step (chain old.past).entries old.row }

@@ -23,7 +23,7 @@ use Rattle.call_history.specs.declared.happening.Happening.TheVariants.{Took, Aw
 use Rattle.call_history.specs.declared.happening.Taken.{Taken}
 use Rattle.call_history.specs.declared.happening.TookCopy.{TookCopy}
 use Rattle.call_history.specs.declared.happening.TookCopy.TheVariants.{Copy, Malformed}
-use Rattle.call_history.specs.declared.limits.TheConstants.{MAX_STANDING}
+use Rattle.engine_core.specs.declared.call_row.TheConstants.{MAX_CALLS}
 
 -- Under which a connection's happenings are judged: its number, the table, and the limit of loads.
 pub record Under : Type 0 where
@@ -43,14 +43,14 @@ IsTakenBy T call (Malformed reason place value) =
 -- a call may be accepted: it has the next number, few enough stand, and no more was loaded than the limit
 pub record MayTake (u : Under) (past : Behind) (call : Taken) : Type 0 where
   pub number : call.seq ≡ length (taken past) + 1
-  pub few : length (standing past) < MAX_STANDING
+  pub few : length (standing past) < MAX_CALLS
   pub loads : call.count ≤ u.limit
   pub copy : IsTakenBy u.table call call.copy
 
 -- (a) calls are numbered, and one is sent away exactly where as many stand as may
 abbrev pub IsNumbered : Under → Behind → Happening → Type 0
 IsNumbered u past (Took call) = MayTake u past call
-IsNumbered u past (Away method number addr) = length (standing past) ≡ MAX_STANDING
+IsNumbered u past (Away method number addr) = length (standing past) ≡ MAX_CALLS
 IsNumbered u past _ = Unit {0}
 
 -- ---- malformed calls

@@ -21,7 +21,7 @@ ghost use Rattle.call_history.specs.declared.happening.Happened.{Happened};
 ghost use Rattle.call_history.specs.declared.happening.Happening.{Happening};
 ghost use Rattle.call_history.specs.declared.happening.Happening.TheVariants.{Took, Op, Moment, Charged, Drawn, Counted, Redacted, Sent, Refused};
 ghost use Rattle.call_history.specs.declared.happening.Taken.{Taken};
-ghost use Rattle.call_history.specs.declared.limits.TheConstants.{MAX_STANDING};
+ghost use Rattle.engine_core.specs.declared.call_row.TheConstants.{MAX_CALLS};
 
 use engine_core::stays_chain;
 use policy_redact::{any_order, clear_again, stays_normal};
@@ -147,11 +147,11 @@ pub fn sent_in_order()
         → behind conn h ≡ later ++ Sent n b ∷ between ++ Sent m a ∷ earlier → m < n }
 {}
 
-/// In a legal history at most `MAX_STANDING` calls stand on a connection, and each has a copy, and a form of its method
+/// In a legal history at most `MAX_CALLS` calls stand on a connection, and each has a copy, and a form of its method
 /// and sort with a normal tree.
 pub fn standing_calls_have_forms()
     ensures few { (T : Table) (limit conn : ℕ) (h : History) → IsLegal T limit h
-        → length (standing (behind conn h)) ≤ MAX_STANDING }
+        → length (standing (behind conn h)) ≤ MAX_CALLS }
     ensures copies { (u : Under) (past : Behind) (call : Taken) → IsLegalBehind u past → Contains (standing past) call
         → HasNoCopy call.copy → ⊥ }
     ensures forms { (u : Under) (past : Behind) (call : Taken) → IsLegalBehind u past → Contains (standing past) call
@@ -160,8 +160,8 @@ pub fn standing_calls_have_forms()
     stays_normal();
 }
 
-/// In a legal history no call is charged, drawn for or counted twice for one attachment: what is noted of it comes where
-/// nothing was noted since.
+/// In a legal history no call is charged, drawn for or counted twice for one attachment: what is noted of it comes
+/// where nothing was noted since.
 pub fn noted_once()
     ensures charged { (T : Table) (limit conn seq left : ℕ) (name : List ℕ) (h : History) (later earlier : Behind)
         → IsLegal T limit h → behind conn h ≡ later ++ Charged seq name left ∷ earlier
@@ -188,8 +188,9 @@ pub fn redacted_once()
     any_order();
 }
 
-/// What holds of a connection between two steps holds at its beginning, and each event keeps it. So behind every list of
-/// events the history is legal, the calls in the row are those that stand, in order, and their positions are places.
+/// What holds of a connection between two steps holds at its beginning, and each event keeps it. So behind every
+/// list of events the history is legal, the calls in the row are those that stand, in order, and their positions
+/// are places.
 pub fn events_keep()
     ensures beginning { (u : Under) → IsCourse u beginning }
     ensures event { (u : Under) (old new : Course) (event : Event) → IsCourse u old → Comes u old event new

@@ -3,10 +3,10 @@
 //!
 //! A [`Happening`] is one thing that happened on a connection; a history is a list of them. `specs/Behind.antt` reads
 //! from a list what it has made of a connection: its chain, its moment, the level of each bucket, what was noted of a
-//! call, the form of a call, and which calls stand. `specs/Rules.antt` says which happening may come next, rule by rule,
-//! and `specs/Legal.antt` which histories are legal. `specs/Clears.antt` says which versions of a policy have cleared
-//! fields from a call. `specs/Places.antt` says where calls may stand, and
-//! `specs/Events.antt` what one step of a connection adds.
+//! call, the form of a call, and which calls stand. `specs/Rules.antt` says which happening may come next, rule by
+//! rule, and `specs/Legal.antt` which histories are legal. `specs/Clears.antt` says which versions of a policy have
+//! cleared fields from a call, `specs/Places.antt` where calls may stand, and `specs/Events.antt` what one step of a
+//! connection adds.
 //!
 //! It stands on the engines, for what an entry of a chain answers to a call and how a step changes a chain, and on
 //! graphs, for why one is malformed. The layers above use one contract: these definitions, and the laws on them.
@@ -14,7 +14,6 @@
 
 mod happening;
 mod laws;
-mod limits;
 
 pub use happening::{Cause, Happened, Happening, Taken, TookCopy};
 pub use laws::{
@@ -22,4 +21,3 @@ pub use laws::{
     noted_once, notes_go_on, one_fate, redacted_once, sent_in_order, standing_calls_have_forms,
     standing_goes_on,
 };
-pub use limits::MAX_STANDING;

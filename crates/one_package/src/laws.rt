@@ -25,8 +25,8 @@ pub fn one_package_is_one_file()
         → Resolves G T → ResolvesTogether F T }
 {}
 
-/// The same of the files that the first file of a set reaches by imports: the set, where its paths are right, resolves to
-/// the table of the one file.
+/// The same of the files that the first file of a set reaches by imports: the set, where its paths are right,
+/// resolves to the table of the one file.
 pub fn one_package_set_is_one_file()
     ensures one_file { (files : List PackedFile) (ps : List Part) (G : File) (T : Table) → AreJoined files ps
         → IsOnePackage (joined ps) G → FilesResolve files T → Resolves G T }
