@@ -24,6 +24,7 @@ pub struct CallRow {
 
 impl Model for CallRow {
     ghost use Rattle.std.specs.Prelude.{◌≤◌, List, length};
+    ghost use Rattle.engine_core.specs.declared.call_row.TheConstants.{MAX_CALLS};
     ghost use Rattle.std.specs.VecDeque.{deque_capacity};
     ghost use Rattle.engine_core.specs.Marks.{StandingCall};
 
@@ -36,10 +37,11 @@ impl Model for CallRow {
 
     ghost view = { λ r. r.calls.items };
 
-    ghost invariant = { λ r. (length r.calls.items ≤ 64) × (64 ≤ deque_capacity r.calls) };
+    ghost invariant = { λ r. (length r.calls.items ≤ MAX_CALLS) × (MAX_CALLS ≤ deque_capacity r.calls) };
 }
 
 impl CallRow {
+    ghost use Rattle.engine_core.specs.declared.call_row.TheConstants.{MAX_CALLS};
     ghost use Rattle.engine_core.specs.Policies.{KnowsTenantOf};
     ghost use Rattle.engine_core.specs.Turns.{noted_in};
     ghost use Rattle.engine_core.specs.Working.{LeavesTickets, Works};
@@ -58,7 +60,7 @@ impl CallRow {
     /// How many calls stand.
     pub fn len(&self) -> usize
         ensures count { result ≡ length self.now }
-        ensures few { result ≤ 64 }
+        ensures few { result ≤ MAX_CALLS }
     {
         self.calls.len()
     }
@@ -78,9 +80,9 @@ impl CallRow {
         &self.calls[place]
     }
 
-    /// Puts a call behind the others, of which there are fewer than 64.
+    /// Puts a call behind the others, of which there are fewer than `MAX_CALLS`.
     pub fn push(&mut self, call: Standing)
-        requires { length self.old < 64 }
+        requires { length self.old < MAX_CALLS }
         ensures { self.new ≡ self.old ++ call ∷ [] }
     {
         self.calls.push_back_reserved(call);

@@ -18,7 +18,8 @@ pub record AccessPolicy : Type 0 where
 -- the call is of the method and the sort, and its tree meets the test, if there is one
 abbrev pub is_among : Calls → Call → Bool
 is_among calls call =
-    ((call.method == calls.method) && is_of_sort calls.sort call.number) && option_map_or (meets call.tree) calls.test true
+    ((call.method == calls.method) && is_of_sort calls.sort call.number)
+    && option_map_or (meets call.tree) calls.test true
 
 -- the rule is about the call
 abbrev pub is_about : About → Call → Bool

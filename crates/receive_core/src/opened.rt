@@ -8,9 +8,9 @@ ghost use Rattle.receive_core.specs.Fates.{judged_number};
 ghost use Rattle.receive_core.specs.Opening.{IsReading, IsRefusal};
 
 use crate::arrival::DropCause;
-use frame_transport::{Frame, HELLO, REPLY};
+use frame_transport::{Frame, HELLO};
 use graph_place::place_words;
-use mrpc_table::{Call, Memory, Table};
+use mrpc_table::{Call, Memory, Sort, Table};
 use policy_access::Access;
 use std::alloc::Global;
 use wire_decode::{DecodeFault, decode};
@@ -33,10 +33,9 @@ pub(crate) enum Reading {
 fn judged_number(frame: &Frame) -> u32
     ensures { result ≡ judged_number frame.now }
 {
-    if frame.kind == REPLY {
-        frame.number.max(1)
-    } else {
-        0
+    match frame.sort() {
+        Some(Sort::Reply) => frame.number.max(1),
+        Some(Sort::Request) | None => 0,
     }
 }
 

@@ -268,6 +268,7 @@ impl Reader {
         draft
     }
 
+    /// Begins an enum.
     pub fn add_enum(&mut self, alloc: Global, name: Name) -> Result<(), Memory>
         ensures draft { OnOk result (self.new.draft ≡ added_enum self.old.draft name) }
         ensures kept { (t : Types) → IsKept t self.old → OnOk result (IsKept t self.new) }
@@ -283,6 +284,7 @@ impl Reader {
         Ok(())
     }
 
+    /// Begins a message.
     pub fn add_message(&mut self, alloc: Global, name: Name) -> Result<(), Memory>
         ensures draft { OnOk result (self.new.draft ≡ added_message self.old.draft name) }
         ensures kept { (t : Types) → IsKept t self.old → OnOk result (IsKept t self.new) }
@@ -299,6 +301,7 @@ impl Reader {
         Ok(())
     }
 
+    /// Adds a value to the enum that is open.
     pub fn add_value(&mut self, alloc: Global, number: Whole, name: Name) -> Result<(), Memory>
         ensures draft { OnOk result (self.new.draft ≡ added_value self.old.draft number name) }
         ensures kept { (t : Types) → IsKept t self.old → OnOk result (IsKept t self.new) }
@@ -313,6 +316,7 @@ impl Reader {
         self.draft.open_part.add_value(number, name)
     }
 
+    /// Adds a method.
     pub fn add_method(&mut self, alloc: Global, method: MethodLine) -> Result<(), Memory>
         ensures draft { (t : Types) → IsKept t self.old
             → OnOk result (self.new.draft ≡ added_method t self.old.draft method) }
@@ -387,6 +391,7 @@ impl Reader {
         }
     }
 
+    /// Adds a field to the message that is open.
     pub fn add_field(&mut self, alloc: Global, line: FieldLine) -> Result<(), Memory>
         ensures draft { (t : Types) → IsKept t self.old
             → OnOk result (self.new.draft ≡ added_field t self.old.draft line) }

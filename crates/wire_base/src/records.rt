@@ -63,12 +63,15 @@ pub fn read_record(bytes: &[u8], at: usize) -> Result<Record, WireFault>
     })
 }
 
-/// The tag at a place, and the place behind it.
+/// The tag at a place, and the place behind it. The refusals are the first four of `read_record`.
 pub fn read_tag(bytes: &[u8], at: usize) -> Result<(u32, usize), WireFault>
     requires { at ≤ length bytes.now }
     ensures found { IfOk result (λ t. TagAt bytes.now at t.0 t.1) }
     ensures known { IfOk result (λ t. IsWireType (t.0 % 8)) }
     ensures fault { IfErr result (λ f. FaultAt bytes.now at f) }
+
+    // Each tag is found, whatever stands behind it.
+    ensures each { (tag start : ℕ) → TagAt bytes.now at tag start → IsWireType (tag % 8) → result ≡ Ok (tag, start) }
 {
     let (tag, start) = read_varint(bytes, at)?;
     if tag >= 1 << 32 {

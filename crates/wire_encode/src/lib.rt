@@ -8,7 +8,7 @@
 //! written is the encoding of the tree.
 #![tactic(auto)]
 
-ghost use Rattle.std.specs.Prelude.{◌≡◌, ◌<◌, length, IfOk, OnOk};
+ghost use Rattle.std.specs.Prelude.{◌≡◌, ◌<◌, [], length, IfOk, OnOk, OnErr};
 ghost use Rattle.mrpc_table.specs.Valid.{IsValid};
 ghost use Rattle.mrpc_table.specs.Normal.{IsNormal};
 ghost use Rattle.wire_base.specs.Encoding.{encoding, fields_bytes};
@@ -40,12 +40,13 @@ pub fn encode(alloc: Global, tree: &Tree, table: &Table, msg: u32) -> Result<Byt
 }
 
 /// The same, written in place of what `out` has. Its room is used again, so that a caller with many trees takes memory
-/// for it once.
+/// only where one is longer than those before. Without memory nothing stands in it.
 pub fn encode_into(out: &mut Output, tree: &Tree, table: &Table, msg: u32) -> Result<(), Memory>
     requires valid { IsValid table.now }
     requires known { msg < length table.now.messages }
     requires normal { IsNormal table.now msg tree.now }
-    ensures { OnOk result (out.new ≡ encoding table.now msg tree.now) }
+    ensures written { OnOk result (out.new ≡ encoding table.now msg tree.now) }
+    ensures memory { OnErr result (out.new ≡ []) }
 {
     encoded_into(out, tree, table, table.fields(msg))
 }
@@ -81,8 +82,13 @@ fn encoded_into(
 ) -> Result<(), Memory>
     requires all { AllAscend table.now }
     requires ascend { FieldsAscend fields.now }
-    ensures { OnOk result (out.new ≡ fields_bytes table.now fields.now tree.now) }
+    ensures written { OnOk result (out.new ≡ fields_bytes table.now fields.now tree.now) }
+    ensures memory { OnErr result (out.new ≡ []) }
 {
     out.clear();
-    write_message(out, tree, table, fields)
+    let written = write_message(out, tree, table, fields);
+    if written.is_err() {
+        out.clear();
+    }
+    written
 }
