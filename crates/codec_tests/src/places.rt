@@ -67,6 +67,28 @@ fn each_kind_of_slot_is_placed(rt: HostRuntime) {
     )
 }
 
+#[test]
+fn each_field_has_its_slot(rt: HostRuntime) {
+    let scene = Scene::open(&rt, rt.alloc(), SLOTS);
+    // The oneofs stand behind the seven fields with slots of their own, three words each.
+    let slots = [
+        (1u32, 0u64),
+        (2, 2),
+        (3, 14),
+        (4, 4),
+        (5, 6),
+        (6, 8),
+        (7, 14),
+        (8, 17),
+        (9, 10),
+        (10, 12),
+    ];
+    for (field, slot) in slots {
+        assert!(rt; scene.slot_of(field) == Some(slot));
+    }
+    assert!(rt; scene.slot_of(11) == None);
+}
+
 // A message whose field 1 is this number.
 fn with_number(rt: &impl Abort, alloc: Global, number: u64) -> Tree {
     let mut fields = Vec::new(alloc);

@@ -7,7 +7,7 @@ ghost use Rattle.graph_form.specs.Stored.{AreWordsOf};
 
 use call_ledger::{Happening, audit_line};
 use graph_copy::{CopyResult, copy, forget};
-use graph_form::{Placed, Reason, size_words};
+use graph_form::{Placed, Reason, size_words, slot_of};
 use graph_place::{place, place_words};
 use mrpc_base::{PlainWords, Room, Stores};
 use mrpc_table::{Bytes, MAX_LOADS, Memory, Table, Tree, fits};
@@ -77,6 +77,14 @@ impl Scene {
         assert!(rt; !table.messages.is_empty());
         let heap = PlainWords::open(alloc, 256).expect(rt, "a heap");
         Scene { table, heap }
+    }
+
+    /// Where the slot of a field begins in a node of the first message, if the message has the field.
+    pub fn slot_of(&self, field: u32) -> Option<u64> {
+        match self.table.field(0, field) {
+            Some(_) => Some(slot_of(&self.table, 0, field)),
+            None => None,
+        }
     }
 
     /// How many words a message takes without its content.

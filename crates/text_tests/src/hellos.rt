@@ -60,6 +60,35 @@ field 1 plain bool a
 method 0 S Get M M
 ";
 
+const MAPPED: &[u8] = b"message M
+field 2 map:uint64 message:N n
+message N
+field 1 plain uint64 a
+method 0 S Get M M
+";
+
+const OTHER_MAPPED: &[u8] = b"message M
+field 2 map:uint64 message:N n
+message N
+field 1 plain bool a
+method 0 S Get M M
+";
+
+const BEHIND: &[u8] = b"message A
+field 1 plain uint64 a
+message M
+field 2 plain message:A n
+method 0 S Get M M
+";
+
+// Label and name of the field that leads to A are others, and so is a field of A.
+const OTHER_BEHIND: &[u8] = b"message A
+field 1 plain bool a
+message M
+field 2 repeated message:A m
+method 0 S Get M M
+";
+
 // The frame of a hello of connection 7.
 fn hello_on(rt: &impl Abort, alloc: Global, service: &[u8], text: &[u8]) -> Bytes {
     let table = table(rt, alloc, text);
@@ -192,6 +221,15 @@ fn under_version_2_the_first_difference_is_named(rt: HostRuntime) {
     assert!(rt; matches!(oneof, Answer::Field(2)));
     let inner = agreement(&rt, rt.alloc(), INNER_AT_3, OTHER_INNER_AT_3, b"S", 2);
     assert!(rt; matches!(inner, Answer::Field(1)));
+}
+
+#[test]
+fn under_version_2_types_are_reached_through_each_number_that_both_know(rt: HostRuntime) {
+    let value = agreement(&rt, rt.alloc(), MAPPED, OTHER_MAPPED, b"S", 2);
+    assert!(rt; matches!(value, Answer::Field(1)));
+    // The field of A counts before that of M, which leads to it and differs too.
+    let behind = agreement(&rt, rt.alloc(), BEHIND, OTHER_BEHIND, b"S", 2);
+    assert!(rt; matches!(behind, Answer::Field(1)));
 }
 
 #[test]
