@@ -30,22 +30,22 @@ use Rattle.call_history.proofs.Traces.{form_of, none-in, attached}
 use Rattle.policy_redact.specs.declared.redact.Clear.{Clear}
 use Rattle.call_history.proofs.Rows.{acl, cut, two_fields, but_5, clear_2, seven_nine, cleared}
 
-abbrev under_two : Under
+abbrev pub under_two : Under
 under_two = record { conn = 1; table = two_fields; limit = 1024 }
 
 abbrev whole : Node
 whole = field 1 (one (number 7)) (field 2 (one (number 9)) no_fields)
 
-abbrev form_whole : Call
+abbrev pub form_whole : Call
 form_whole = record { conn = 1; seq = 1; method = 0; number = 0; tree = whole }
 
-abbrev acl_entry : AccessPolicy → Entry
+abbrev pub acl_entry : AccessPolicy → Entry
 acl_entry policy = new_entry acl 1 (Access policy)
 
-abbrev clears : List Clear
+abbrev pub clears : List Clear
 clears = clear_2 ∷ []
 
-abbrev cut_entry : Entry
+abbrev pub cut_entry : Entry
 cut_entry = new_entry cut 2 (Redact clears)
 
 normal-whole : IsNormal two_fields 0 whole
@@ -71,7 +71,7 @@ clear_events =
 abbrev clear_end : Course
 clear_end = record { past = Sent 1 18 ∷ cleared but_5; row = []; ended = false }
 
-ready-cleared : (c : Course) → first_at (length (chain c.past).entries) c.row ≡ Some (1, length (chain c.past).entries) → form 1 1 c.past ≡ Some (form_of 1 7) → IsReady under_two c 1 18
+pub ready-cleared : (c : Course) → first_at (length (chain c.past).entries) c.row ≡ Some (1, length (chain c.past).entries) → form 1 1 c.past ≡ Some (form_of 1 7) → IsReady under_two c 1 18
 unfolding varint groups
 ready-cleared c first is = record { first = first; sent = form_of 1 7; is_form = is; long = refl }
 

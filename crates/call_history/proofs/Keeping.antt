@@ -65,7 +65,7 @@ step-holds u c (Upgrade name label policy) chains h may = upgraded_holds u c nam
 
 -- ---- an event
 
-event-holds : (u : Under) (old new : Course) (event : Event) → StaysChain → Holds u old → Comes u old event new → Holds u new
+pub event-holds : (u : Under) (old new : Course) (event : Event) → StaysChain → Holds u old → Comes u old event new → Holds u new
 event-holds u old new event chains h (takes call is running may new_is) = subst (Holds u) (sym new_is) (taken_in u old call h running may)
 event-holds u old new event chains h (is_away method number addr is full new_is) = subst (Holds u) (sym new_is) (away u old method number addr h full)
 event-holds u old new event chains h (changes step is may new_is) = subst (Holds u) (sym new_is) (step-holds u old step chains h may)

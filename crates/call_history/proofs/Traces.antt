@@ -23,7 +23,8 @@ use Rattle.engine_core.specs.Chains.{changed}
 use Rattle.call_history.specs.Events.{Course, Event, IsReady, accepts, operates, turns as has_turn_of, sends, fails, takes, changes, has_turn, is_sent, link_failed, Lead, beginning}
 use Rattle.engine_core.specs.Moves.{first_at}
 use Rattle.call_history.specs.Legal.{IsLegalBehind}
-use Rattle.call_history.specs.Rules.{Under, MayTake, header, payload}
+use Rattle.frame_transport.specs.declared.format.TheConstants.{HEADER_LEN}
+use Rattle.call_history.specs.Rules.{Under, MayTake, payload}
 use Rattle.call_history.specs.declared.happening.Cause.TheVariants as cause
 use Rattle.call_history.specs.declared.happening.Happening.TheVariants.{Refused}
 use Rattle.call_history.proofs.Keeping.{course-begins, events-keep}
@@ -115,10 +116,10 @@ pub taken_7 : (past : Behind) (seq : ℕ) → length (standing past) < 64 → se
 taken_7 past seq few next = record { number = next; few = few; loads = omega arith; copy = (omega arith, normal_number 7 (omega arith) (omega arith)) }
 
 pub ready : (c : Course) (seq v : ℕ) → first_at (length (chain c.past).entries) c.row ≡ Some (seq, length (chain c.past).entries) → form 1 seq c.past ≡ Some (form_of seq v)
-    → 18 ≡ header + length (payload table (form_of seq v)) → IsReady under c seq 18
+    → 18 ≡ HEADER_LEN + length (payload table (form_of seq v)) → IsReady under c seq 18
 ready c seq v first is long = record { first = first; sent = form_of seq v; is_form = is; long = long }
 
-pub long-7 : (seq : ℕ) → 18 ≡ header + length (payload table (form_of seq 7))
+pub long-7 : (seq : ℕ) → 18 ≡ HEADER_LEN + length (payload table (form_of seq 7))
 unfolding varint groups
 long-7 seq = refl
 

@@ -1,5 +1,6 @@
 -- What one step of a connection adds to its history, and how it moves its calls along the chain (this project's own).
-use Rattle.std.specs.Prelude.{◌≡◌, ℕ, ◌+◌, ◌-◌, ◌<◌, ◌≤◌, not, Bool, true, false, List, [], ◌∷◌, ◌++◌, All, Contains, length, map, Some, slice_get}
+use Rattle.std.specs.Prelude.{◌≡◌, ℕ, ◌+◌, ◌<◌, ◌≤◌, Bool, true, false, List, [], ◌∷◌, ◌++◌, All, Contains, length, map, Some, slice_get}
+use Rattle.frame_transport.specs.declared.format.TheConstants.{HEADER_LEN}
 use Rattle.policy_access.specs.Verdict.{rule_name}
 use Rattle.mrpc_table.specs.declared.call.Call.{Call}
 use Rattle.engine_core.specs.Answers.{nothing}
@@ -18,7 +19,7 @@ use Rattle.engine_core.specs.declared.policy.Policy.TheVariants.{Access}
 use Rattle.call_history.specs.Behind.{Behind, chain, moment, level, noted, noted_calls, standing, has_failed, form}
 use Rattle.call_history.specs.Legal.{IsLegalBehind}
 use Rattle.call_history.specs.Places.{ArePlaces}
-use Rattle.call_history.specs.Rules.{Under, MayTake, header, payload}
+use Rattle.call_history.specs.Rules.{Under, MayTake, payload}
 use Rattle.call_history.specs.declared.happening.Cause.{Cause}
 use Rattle.call_history.specs.declared.happening.Cause.TheVariants as cause
 use Rattle.call_history.specs.declared.happening.Happening.TheVariants.{Took, Away, Op, Moment, Charged, Drawn, Counted, Redacted, Sent, Refused}
@@ -108,7 +109,7 @@ pub record IsReady (u : Under) (c : Course) (seq bytes : ℕ) : Type 0 where
   pub first : first_at (length (chain c.past).entries) c.row ≡ Some (seq, length (chain c.past).entries)
   pub sent : Call
   pub is_form : form u.conn seq c.past ≡ Some sent
-  pub long : bytes ≡ header + length (payload u.table sent)
+  pub long : bytes ≡ HEADER_LEN + length (payload u.table sent)
 
 -- an event leads from one course to the next
 pub data Comes (u : Under) (old : Course) (event : Event) (new : Course) : Type 0 where

@@ -1,6 +1,11 @@
 pub mod Behind
 pub mod Clears
+pub mod Draining
 pub mod Events
+pub mod Frames
 pub mod Legal
+pub mod Loads
 pub mod Places
+pub mod Records
 pub mod Rules
+pub mod Tickets

@@ -5,6 +5,7 @@ use Rattle.mrpc_table.specs.Calls.{message_at}
 use Rattle.mrpc_table.specs.Normal.{IsNormal}
 use Rattle.mrpc_table.specs.declared.table.Table.{Table}
 use Rattle.wire_base.specs.Encoding.{encoding}
+use Rattle.frame_transport.specs.declared.format.TheConstants.{HEADER_LEN}
 use Rattle.graph_form.specs.declared.reason.Reason.TheVariants.{NoMethod}
 use Rattle.policy_access.specs.Verdict.{AccessPolicy, rule_name}
 use Rattle.mrpc_table.specs.declared.call.Call.{Call}
@@ -138,10 +139,6 @@ RefusesDrawn _ next = Unit {0}
 
 -- ---- sendings
 
--- the bytes of a frame's header
-abbrev pub header : ℕ
-header = 16
-
 -- the encoding of the form of a call
 abbrev pub payload : Table → Call → List ℕ
 payload T call = encoding T (message_at T call.method call.number) call.tree
@@ -155,7 +152,7 @@ pub record IsSentNext (u : Under) (past : Behind) (seq bytes : ℕ) : Type 0 whe
   pub let_pass : All (Lets u past seq) (chain past).entries
   pub sent : Call
   pub is_form : form u.conn seq past ≡ Some sent
-  pub long : bytes ≡ header + length (payload u.table sent)
+  pub long : bytes ≡ HEADER_LEN + length (payload u.table sent)
 
 abbrev pub SendsInOrder : Under → Behind → Happening → Type 0
 SendsInOrder u past (Sent seq bytes) = IsSentNext u past seq bytes

@@ -1,20 +1,29 @@
 //! Laws of histories. These functions do nothing; their clauses hold.
 
-ghost use Rattle.std.specs.Prelude.{◌≡◌, ◌≢◌, ◌<◌, ◌≤◌, ◌+◌, ◌-◌, ◌==◌, ℕ, true, not, List, [], ◌∷◌, ◌++◌, All, Contains, count_by, filter, length, option_map};
+ghost use Rattle.std.specs.Prelude.{◌≡◌, ◌≢◌, ◌<◌, ◌≤◌, ◌+◌, ◌-◌, ◌==◌, ℕ, true, not, List, [], ◌∷◌, ◌++◌, All, Contains, count_by, filter, length, map, option_map};
 ghost use Rattle.std.specs.List.{list_any};
 ghost use Rattle.mrpc_table.specs.declared.table.Table.{Table};
-ghost use Rattle.engine_core.specs.Answers.{nothing, charged, drawn, counted};
-ghost use Rattle.engine_core.specs.Chains.{Chain, Changes, IsChain};
+ghost use Rattle.mrpc_table.specs.Calls.{IsCallOf};
+ghost use Rattle.mrpc_table.specs.Valid.{IsValid};
+ghost use Rattle.mrpc_table.specs.declared.call.Call.{Call};
+ghost use Rattle.policy_redact.specs.Redacting.{cleared_call};
+ghost use Rattle.policy_redact.specs.declared.redact.Clear.{Clear};
+ghost use Rattle.engine_core.specs.Answers.{nothing, charged, drawn, counted, note, ticket_in};
+ghost use Rattle.engine_core.specs.Chains.{Chain, Changes, Entry, IsChain};
 ghost use Rattle.engine_core.specs.Policies.{first_level};
+ghost use Rattle.engine_core.specs.Turns.{noted_in};
+ghost use Rattle.engine_core.specs.declared.outcome.Outcome.{Outcome};
 ghost use Rattle.engine_core.specs.declared.op.Op.{Op as Step};
 ghost use Rattle.engine_core.specs.declared.op.Op.TheVariants.{Attach, Upgrade};
 ghost use Rattle.engine_core.specs.declared.policy.Policy.{Policy};
 ghost use Rattle.call_history.specs.Behind.{Behind, chain, converted, copied, filled, form, is_fate_of, level, moment, noted, policy_of, redacted, standing, taken};
 ghost use Rattle.engine_core.specs.Chains.{changed};
 ghost use Rattle.call_history.specs.Clears.{cleared_in};
-ghost use Rattle.call_history.specs.Events.{Course, Event, Comes, Lead, IsCourse, beginning, refused_for_link};
+ghost use Rattle.call_history.specs.Draining.{BeginsToDrain, Drains, FailsToDrain};
+ghost use Rattle.call_history.specs.Events.{Course, Event, Comes, HasTurn, Lead, IsCourse, beginning, refused_for_link};
 ghost use Rattle.call_history.specs.Legal.{HasForm, HasNoCopy, History, IsLegal, IsLegalBehind, IsPrefix, behind};
-ghost use Rattle.call_history.specs.Rules.{Under, May};
+ghost use Rattle.call_history.specs.Places.{IsSettled};
+ghost use Rattle.call_history.specs.Rules.{Under, May, payload};
 ghost use Rattle.call_history.specs.declared.happening.Cause.{Cause};
 ghost use Rattle.call_history.specs.declared.happening.Cause.TheVariants as cause;
 ghost use Rattle.call_history.specs.declared.happening.Happened.{Happened};
@@ -23,7 +32,7 @@ ghost use Rattle.call_history.specs.declared.happening.Happening.TheVariants.{To
 ghost use Rattle.call_history.specs.declared.happening.Taken.{Taken};
 ghost use Rattle.engine_core.specs.declared.call_row.TheConstants.{MAX_CALLS};
 
-use engine_core::stays_chain;
+use engine_core::{one_outcome, stays_chain};
 use policy_redact::{any_order, clear_again, stays_normal};
 
 /// What is behind on a connection once a history goes on.
@@ -200,3 +209,33 @@ pub fn events_keep()
 {
     stays_chain();
 }
+
+/// An event leads from a course to one other: what it adds follows from it. How a turn comes out follows from the
+/// course, up to the ticket that it draws.
+pub fn an_event_has_one_end()
+    ensures end { (u : Under) (old new other : Course) (event : Event) → Comes u old event new
+        → Comes u old event other → new ≡ other }
+    ensures turn { (u : Under) (c : Course) (position s t : ℕ) (a b : Outcome) (d e : Entry)
+        → HasTurn u c position s a d → HasTurn u c position t b e → (s ≡ t) × (d ≡ e)
+        × (ticket_in (note (noted_in a)) ≡ ticket_in (note (noted_in b)) → a ≡ b) }
+{
+    one_outcome();
+}
+
+/// A drain leads a connection on, as its turns and sendings do. Behind a whole drain it is settled: no call is ready,
+/// and the first call at each position is held there.
+pub fn drains_settle()
+    ensures begins { (u : Under) (old new : Course) → IsCourse u old → BeginsToDrain u old new → IsCourse u new }
+    ensures whole { (u : Under) (old new : Course) → IsCourse u old → Drains u old new → IsCourse u new }
+    ensures fails { (u : Under) (old new : Course) → IsCourse u old → FailsToDrain u old new → IsCourse u new }
+    ensures settled { (u : Under) (old new : Course) → IsCourse u old → Drains u old new
+        → IsSettled u new.past (map (λ call. call.1) new.row) }
+{
+    stays_chain();
+}
+
+/// What is left of a call of the table has no longer encoding than the call had.
+pub fn clears_shorten()
+    ensures { (T : Table) (clears : List Clear) (call : Call) → IsValid T → IsCallOf T call
+        → length (payload T (cleared_call clears call)) ≤ length (payload T call) }
+{}

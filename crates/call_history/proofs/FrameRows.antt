@@ -1,0 +1,92 @@
+-- Frames, and tickets, of small histories that were worked out by hand.
+use Rattle.std.proofs.Common.{◌≡◌, ℕ, List, [], ◌∷◌, reverse, refl}
+use Rattle.frame_transport.specs.Bytes.{header_bytes}
+use Rattle.wire_base.specs.Encoding.{varint, groups}
+use Rattle.engine_core.specs.declared.op.Op.TheVariants.{Attach, Detach}
+use Rattle.engine_core.specs.declared.policy.Policy.TheVariants.{Access, Quota}
+use Rattle.call_history.specs.Behind.{Behind}
+use Rattle.call_history.specs.Frames.{frames, frames_behind}
+use Rattle.call_history.specs.Legal.{History}
+use Rattle.call_history.specs.Tickets.{tickets_behind}
+use Rattle.call_history.specs.declared.happening.Cause.TheVariants as cause
+use Rattle.call_history.specs.declared.happening.Happening.TheVariants.{Took, Op, Drawn, Sent, Refused}
+use Rattle.call_history.specs.declared.happening.Taken.{Taken}
+use Rattle.call_history.specs.declared.happening.TookCopy.TheVariants.{Copy}
+use Rattle.call_history.proofs.Rows.{table, two_fields, with_number, request, seven, acl, q, no150, but_150, but_5, denied, failing, upgraded_before, cleared, drawn_over}
+
+-- the header of a request's frame with a payload of two bytes, by connection and number
+abbrev request_header : ℕ → ℕ → List ℕ → List ℕ
+request_header conn number payload =
+    0x00 ∷ 0x00 ∷ 0x00 ∷ 0x02 ∷ 0x01 ∷ 0x01 ∷ 0x00 ∷ 0x00 ∷ 0x00 ∷ 0x00 ∷ 0x00 ∷ conn ∷ 0x00 ∷ 0x00 ∷ 0x00 ∷ number ∷ payload
+
+-- ---- a call that the policy allows, and a later store
+
+abbrev allowed : Behind
+allowed = reverse (Op (Attach 0 acl acl (Access but_150)) ∷ Took (seven 1) ∷ Sent 1 18 ∷ [])
+
+frame-allowed : frames_behind table 1 allowed
+    ≡ (0x00 ∷ 0x00 ∷ 0x00 ∷ 0x02 ∷ 0x01 ∷ 0x01 ∷ 0x00 ∷ 0x00 ∷ 0x00 ∷ 0x00 ∷ 0x00 ∷ 0x01 ∷ 0x00 ∷ 0x00 ∷ 0x00 ∷ 0x01 ∷ 0x08 ∷ 0x07 ∷ []) ∷ []
+unfolding header_bytes varint groups
+frame-allowed = refl
+
+-- one that it denies is in no frame
+frame-denied : frames_behind table 1 denied ≡ []
+frame-denied = refl
+
+-- ---- the first call is refused by the later version, so the second alone is handed over
+
+frame-upgraded : frames_behind table 1 (Sent 2 18 ∷ Refused 1 (cause.Access acl 2 no150) ∷ upgraded_before)
+    ≡ (0x00 ∷ 0x00 ∷ 0x00 ∷ 0x02 ∷ 0x01 ∷ 0x01 ∷ 0x00 ∷ 0x00 ∷ 0x00 ∷ 0x00 ∷ 0x00 ∷ 0x01 ∷ 0x00 ∷ 0x00 ∷ 0x00 ∷ 0x02 ∷ 0x08 ∷ 0x07 ∷ []) ∷ []
+unfolding header_bytes varint groups
+frame-upgraded = refl
+
+-- ---- a frame has what was left of the call when it was sent
+
+frame-cleared : frames_behind two_fields 1 (Sent 1 18 ∷ cleared but_5)
+    ≡ (0x00 ∷ 0x00 ∷ 0x00 ∷ 0x02 ∷ 0x01 ∷ 0x01 ∷ 0x00 ∷ 0x00 ∷ 0x00 ∷ 0x00 ∷ 0x00 ∷ 0x01 ∷ 0x00 ∷ 0x00 ∷ 0x00 ∷ 0x01 ∷ 0x08 ∷ 0x07 ∷ []) ∷ []
+unfolding header_bytes varint groups
+frame-cleared = refl
+
+-- ---- the frame of a reply has the number of its request, and that of a message without fields has no payload
+
+abbrev reply : Taken
+reply = record { seq = 3; method = 0; number = 1; addr = 2; after = 1; count = 1; copy = Copy (with_number 150) }
+
+frame-reply : frames_behind table 2 (Sent 3 19 ∷ Took reply ∷ [])
+    ≡ (0x00 ∷ 0x00 ∷ 0x00 ∷ 0x03 ∷ 0x02 ∷ 0x01 ∷ 0x00 ∷ 0x00 ∷ 0x00 ∷ 0x00 ∷ 0x00 ∷ 0x02 ∷ 0x00 ∷ 0x00 ∷ 0x00 ∷ 0x01 ∷ 0x08 ∷ 0x96 ∷ 0x01 ∷ []) ∷ []
+unfolding header_bytes varint groups
+frame-reply = refl
+
+-- ---- of two connections the frames come in the order of the sendings, each with its own connection's form
+
+abbrev two_connections : History
+two_connections =
+    record { conn = 1; what = Took (seven 1) } ∷ record { conn = 2; what = Took (request 1 1 1 (with_number 9)) } ∷ record { conn = 2; what = Sent 1 18 }
+    ∷ record { conn = 1; what = Sent 1 18 } ∷ []
+
+frames-of_both : frames table two_connections ≡ request_header 2 1 (0x08 ∷ 0x09 ∷ []) ∷ request_header 1 1 (0x08 ∷ 0x07 ∷ []) ∷ []
+unfolding header_bytes varint groups
+frames-of_both = refl
+
+-- ---- a link that fails with two calls left: one frame
+
+frames-failing : frames_behind table 1 failing ≡ request_header 1 1 (0x08 ∷ 0x07 ∷ []) ∷ []
+unfolding header_bytes varint groups
+frames-failing = refl
+
+-- ---- tickets, of the window and the tenant alone, as the policy of the name then was
+
+tickets-drawn : tickets_behind 0 0 (Refused 2 (cause.Quota q 1 1) ∷ drawn_over) ≡ 0 ∷ 1 ∷ []
+tickets-drawn = refl
+
+tickets-other_window : tickets_behind 0 1 drawn_over ≡ []
+tickets-other_window = refl
+
+tickets-other_tenant : tickets_behind 1 0 drawn_over ≡ []
+tickets-other_tenant = refl
+
+tickets-of_both : tickets_behind 1 5 (Drawn 3 q 5 7 ∷ Op (Attach 0 q q (Quota 1 1000 9)) ∷ Op (Detach q) ∷ drawn_over) ≡ 7 ∷ []
+tickets-of_both = refl
+
+tickets-before : tickets_behind 0 0 (Drawn 3 q 0 7 ∷ Op (Attach 0 q q (Quota 1 1000 9)) ∷ Op (Detach q) ∷ drawn_over) ≡ 0 ∷ 1 ∷ []
+tickets-before = refl

@@ -1,0 +1,84 @@
+-- A record tells the same once more steps are kept.
+use Rattle.std.proofs.Common.{◌≡◌, ℕ, ◌+◌, ◌<◌, ◌≤◌, arith, subst, List, [], ◌∷◌, ◌++◌, length, map, refl, sym, ap, ◌∙◌}
+use Rattle.std.specs.Prelude.{All}
+use Rattle.std.proofs.lemmas.List.Elements.{All-head, All-tail, All-push, All-weaker}
+use Rattle.std.proofs.lemmas.List.{get_or_append_left, length-append, map_push}
+use Rattle.std.proofs.Math.Seq.{get_or-append_seam}
+use Rattle.engine_core.specs.declared.op.Op.{Op as Step}
+use Rattle.engine_core.specs.declared.op.Op.TheVariants.{Detach}
+use Rattle.call_history.specs.Records.{IsNamed, name_in, rule_in, step_at, told_by}
+use Rattle.call_history.specs.declared.happening.Cause.TheVariants as cause
+use Rattle.call_history.specs.declared.happening.Happening.{Happening}
+use Rattle.call_history.specs.declared.happening.Happening.TheVariants as what
+use Rattle.call_history.specs.declared.record.Record.{Record}
+use Rattle.call_history.specs.declared.record.Record.TheVariants.{Took, Away, Op, Moment, Charged, Drawn, Counted, Redacted, Sent, Refused}
+use Rattle.call_history.specs.declared.record.Refusal.TheVariants as by
+
+-- a step stays at its place
+stays-at : (steps : List Step) (step : Step) (place : ℕ) → place < length steps → step_at (steps ++ step ∷ []) place ≡ step_at steps place
+stays-at steps step place within = get_or_append_left steps (step ∷ []) (Detach []) place within
+
+tells-still : (steps : List Step) (step : Step) (r : Record) → IsNamed (length steps) r → told_by (steps ++ step ∷ []) r ≡ told_by steps r
+tells-still steps step (Took call) named = refl
+tells-still steps step (Away method number addr) named = refl
+tells-still steps step (Op place) named = ap what.Op (stays-at steps step place named)
+tells-still steps step (Moment ms) named = refl
+tells-still steps step (Charged seq place level) named = ap (λ (s : Step). what.Charged seq (name_in s) level) (stays-at steps step place named)
+tells-still steps step (Drawn seq place window ticket) named = ap (λ (s : Step). what.Drawn seq (name_in s) window ticket) (stays-at steps step place named)
+tells-still steps step (Counted seq place) named = ap (λ (s : Step). what.Counted seq (name_in s)) (stays-at steps step place named)
+tells-still steps step (Redacted seq place version) named = ap (λ (s : Step). what.Redacted seq (name_in s) version) (stays-at steps step place named)
+tells-still steps step (Sent seq bytes) named = refl
+tells-still steps step (Refused seq by.Malformed) named = refl
+tells-still steps step (Refused seq (by.Access place version rule)) named = ap (λ (s : Step). what.Refused seq (cause.Access (name_in s) version (rule_in s rule))) (stays-at steps step place named)
+tells-still steps step (Refused seq (by.Rate place level cost)) named = ap (λ (s : Step). what.Refused seq (cause.Rate (name_in s) level cost)) (stays-at steps step place named)
+tells-still steps step (Refused seq (by.Quota place ticket cap)) named = ap (λ (s : Step). what.Refused seq (cause.Quota (name_in s) ticket cap)) (stays-at steps step place named)
+tells-still steps step (Refused seq by.Transport) named = refl
+
+tell-still : (steps : List Step) (step : Step) (records : List Record) → All (IsNamed (length steps)) records
+    → map (told_by (steps ++ step ∷ [])) records ≡ map (told_by steps) records
+tell-still steps step [] named = refl
+tell-still steps step (r ∷ records) named =
+    ap (λ (x : Happening). x ∷ map (told_by (steps ++ step ∷ [])) records) (tells-still steps step r (All-head (IsNamed (length steps)) r records named))
+    ∙ ap (λ (xs : List Happening). told_by steps r ∷ xs) (tell-still steps step records (All-tail (IsNamed (length steps)) r records named))
+
+-- the record of one more step tells that step
+pub operated : (steps more : List Step) (step : Step) (place : ℕ) (records now : List Record) (before : List Happening) → All (IsNamed (length steps)) records
+    → more ≡ steps ++ step ∷ [] → now ≡ records ++ Op place ∷ [] → place ≡ length steps → before ≡ map (told_by steps) records
+    → map (told_by more) now ≡ before ++ what.Op step ∷ []
+operated steps more step place records now before named steps_are records_are place_is before_is =
+    let tells : (s : Step) → step_at (steps ++ step ∷ []) (length steps) ≡ s → map (told_by (steps ++ step ∷ [])) (records ++ Op (length steps) ∷ []) ≡ map (told_by steps) records ++ what.Op s ∷ [] = λ s there.
+    map_push (told_by (steps ++ step ∷ [])) records (Op (length steps))
+    ∙ ap (λ (xs : List Happening). xs ++ what.Op (step_at (steps ++ step ∷ []) (length steps)) ∷ []) (tell-still steps step records named)
+    ∙ ap (λ (s : Step). map (told_by steps) records ++ what.Op s ∷ []) there in
+    ap (λ (ss : List Step). map (told_by ss) now) steps_are
+    ∙ ap (λ (rs : List Record). map (told_by (steps ++ step ∷ [])) rs) (records_are ∙ ap (λ (n : ℕ). records ++ Op n ∷ []) place_is)
+    ∙ tells step (get_or-append_seam steps step [] (Detach []))
+    ∙ ap (λ (xs : List Happening). xs ++ what.Op step ∷ []) (sym before_is)
+
+-- ---- each record names a step
+
+named-still : (few many : ℕ) (r : Record) → few ≤ many → IsNamed few r → IsNamed many r
+named-still few many (Took call) more named = tt
+named-still few many (Away method number addr) more named = tt
+named-still few many (Op place) more named = omega (arith, more, named)
+named-still few many (Moment ms) more named = tt
+named-still few many (Charged seq place level) more named = omega (arith, more, named)
+named-still few many (Drawn seq place window ticket) more named = omega (arith, more, named)
+named-still few many (Counted seq place) more named = omega (arith, more, named)
+named-still few many (Redacted seq place version) more named = omega (arith, more, named)
+named-still few many (Sent seq bytes) more named = tt
+named-still few many (Refused seq by.Malformed) more named = tt
+named-still few many (Refused seq (by.Access place version rule)) more named = omega (arith, more, named)
+named-still few many (Refused seq (by.Rate place level cost)) more named = omega (arith, more, named)
+named-still few many (Refused seq (by.Quota place ticket cap)) more named = omega (arith, more, named)
+named-still few many (Refused seq by.Transport) more named = tt
+
+-- so do those with the record of one more step
+pub named-operated : (steps more : List Step) (step : Step) (place : ℕ) (records now : List Record) → All (IsNamed (length steps)) records
+    → more ≡ steps ++ step ∷ [] → now ≡ records ++ Op place ∷ [] → place ≡ length steps → All (IsNamed (length more)) now
+named-operated steps more step place records now named steps_are records_are place_is =
+    let longer : length more ≡ length steps + 1 = ap length steps_are ∙ length-append steps (step ∷ []) in
+    subst (λ (rs : List Record). All (IsNamed (length more)) rs) (sym records_are)
+    (All-push (IsNamed (length more)) records (Op place)
+    (All-weaker (IsNamed (length steps)) (IsNamed (length more)) (λ r. named-still (length steps) (length more) r (omega (arith, longer))) records named)
+    (omega (arith, longer, place_is)))

@@ -1,0 +1,42 @@
+-- What was loaded for the calls that were accepted on a connection (this project's own).
+use Rattle.std.specs.Prelude.{◌≡◌, ℕ, ◌<◌, ◌≤◌, List, [], ◌∷◌, ◌++◌, length}
+use Rattle.mrpc_table.specs.Calls.{message_at}
+use Rattle.mrpc_table.specs.Node.{Node}
+use Rattle.mrpc_table.specs.declared.table.Table.{Table}
+use Rattle.graph_form.specs.Malformed.{ComesTo, copied, malformed}
+use Rattle.graph_form.specs.declared.reason.Reason.{Reason}
+use Rattle.graph_form.specs.declared.reason.Reason.TheVariants.{NoMethod}
+use Rattle.call_history.specs.Behind.{Behind}
+use Rattle.call_history.specs.declared.happening.Happening.TheVariants.{Took}
+use Rattle.call_history.specs.declared.happening.Taken.{Taken}
+use Rattle.call_history.specs.declared.happening.TookCopy.{TookCopy}
+use Rattle.call_history.specs.declared.happening.TookCopy.TheVariants.{Copy, Malformed}
+
+-- loads of words of a heap, each a place and a value, in order
+abbrev pub Loads : Type 0
+Loads = List (ℕ × ℕ)
+
+-- what was taken of a call of a method at an address by these loads: a copy, or why it is malformed
+pub data IsTaken (T : Table) (H limit method number addr : ℕ) (own : Loads) (copy : TookCopy) : Type 0 where
+  -- the table has no such method, and nothing is loaded
+  no_method : length T.methods ≤ method → own ≡ [] → copy ≡ Malformed NoMethod 0 method
+      → IsTaken T H limit method number addr own copy
+  is_copied : (tree : Node) → method < length T.methods
+      → ComesTo T H (message_at T method number) addr limit own (copied tree) → copy ≡ Copy tree
+      → IsTaken T H limit method number addr own copy
+  is_malformed : (reason : Reason) (place value : ℕ) → method < length T.methods
+      → ComesTo T H (message_at T method number) addr limit own (malformed reason place value)
+      → copy ≡ Malformed reason place value
+      → IsTaken T H limit method number addr own copy
+
+-- a call was taken by these loads, of a heap of so many words, and counts them
+pub record IsLoaded (T : Table) (H limit : ℕ) (call : Taken) (own : Loads) : Type 0 where
+  pub taken : IsTaken T H limit call.method call.number call.addr own call.copy
+  pub counted : call.count ≡ length own
+
+-- The loads are those of the calls that were accepted, one call after another, as many as each counts, and no others.
+abbrev pub AreSpelled : Table → ℕ → ℕ → Behind → Loads → Type 0
+AreSpelled T H limit [] loads = loads ≡ []
+AreSpelled T H limit (Took call ∷ past) loads = (before : Loads) × (own : Loads) × (loads ≡ before ++ own)
+    × IsLoaded T H limit call own × AreSpelled T H limit past before
+AreSpelled T H limit (_ ∷ past) loads = AreSpelled T H limit past loads

@@ -1,0 +1,69 @@
+-- How happenings are kept: a record names an entry by the operator's step that put its policy there (this project's
+-- own).
+use Rattle.std.specs.Prelude.{ℕ, ◌<◌, List, [], get_or}
+use Rattle.engine_core.specs.declared.op.Op.{Op as Step}
+use Rattle.engine_core.specs.declared.op.Op.TheVariants.{Attach, Detach, Upgrade}
+use Rattle.call_history.specs.Events.{rule_of}
+use Rattle.call_history.specs.declared.happening.Cause.{Cause}
+use Rattle.call_history.specs.declared.happening.Cause.TheVariants as cause
+use Rattle.call_history.specs.declared.happening.Happening.{Happening}
+use Rattle.call_history.specs.declared.happening.Happening.TheVariants as what
+use Rattle.call_history.specs.declared.record.Record.{Record}
+use Rattle.call_history.specs.declared.record.Record.TheVariants.{Took, Away, Op, Moment, Charged, Drawn, Counted, Redacted, Sent, Refused}
+use Rattle.call_history.specs.declared.record.Refusal.{Refusal}
+use Rattle.call_history.specs.declared.record.Refusal.TheVariants as by
+
+-- the name in a step
+abbrev pub name_in : Step → List ℕ
+name_in (Attach at name label policy) = name
+name_in (Detach name) = name
+name_in (Upgrade name label policy) = name
+
+-- the name of a rule of the policy that a step puts in
+abbrev pub rule_in : Step → ℕ → List ℕ
+rule_in (Attach at name label policy) rule = rule_of policy rule
+rule_in (Detach name) rule = []
+rule_in (Upgrade name label policy) rule = rule_of policy rule
+
+-- a kept history: the steps of operators, the happenings, and how many more there is room for
+pub record Kept : Type 0 where
+  pub steps : List Step
+  pub happenings : List Happening
+  pub room : ℕ
+
+-- the step at a place
+abbrev pub step_at : List Step → ℕ → Step
+step_at steps place = get_or steps place (Detach [])
+
+abbrev pub cause_of : List Step → Refusal → Cause
+cause_of steps by.Malformed = cause.Malformed
+cause_of steps (by.Access step version rule) =
+    cause.Access (name_in (step_at steps step)) version (rule_in (step_at steps step) rule)
+cause_of steps (by.Rate step level cost) = cause.Rate (name_in (step_at steps step)) level cost
+cause_of steps (by.Quota step ticket cap) = cause.Quota (name_in (step_at steps step)) ticket cap
+cause_of steps by.Transport = cause.Transport
+
+-- what a record tells
+abbrev pub told_by : List Step → Record → Happening
+told_by steps (Took call) = what.Took call
+told_by steps (Away method number addr) = what.Away method number addr
+told_by steps (Op step) = what.Op (step_at steps step)
+told_by steps (Moment ms) = what.Moment ms
+told_by steps (Charged seq step level) = what.Charged seq (name_in (step_at steps step)) level
+told_by steps (Drawn seq step window ticket) = what.Drawn seq (name_in (step_at steps step)) window ticket
+told_by steps (Counted seq step) = what.Counted seq (name_in (step_at steps step))
+told_by steps (Redacted seq step version) = what.Redacted seq (name_in (step_at steps step)) version
+told_by steps (Sent seq bytes) = what.Sent seq bytes
+told_by steps (Refused seq why) = what.Refused seq (cause_of steps why)
+
+-- the step that a record names is one of so many
+abbrev pub IsNamed : ℕ → Record → Type 0
+IsNamed steps (Op step) = step < steps
+IsNamed steps (Charged seq step level) = step < steps
+IsNamed steps (Drawn seq step window ticket) = step < steps
+IsNamed steps (Counted seq step) = step < steps
+IsNamed steps (Redacted seq step version) = step < steps
+IsNamed steps (Refused seq (by.Access step version rule)) = step < steps
+IsNamed steps (Refused seq (by.Rate step level cost)) = step < steps
+IsNamed steps (Refused seq (by.Quota step ticket cap)) = step < steps
+IsNamed steps _ = Unit {0}

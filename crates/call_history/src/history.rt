@@ -1,0 +1,125 @@
+//! The history of one connection.
+
+ghost use Rattle.std.specs.Prelude.{◌≡◌, ◌↔◌, ◌+◌, ◌<◌, ◌≤◌, ◌++◌, ◌∷◌, [], IsTrue, Some, OnErr, OnOk, length, slice_get};
+ghost use Rattle.call_history.specs.Records.{IsNamed, step_at, told_by};
+ghost use Rattle.call_history.specs.declared.happening.Happening.TheVariants.{Op as Operated};
+
+use crate::record::Record;
+use engine_core::Op;
+use mrpc_table::Memory;
+use std::alloc::Global;
+use std::marker::Model;
+
+/// What happened on a connection, in order. Clauses see the happenings, with the steps of operators among them and the
+/// room for more.
+#[derive(Drop)]
+pub struct History {
+    steps: Vec<Op>,
+    records: Vec<Record>,
+}
+
+impl Model for History {
+    ghost use Rattle.std.specs.Prelude.{◌-◌, All, length, map, vec_capacity};
+    ghost use Rattle.call_history.specs.Records.{Kept, IsNamed, told_by};
+
+    ghost Value = { Kept };
+
+    ghost use Rattle.std.specs.Coded.{codes};
+    ghost use Rattle.mrpc_table.specs.contracts.tree.Tree as t;
+
+    ghost coded = { Prim.hlevel (codes, t.the_row.coded) };
+
+    ghost view = { λ h. record {
+      steps = h.steps.items;
+      happenings = map (told_by h.steps.items) h.records.items;
+      room = vec_capacity h.records - length h.records.items;
+    } };
+
+    ghost invariant = { λ h. All (IsNamed (length h.steps.items)) h.records.items };
+}
+
+impl History {
+    /// Nothing has happened.
+    pub fn new(alloc: Global) -> History
+        ensures steps { result.steps ≡ [] }
+        ensures happenings { result.happenings ≡ [] }
+    {
+        History {
+            steps: Vec::new(alloc),
+            records: Vec::new(alloc),
+        }
+    }
+
+    /// Makes room for so many more records. Room never falls by it.
+    pub fn reserve(&mut self, records: usize) -> Result<(), Memory>
+        ensures room { OnOk result (records ≤ self.new.room) }
+        ensures never_falls { self.old.room ≤ self.new.room }
+        ensures steps { self.new.steps ≡ self.old.steps }
+        ensures happenings { self.new.happenings ≡ self.old.happenings }
+    {
+        Ok(self.records.reserve(records)?)
+    }
+
+    /// How many steps of operators there are.
+    pub fn steps(&self) -> usize
+        ensures { result ≡ length self.now.steps }
+    {
+        self.steps.len()
+    }
+
+    /// Adds a step of an operator. It takes memory for the step, and room for its record.
+    pub fn operate(&mut self, step: Op) -> Result<(), Memory>
+        requires { 0 < self.old.room }
+        ensures steps { OnOk result (self.new.steps ≡ self.old.steps ++ step ∷ []) }
+        ensures happenings { OnOk result (self.new.happenings ≡ self.old.happenings ++ Operated step ∷ []) }
+        ensures room { self.old.room ≤ self.new.room + 1 }
+        ensures as_before { OnErr result (self.new ≡ self.old) }
+    {
+        let place = self.steps.len();
+        self.steps.push(step)?;
+        self.records.push_reserved(Record::Op { step: place });
+        Ok(())
+    }
+
+    /// Adds a record, for which there is room. It takes no memory.
+    pub fn push(&mut self, what: Record)
+        requires room { 0 < self.old.room }
+        requires named { IsNamed (length self.old.steps) what }
+        ensures steps { self.new.steps ≡ self.old.steps }
+        ensures happenings { self.new.happenings ≡ self.old.happenings ++ told_by self.old.steps what ∷ [] }
+        ensures room { self.old.room ≤ self.new.room + 1 }
+    {
+        self.records.push_reserved(what);
+    }
+
+    /// How many happenings there are.
+    pub fn len(&self) -> usize
+        ensures { result ≡ length self.now.happenings }
+    {
+        self.records.len()
+    }
+
+    /// Whether nothing has happened.
+    pub fn is_empty(&self) -> bool
+        ensures { IsTrue result ↔ (self.now.happenings ≡ []) }
+    {
+        self.records.is_empty()
+    }
+
+    /// The record of the happening at a place, from 0.
+    pub fn at(&self, place: usize) -> &Record
+        requires { place < length self.now.happenings }
+        ensures tells { slice_get self.now.happenings place ≡ Some (told_by self.now.steps result.now) }
+        ensures named { IsNamed (length self.now.steps) result.now }
+    {
+        &self.records[place]
+    }
+
+    /// The operator's step at a place, from 0.
+    pub fn step(&self, place: usize) -> &Op
+        requires { place < length self.now.steps }
+        ensures { result.now ≡ step_at self.now.steps place }
+    {
+        &self.steps[place]
+    }
+}
