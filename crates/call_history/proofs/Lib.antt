@@ -38,6 +38,9 @@ mod Settling
 mod Shorter
 mod Showing
 mod Standing
+mod TieNotes
+mod TieSteps
 mod Traces
+mod Tying
 mod Upgrading
 mod WrongRows

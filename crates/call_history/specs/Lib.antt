@@ -9,3 +9,4 @@ pub mod Places
 pub mod Records
 pub mod Rules
 pub mod Tickets
+pub mod Ties

@@ -20,6 +20,7 @@ mod happening;
 mod history;
 mod laws;
 mod record;
+mod ties;
 
 pub use happening::{Cause, Happened, Happening, Taken, TookCopy};
 pub use history::History;
@@ -29,3 +30,4 @@ pub use laws::{
     redacted_once, sent_in_order, standing_calls_have_forms, standing_goes_on,
 };
 pub use record::{Record, Refusal};
+pub use ties::ties_go_on;

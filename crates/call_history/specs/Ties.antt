@@ -1,0 +1,120 @@
+-- Engines, and calls with their marks, which are what a history has made of a connection (this project's own).
+use Rattle.std.specs.Prelude.{◌≡◌, ◌≢◌, ℕ, ◌+◌, ◌-◌, ◌<◌, ◌≤◌, max, List, [], ◌∷◌, ◌++◌, All, length, map, insert, remove, set, slice_get, None, Some}
+use Rattle.engine_core.specs.Chains.{Chain, Changes, changed, new_entry, upgraded}
+use Rattle.engine_core.specs.Engines.{EngineParts}
+use Rattle.engine_core.specs.Marks.{IsTrueFor, StandingCall, note_of, past_of}
+use Rattle.engine_core.specs.Policies.{first_level, level_at, level_under}
+use Rattle.engine_core.specs.Turns.{noted_in}
+use Rattle.engine_core.specs.Working.{Works}
+use Rattle.engine_core.specs.declared.op.Op.TheVariants.{Attach, Detach, Upgrade}
+use Rattle.engine_core.specs.declared.outcome.Outcome.{Outcome}
+use Rattle.engine_core.specs.declared.outcome.Outcome.TheVariants as outcomes
+use Rattle.engine_core.specs.declared.policy.Policy.{Policy}
+use Rattle.engine_core.specs.Chains.{Entry}
+use Rattle.call_history.specs.Behind.{Behind, chain, copied, form, level, moment, noted, taken}
+use Rattle.call_history.specs.Events.{note_behind}
+use Rattle.call_history.specs.Legal.{IsPrefix}
+use Rattle.call_history.specs.Rules.{Under}
+use Rattle.call_history.specs.declared.happening.Happening.TheVariants.{Took, Op, Moment, Redacted}
+use Rattle.call_history.specs.declared.happening.Taken.{Taken}
+
+-- the entries that engines work for, with the number of attachments
+abbrev pub chain_of : List EngineParts → ℕ → Chain
+chain_of engines attached = record { entries = map (λ e. e.entry) engines; attached = attached }
+
+-- an engine has the level and the moment that the history says
+pub record IsEngineBehind (past : Behind) (e : EngineParts) : Type 0 where
+  pub level : e.level ≡ level e.entry.name past
+  pub last : e.last ≡ moment past
+
+-- the marks of a call are of attachments up to this one
+abbrev pub IsMarkedUpTo : ℕ → StandingCall → Type 0
+IsMarkedUpTo attached s = (attach : ℕ) → attached < attach → note_of s.marks attach ≡ None
+
+-- A call is in its form, and its marks say what was noted of it since the attachment of each engine, and nothing that
+-- is wrong.
+pub record IsCallBehind (conn : ℕ) (past : Behind) (engines : List EngineParts) (attached : ℕ) (s : StandingCall)
+    : Type 0 where
+  pub is_form : form conn s.call.seq past ≡ Some s.call
+  pub notes : All (λ e. past_of s.marks e.entry.attach ≡ noted e.entry.name s.call.seq past) engines
+  pub marked : IsMarkedUpTo attached s
+  pub true_for : All (λ e. IsTrueFor e.entry s) engines
+
+-- the engines, of so many attachments, and the calls with their marks are what the history has made
+pub record AreTied (conn : ℕ) (past : Behind) (engines : List EngineParts) (attached : ℕ) (calls : List StandingCall)
+    : Type 0 where
+  pub same_chain : chain_of engines attached ≡ chain past
+  pub engines_behind : All (IsEngineBehind past) engines
+  pub calls_behind : All (IsCallBehind conn past engines attached) calls
+
+-- the number of a call is that of no other of these
+abbrev pub IsNumberApart : ℕ → List StandingCall → Type 0
+IsNumberApart seq calls = All (λ s. s.call.seq ≢ seq) calls
+
+-- no two calls have one number
+abbrev pub AreNumbersApart : List StandingCall → Type 0
+AreNumbersApart [] = Unit {0}
+AreNumbersApart (s ∷ calls) = IsNumberApart s.call.seq calls × AreNumbersApart calls
+
+-- an engine that is shown a moment: time fills its bucket
+abbrev pub shown : ℕ → EngineParts → EngineParts
+shown now e = record {
+  entry = e.entry;
+  level = level_at e.entry.policy e.level (now - e.last);
+  last = max e.last now;
+}
+
+-- what is behind after a turn of an entry for the call of a number, before its refusal
+abbrev pub worked : Entry → ℕ → Outcome → Behind → Behind
+worked e seq outcomes.Redacted past = Redacted seq e.name e.version ∷ past
+worked e seq outcome past = note_behind e.name seq (noted_in outcome) past
+
+-- ---- how they go on
+
+-- a call of the next number is taken, with a copy that bears no mark yet
+abbrev pub TakesOn : Type 0
+TakesOn = (u : Under) (past : Behind) (engines : List EngineParts) (attached : ℕ) (calls : List StandingCall)
+    (call : Taken) (s : StandingCall) → IsPrefix u past → AreTied u.conn past engines attached calls
+    → IsNumberApart call.seq calls → call.seq ≡ length (taken past) + 1 → copied u.conn call call.copy ≡ Some s.call
+    → s.marks ≡ [] → AreTied u.conn (Took call ∷ past) engines attached (calls ++ s ∷ [])
+
+-- an entry is attached
+abbrev pub AttachesOn : Type 0
+AttachesOn = (conn : ℕ) (past : Behind) (engines : List EngineParts) (attached : ℕ) (calls : List StandingCall)
+    (at : ℕ) (name label : List ℕ) (policy : Policy) → AreTied conn past engines attached calls
+    → Changes (chain past) (Attach at name label policy) (changed (Attach at name label policy) (chain past))
+    → AreTied conn (Op (Attach at name label policy) ∷ past) (insert engines at (record {
+      entry = new_entry name (attached + 1) policy;
+      level = first_level policy;
+      last = moment past;
+    })) (attached + 1) calls
+
+-- the entry of a name leaves
+abbrev pub DetachesOn : Type 0
+DetachesOn = (u : Under) (past : Behind) (engines : List EngineParts) (attached : ℕ) (calls : List StandingCall)
+    (name : List ℕ) (place : ℕ) (e : EngineParts) → IsPrefix u past → AreTied u.conn past engines attached calls
+    → slice_get engines place ≡ Some e → e.entry.name ≡ name
+    → AreTied u.conn (Op (Detach name) ∷ past) (remove engines place) attached calls
+
+-- the entry of a name gets another policy
+abbrev pub UpgradesOn : Type 0
+UpgradesOn = (u : Under) (past : Behind) (engines : List EngineParts) (attached : ℕ) (calls : List StandingCall)
+    (name label : List ℕ) (policy : Policy) (place : ℕ) (e e' : EngineParts) → IsPrefix u past
+    → AreTied u.conn past engines attached calls → slice_get engines place ≡ Some e → e.entry.name ≡ name
+    → e'.entry ≡ upgraded e.entry policy → e'.level ≡ level_under e.entry.policy policy e.level → e'.last ≡ e.last
+    → ((s : StandingCall) → IsTrueFor e.entry s → IsTrueFor e'.entry s)
+    → AreTied u.conn (Op (Upgrade name label policy) ∷ past) (set engines place e') attached calls
+
+-- the clock shows a later moment
+abbrev pub ShowsOn : Type 0
+ShowsOn = (u : Under) (past : Behind) (engines : List EngineParts) (attached : ℕ) (calls : List StandingCall)
+    (now : ℕ) → IsPrefix u past → AreTied u.conn past engines attached calls → moment past < now
+    → AreTied u.conn (Moment now ∷ past) (map (λ e. shown now e) engines) attached calls
+
+-- an engine has worked on a call
+abbrev pub WorksOn : Type 0
+WorksOn = (u : Under) (past : Behind) (engines : List EngineParts) (attached : ℕ) (calls : List StandingCall)
+    (position place now : ℕ) (outcome : Outcome) (engines' : List EngineParts) (calls' : List StandingCall)
+    → IsPrefix u past → AreTied u.conn past engines attached calls → AreNumbersApart calls
+    → (w : Works engines calls position place now outcome engines' calls')
+    → AreTied u.conn (worked w.engine.entry w.call.call.seq outcome past) engines' attached calls'
