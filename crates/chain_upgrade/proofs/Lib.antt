@@ -1,0 +1,12 @@
+mod AfterTurns
+mod Clocks
+mod CutCode
+mod CutLaws
+mod KeepLaws
+mod Keeping
+mod Named
+mod Reading
+mod RowLaws
+mod Stands
+mod Steps
+mod Turning

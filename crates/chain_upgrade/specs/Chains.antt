@@ -1,0 +1,134 @@
+-- A chain as contracts see it: its engines and the calls that stand on it, never queues (this project's own).
+use Rattle.std.specs.Prelude.{◌≡◌, ℕ, ◌-◌, ◌<◌, ◌≤◌, max, List, [], ◌∷◌, ◌++◌, map, length, set, slice_get, All, Option, Some, None}
+use Rattle.engine_core.specs.Chains.{Chain, IsChain, Refusal, no_such, taken, no_place, full, other_kind}
+use Rattle.engine_core.specs.Engines.{EngineParts}
+use Rattle.engine_core.specs.Marks.{IsTrueFor, StandingCall, note_of, past_of}
+use Rattle.engine_core.specs.Moves.{Row, goes_on, without_call, begin_again}
+use Rattle.engine_core.specs.Policies.{IsPolicy, level_at}
+use Rattle.engine_core.specs.Turns.{ComesOut}
+use Rattle.engine_core.specs.Working.{IsTurn, KeepsMarksOf, LeavesCall, LeavesEngine, LeavesMarks}
+use Rattle.engine_core.specs.declared.outcome.Outcome.{Outcome}
+use Rattle.engine_core.specs.declared.outcome.Outcome.TheVariants as outcomes
+use Rattle.chain_upgrade.specs.declared.turned.Turned.{Turned}
+use Rattle.chain_upgrade.specs.declared.turned.Turned.TheVariants.{Idle, Moved, Held, Refused, Redacted}
+use Rattle.chain_upgrade.specs.declared.fault.ChainFault.{ChainFault}
+use Rattle.chain_upgrade.specs.declared.fault.ChainFault.TheVariants.{NoSuch, Taken, At, ChainFull, OtherKind, Memory}
+
+-- the engines in the order in which they judge, how many attachments there were, the calls that stand, by ascending
+-- number, and the row of their numbers and positions; the number of engines is the position for transport
+pub record ChainParts : Type 0 where
+  pub engines : List EngineParts
+  pub attached : ℕ
+  pub calls : List StandingCall
+  pub row : Row
+
+-- the entries of the engines, with the number of attachments
+abbrev pub chain_of : ChainParts → Chain
+chain_of c = record { entries = map (λ e. e.entry) c.engines; attached = c.attached }
+
+-- an engine that is shown a moment: time fills its bucket, and a lower moment counts as the last one
+abbrev pub clocked : ℕ → EngineParts → EngineParts
+clocked now e = record {
+  entry = e.entry;
+  level = level_at e.entry.policy e.level (now - e.last);
+  last = max e.last now;
+}
+
+-- the numbers of calls
+abbrev pub numbers_of : List StandingCall → List ℕ
+numbers_of calls = map (λ s. s.call.seq) calls
+
+-- numbers ascend, from above a number
+abbrev pub IsAbove : ℕ → List ℕ → Type 0
+IsAbove low [] = Unit {0}
+IsAbove low (number ∷ numbers) = (low < number) × IsAbove number numbers
+
+-- numbers ascend
+abbrev pub IsAscending : List ℕ → Type 0
+IsAscending [] = Unit {0}
+IsAscending (number ∷ numbers) = IsAbove number numbers
+
+-- positions never rise, from one that is at most this
+abbrev pub IsFallingFrom : ℕ → Row → Type 0
+IsFallingFrom position [] = Unit {0}
+IsFallingFrom position (call ∷ row) = (call.1 ≤ position) × IsFallingFrom call.1 row
+
+-- the marks of a call are of attachments up to this one
+abbrev pub HasMarksUpTo : ℕ → StandingCall → Type 0
+HasMarksUpTo attached s = (attach : ℕ) → attached < attach → note_of s.marks attach ≡ None
+
+-- these calls may stand on these engines, of so many attachments
+pub record StandsOn (engines : List EngineParts) (attached : ℕ) (calls : List StandingCall) : Type 0 where
+  -- at most eight entries, whose names and attachments are distinct
+  pub chain : IsChain (record { entries = map (λ e. e.entry) engines; attached = attached })
+  pub policies : All (λ e. IsPolicy e.entry.policy) engines
+  -- at most 64 calls, by ascending number
+  pub few : length calls ≤ 64
+  pub ascend : IsAscending (numbers_of calls)
+  -- marks are of attachments that were, and true for each entry
+  pub marks : All (λ s. HasMarksUpTo attached s) calls
+  pub true_for : All (λ e. All (λ s. IsTrueFor e.entry s) calls) engines
+
+-- what holds of each chain
+pub record IsStandingChain (c : ChainParts) : Type 0 where
+  pub stands : StandsOn c.engines c.attached c.calls
+  -- the row has these calls, and no call stands at a later position than one of a smaller number
+  pub row : map (λ call. call.0) c.row ≡ numbers_of c.calls
+  pub falls : IsFallingFrom (length c.engines) c.row
+
+-- ---- turns
+
+-- what holds of the number of the call and of the outcome of a turn, where there was a call
+abbrev pub OnTurn : Turned → (ℕ → Outcome → Type 0) → Type 0
+OnTurn Idle Holds = Unit {0}
+OnTurn (Moved seq noted) Holds = Holds seq (outcomes.Passed noted)
+OnTurn (Held seq level cost) Holds = Holds seq (outcomes.Held level cost)
+OnTurn (Refused seq noted why) Holds = Holds seq (outcomes.Refused noted why)
+OnTurn (Redacted seq) Holds = Holds seq outcomes.Redacted
+
+-- where calls stand after a turn that came out so for the call of a number: one that passed goes on, a refused one is
+-- gone, and behind a redaction it begins again with those of greater numbers
+abbrev pub row_after : ℕ → Outcome → Row → Row
+row_after seq (outcomes.Passed noted) row = goes_on seq row
+row_after seq (outcomes.Held level cost) row = row
+row_after seq (outcomes.Refused noted why) row = without_call seq row
+row_after seq outcomes.Redacted row = begin_again seq row
+
+-- the calls after a turn that came out so for one of them: a refused one is gone
+abbrev pub calls_after : Outcome → List StandingCall → StandingCall → List StandingCall → List StandingCall
+calls_after (outcomes.Refused noted why) front call back = front ++ back
+calls_after _ front call back = front ++ call ∷ back
+
+-- the engine at a position has a turn with the call of a number: `call'` and `engine'` are what it leaves of them
+pub record HasTurn (before : ChainParts) (position moment seq : ℕ) (outcome : Outcome) (after : ChainParts) : Type 0 where
+  pub engine : EngineParts
+  pub engine' : EngineParts
+  pub is_engine : slice_get before.engines position ≡ Some engine
+  pub engines : after.engines ≡ set before.engines position engine'
+  pub call : StandingCall
+  pub call' : StandingCall
+  pub number : call.call.seq ≡ seq
+  pub front : List StandingCall
+  pub back : List StandingCall
+  pub stood : before.calls ≡ front ++ call ∷ back
+  pub calls : after.calls ≡ calls_after outcome front call' back
+  -- the turn is that of an entry of which the marks say what was noted
+  pub comes : ComesOut engine.entry.policy engine.level moment call.call (past_of call.marks engine.entry.attach) outcome
+  -- the call as the engine meets it, with the marks of the chain's engines alone
+  pub met : StandingCall
+  pub keeps : KeepsMarksOf before.engines call met
+  pub turn : IsTurn engine moment met outcome
+  pub leaves_engine : LeavesEngine outcome engine engine'
+  pub leaves_call : LeavesCall engine.entry.policy outcome call.call call'.call
+  pub leaves_marks : LeavesMarks engine.entry outcome met call'
+
+-- ---- faults
+
+-- the refusal that a fault tells; out of memory tells none
+abbrev pub refusal_in : ChainFault → Option Refusal
+refusal_in (NoSuch name) = Some (no_such name)
+refusal_in (Taken name) = Some (taken name)
+refusal_in (At position) = Some (no_place position)
+refusal_in (ChainFull engines) = Some (full engines)
+refusal_in (OtherKind name) = Some (other_kind name)
+refusal_in Memory = None

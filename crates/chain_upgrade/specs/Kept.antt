@@ -1,0 +1,29 @@
+-- What holds of a chain's own fields: the code's own. No public clause cites this module.
+use Rattle.std.specs.Prelude.{ℕ, ◌≤◌, List, length, remove}
+use Rattle.engine_core.specs.Engines.{EngineParts}
+use Rattle.engine_core.specs.Marks.{StandingCall}
+use Rattle.engine_core.specs.declared.outcome.Outcome.{Outcome}
+use Rattle.engine_core.specs.declared.outcome.Outcome.TheVariants as outcomes
+use Rattle.chain_upgrade.specs.declared.turned.Turned.{Turned}
+use Rattle.chain_upgrade.specs.declared.turned.Turned.TheVariants as turns
+use Rattle.chain_upgrade.specs.Chains.{StandsOn}
+use Rattle.chain_upgrade.specs.Cuts.{IsFalling, IsShort}
+
+pub record IsKept (engines : List EngineParts) (room attached : ℕ) (calls : List StandingCall) (cuts : List ℕ) : Type 0 where
+  pub stands : StandsOn engines attached calls
+  pub falls : IsFalling (length calls) cuts
+  pub short : IsShort (length engines) cuts
+  -- the engines have room for eight
+  pub room_for : 8 ≤ room
+
+-- the calls after a turn of the one at a place: a refused one is gone
+abbrev pub calls_left : Outcome → ℕ → List StandingCall → List StandingCall
+calls_left (outcomes.Refused noted why) place calls = remove calls place
+calls_left _ place calls = calls
+
+-- what is told of a turn of the call of a number
+abbrev pub turned_as : ℕ → Outcome → Turned
+turned_as seq (outcomes.Passed noted) = turns.Moved seq noted
+turned_as seq (outcomes.Held level cost) = turns.Held seq level cost
+turned_as seq (outcomes.Refused noted why) = turns.Refused seq noted why
+turned_as seq outcomes.Redacted = turns.Redacted seq

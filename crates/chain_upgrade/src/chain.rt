@@ -1,0 +1,426 @@
+//! The chain of a connection.
+
+ghost use Rattle.std.specs.Prelude.{◌≡◌, ◌+◌, ◌-◌, ◌<◌, ◌≤◌, ◌^◌, ◌↔◌, ◌++◌, ◌∷◌, [], ℕ, List, All, Contains, IfErr, IfNone, IfOk, IfSome, IsErr, IsSomeAnd, MatchOption, None, OnErr, OnOk, Some, filter, insert, length, map, max, nat_le, remove, set, slice_get};
+ghost use Rattle.mrpc_table.specs.Calls.{IsCallOf};
+ghost use Rattle.engine_core.specs.declared.op.Op.{Op};
+
+use crate::cuts::Cuts;
+use crate::engines::{clock_all, may_attach, place_of, put};
+use crate::fault::{ChainFault, PushFault};
+use crate::turned::Turned;
+use engine_core::{
+    CallRow, Engine, MAX_CALLS, MAX_ENGINES, Outcome, Policy, Standing, change_is_changed,
+    stays_chain, unmarked_is_true,
+};
+use mrpc_base::Tickets;
+use mrpc_table::{Memory, Name, Table};
+use std::alloc::Global;
+use std::marker::Model;
+
+/// A chain of engines with the calls that stand on it. Contracts see it as `ChainParts` of `specs/Chains.antt`.
+#[derive(Drop)]
+pub struct Chain {
+    engines: Vec<Engine>,
+    attached: u32,
+    row: CallRow,
+    cuts: Cuts,
+}
+
+impl Model for Chain {
+    ghost use Rattle.std.specs.Prelude.{vec_capacity};
+    ghost use Rattle.chain_upgrade.specs.Chains.{ChainParts, numbers_of};
+    ghost use Rattle.chain_upgrade.specs.Cuts.{row_from};
+    ghost use Rattle.chain_upgrade.specs.Kept.{IsKept};
+
+    ghost Value = { ChainParts };
+
+    ghost use Rattle.std.specs.Coded.{codes};
+    ghost use Rattle.mrpc_table.specs.contracts.call.Call as c;
+
+    ghost coded = { Prim.hlevel (codes, c.the_row.coded) };
+
+    ghost view = { λ c. record {
+      engines = c.engines.items;
+      attached = c.attached;
+      calls = c.row;
+      row = row_from 0 c.cuts.behind (numbers_of c.row);
+    } };
+
+    ghost invariant = { λ c. IsKept c.engines.items (vec_capacity c.engines) c.attached c.row c.cuts.behind };
+}
+
+impl Chain {
+    ghost use Rattle.policy_rate.specs.declared.rate.Rate.{Rate as RatePolicy};
+    ghost use Rattle.policy_rate.specs.Level.{BucketHappening, moment, upgrade};
+    ghost use Rattle.engine_core.specs.Answers.{Answers, hold};
+    ghost use Rattle.engine_core.specs.Chains.{Changes, Refuses, new_entry, upgraded};
+    ghost use Rattle.engine_core.specs.Engines.{EngineParts, HasPast};
+    ghost use Rattle.engine_core.specs.Marks.{StandingCall, past_of};
+    ghost use Rattle.engine_core.specs.Moves.{back_to, first_at, moved_up, place_of as place_in};
+    ghost use Rattle.engine_core.specs.Policies.{IsPolicy, KnowsTenantOf, first_level, level_under};
+    ghost use Rattle.engine_core.specs.Turns.{noted_in};
+    ghost use Rattle.engine_core.specs.Working.{LeavesTickets, Works};
+    ghost use Rattle.chain_upgrade.specs.Kept.{calls_left};
+    ghost use Rattle.chain_upgrade.specs.Chains.{HasTurn, IsStandingChain, OnTurn, chain_of, clocked, refusal_in, row_after};
+
+    /// A chain without an engine and without a call. It takes the room for all of them, so no later call of a chain
+    /// takes memory.
+    pub fn open(alloc: Global) -> Result<Chain, Memory>
+        ensures { IfOk result (λ c. c ≡ record { engines = []; attached = 0; calls = []; row = [] }) }
+    {
+        Ok(Chain {
+            engines: Vec::with_capacity(alloc, MAX_ENGINES)?,
+            attached: 0,
+            row: CallRow::open(alloc)?,
+            cuts: Cuts::new(),
+        })
+    }
+
+    /// A law; it does nothing. What holds of each chain.
+    pub fn is_chain(&self)
+        ensures { IsStandingChain self.now }
+    {
+        let _ = &self.cuts;
+    }
+
+    // ---- calls
+
+    /// Puts a call behind the others, at position 0. Where 64 calls stand it is given back.
+    pub fn push(&mut self, call: Standing) -> Result<(), PushFault>
+        requires unmarked { call.marks ≡ [] }
+        requires greater { All (λ s. s.call.seq < call.call.seq) self.old.calls }
+        ensures full { IsErr result ↔ (length self.old.calls ≡ 64) }
+        ensures given_back { IfErr result (λ fault. fault ≡ PushFault.Standing call) }
+        ensures as_before { OnErr result (self.new ≡ self.old) }
+        ensures stands { OnOk result (self.new ≡ record self.old {
+          calls = self.old.calls ++ call ∷ [];
+          row = self.old.row ++ (call.call.seq, 0) ∷ [];
+        }) }
+    {
+        unmarked_is_true();
+        if self.row.len() == MAX_CALLS {
+            return Err(PushFault::Standing(call));
+        }
+        self.row.push(call);
+        Ok(())
+    }
+
+    /// The calls that stand, by ascending number.
+    pub fn calls(&self) -> &CallRow
+        ensures { result.now ≡ self.now.calls }
+    {
+        &self.row
+    }
+
+    /// How many calls stand at a position or later. The number of engines is the position for transport.
+    pub fn cut(&self, i: u32) -> u32
+        requires { i ≤ length self.now.engines }
+        ensures { result ≡ length (filter (λ call. nat_le i call.1) self.now.row) }
+    {
+        if i == 0 {
+            self.row.len() as u32
+        } else {
+            self.cuts.behind[i as usize - 1]
+        }
+    }
+
+    /// The number and the position of the call at a place, by ascending number, from 0.
+    pub fn standing(&self, i: u32) -> Option<(u32, u32)>
+        ensures { result ≡ slice_get self.now.row i }
+    {
+        if i as usize >= self.row.len() {
+            return None;
+        }
+        let seq = self.row.at(i as usize).call().seq;
+        Some((seq, self.cuts.position(i)))
+    }
+
+    /// The first call that stands for transport.
+    pub fn head(&self) -> Option<&Standing>
+        ensures none { IfNone result (first_at (length self.now.engines) self.now.row ≡ None) }
+        ensures call { IfSome result (λ s. slice_get self.now.calls 0 ≡ Some s.now) }
+        ensures ready { IfSome result (λ s. first_at (length self.now.engines) self.now.row
+            ≡ Some (s.now.call.seq, length self.now.engines)) }
+    {
+        if self.cut(self.engines()) == 0 {
+            return None;
+        }
+        Some(self.row.at(0))
+    }
+
+    /// Takes the first call that stands for transport.
+    pub fn pop_ready(&mut self) -> Option<Standing>
+        ensures none { IfNone result (first_at (length self.old.engines) self.old.row ≡ None) }
+        ensures as_before { IfNone result (self.new ≡ self.old) }
+        ensures call { IfSome result (λ s. self.old.calls ≡ s ∷ self.new.calls) }
+        ensures ready { IfSome result (λ s. self.old.row ≡ (s.call.seq, length self.old.engines) ∷ self.new.row) }
+        ensures engines { self.new.engines ≡ self.old.engines }
+        ensures attached { self.new.attached ≡ self.old.attached }
+    {
+        if self.cut(self.engines()) == 0 {
+            return None;
+        }
+        self.cuts.take_out(0);
+        Some(self.row.take(0))
+    }
+
+    /// Drops all calls.
+    pub fn drop_all(&mut self)
+        ensures { self.new ≡ record self.old { calls = []; row = [] } }
+    {
+        self.cuts.lower_to(0);
+        self.row.clear();
+    }
+
+    // ---- engines
+
+    /// How many engines the chain has.
+    pub fn engines(&self) -> u32
+        ensures count { result ≡ length self.now.engines }
+        ensures few { result ≤ 8 }
+    {
+        self.engines.len() as u32
+    }
+
+    /// The engine at a position.
+    pub fn engine(&self, at: u32) -> &Engine
+        requires { at < length self.now.engines }
+        ensures { slice_get self.now.engines at ≡ Some result.now }
+    {
+        &self.engines[at as usize]
+    }
+
+    /// The level and the cost for which the engine at a position holds the first call there, if it does.
+    pub fn held(&self, at: u32) -> Option<(u64, u64)>
+        requires { at < length self.now.engines }
+        ensures holds { IfSome result (λ h. (e : EngineParts) (s : StandingCall) (moment : ℕ)
+            → slice_get self.now.engines at ≡ Some e → first_at at self.now.row ≡ Some (s.call.seq, at)
+            → Contains self.now.calls s
+            → Answers e.entry.policy e.level moment s.call (past_of s.marks e.entry.attach) (hold h.0 h.1)) }
+        ensures stands { IfSome result (λ _. first_at at self.now.row ≡ None → ⊥) }
+        ensures none { IfNone result ((e : EngineParts) (s : StandingCall) (moment level cost : ℕ)
+            → slice_get self.now.engines at ≡ Some e → first_at at self.now.row ≡ Some (s.call.seq, at)
+            → Contains self.now.calls s
+            → Answers e.entry.policy e.level moment s.call (past_of s.marks e.entry.attach) (hold level cost) → ⊥) }
+    {
+        let place = self.first_place(at)?;
+        self.engines[at as usize].held(self.row.at(place as usize))
+    }
+
+    /// Brings every bucket to a moment; a lower moment counts as the last one.
+    pub fn clock(&mut self, now: u64)
+        ensures engines { self.new.engines ≡ map (λ e. clocked now e) self.old.engines }
+        ensures past { (at : ℕ) (before after : EngineParts) (first : RatePolicy) (start : ℕ)
+            (past : List BucketHappening)
+            → slice_get self.old.engines at ≡ Some before → slice_get self.new.engines at ≡ Some after
+            → HasPast before first start past → HasPast after first start (moment now ∷ past) }
+        ensures attached { self.new.attached ≡ self.old.attached }
+        ensures calls { self.new.calls ≡ self.old.calls }
+        ensures row { self.new.row ≡ self.old.row }
+    {
+        clock_all(self.engines.as_mut_slice(), now);
+    }
+
+    // ---- steps of an operator
+
+    /// Attaches a policy at a position, with a full bucket at this moment, in milliseconds. Calls behind the position
+    /// go back to it.
+    pub fn attach(
+        &mut self,
+        at: u32,
+        name: Name,
+        policy: Policy,
+        now: u64,
+    ) -> Result<(), ChainFault>
+        requires ranges { IsPolicy policy }
+        requires number { self.old.attached + 1 < 2 ^ 32 }
+        ensures refused { IfErr result (λ fault. (label : List ℕ) → IsSomeAnd (refusal_in fault) (λ refusal.
+            Refuses (chain_of self.old) (Op.Attach at name label policy) refusal)) }
+        ensures as_before { OnErr result (self.new ≡ self.old) }
+        ensures changes { OnOk result ((label : List ℕ)
+            → Changes (chain_of self.old) (Op.Attach at name label policy) (chain_of self.new)) }
+        ensures engines { OnOk result (self.new.engines ≡ insert self.old.engines at (record {
+          entry = new_entry name (self.old.attached + 1) policy;
+          level = first_level policy;
+          last = now;
+        })) }
+        ensures past { OnOk result ((e : EngineParts) (rate : RatePolicy) → slice_get self.new.engines at ≡ Some e
+            → policy ≡ Policy.Rate rate → HasPast e rate now []) }
+        ensures attached { OnOk result (self.new.attached ≡ self.old.attached + 1) }
+        ensures calls { self.new.calls ≡ self.old.calls }
+        ensures row { OnOk result (self.new.row ≡ back_to at self.old.row) }
+    {
+        unmarked_is_true();
+        change_is_changed();
+        stays_chain();
+        let name = may_attach(&self.engines, at, name)?;
+        let attached = self.attached + 1;
+        put(
+            &mut self.engines,
+            at as usize,
+            Engine::new(name, attached, policy, now),
+        );
+        self.attached = attached;
+        self.cuts.zero_behind(at as usize);
+        Ok(())
+    }
+
+    /// Detaches the policy of a name. Calls behind it move up by one.
+    pub fn detach(&mut self, name: Name) -> Result<(), ChainFault>
+        ensures refused { IfErr result (λ fault. IsSomeAnd (refusal_in fault) (λ refusal.
+            Refuses (chain_of self.old) (Op.Detach name) refusal)) }
+        ensures as_before { OnErr result (self.new ≡ self.old) }
+        ensures changes { OnOk result (Changes (chain_of self.old) (Op.Detach name) (chain_of self.new)) }
+        ensures engines { OnOk result
+            (self.new.engines ≡ remove self.old.engines (place_in name (chain_of self.old).entries)) }
+        ensures attached { self.new.attached ≡ self.old.attached }
+        ensures calls { self.new.calls ≡ self.old.calls }
+        ensures row { OnOk result (self.new.row ≡ moved_up (place_in name (chain_of self.old).entries) self.old.row) }
+    {
+        change_is_changed();
+        stays_chain();
+        let Some(place) = place_of(&self.engines, &name) else {
+            return Err(ChainFault::NoSuch { name });
+        };
+        let _ = self.engines.remove(place);
+        self.cuts.close_up(place);
+        Ok(())
+    }
+
+    /// Puts another policy of its kind in the place of that of a name; its level pays for as many calls as before.
+    /// Calls behind it go back to it.
+    pub fn upgrade(&mut self, name: Name, policy: Policy) -> Result<(), ChainFault>
+        requires ranges { IsPolicy policy }
+        requires number { All (λ e. e.entry.version + 1 < 2 ^ 32) self.old.engines }
+        ensures refused { IfErr result (λ fault. (label : List ℕ) → IsSomeAnd (refusal_in fault) (λ refusal.
+            Refuses (chain_of self.old) (Op.Upgrade name label policy) refusal)) }
+        ensures as_before { OnErr result (self.new ≡ self.old) }
+        ensures changes { OnOk result ((label : List ℕ)
+            → Changes (chain_of self.old) (Op.Upgrade name label policy) (chain_of self.new)) }
+        ensures engines { OnOk result ((e : EngineParts)
+            → slice_get self.old.engines (place_in name (chain_of self.old).entries) ≡ Some e
+            → self.new.engines ≡ set self.old.engines (place_in name (chain_of self.old).entries) (record {
+              entry = upgraded e.entry policy;
+              level = level_under e.entry.policy policy e.level;
+              last = e.last;
+            })) }
+        ensures past { OnOk result ((before after : EngineParts) (first rate : RatePolicy) (start : ℕ)
+            (past : List BucketHappening)
+            → slice_get self.old.engines (place_in name (chain_of self.old).entries) ≡ Some before
+            → slice_get self.new.engines (place_in name (chain_of self.old).entries) ≡ Some after
+            → policy ≡ Policy.Rate rate → HasPast before first start past
+            → HasPast after first start (upgrade rate ∷ past)) }
+        ensures attached { self.new.attached ≡ self.old.attached }
+        ensures calls { self.new.calls ≡ self.old.calls }
+        ensures row { OnOk result (self.new.row ≡ back_to (place_in name (chain_of self.old).entries) self.old.row) }
+    {
+        change_is_changed();
+        stays_chain();
+        let Some(place) = place_of(&self.engines, &name) else {
+            return Err(ChainFault::NoSuch { name });
+        };
+        if !self.engines[place].policy().is_same_kind(&policy) {
+            return Err(ChainFault::OtherKind { name });
+        }
+        let state = self.engines.remove(place).decompose();
+        put(&mut self.engines, place, Engine::restore(policy, state));
+        self.cuts.zero_behind(place);
+        Ok(())
+    }
+
+    // ---- turns
+
+    /// The engine at a position has a turn with the first call there, from which the marks of engines that have left
+    /// are taken away first. It takes no memory.
+    pub fn turn<Q: Tickets>(&mut self, at: u32, table: &Table, now: u64, tickets: &mut Q) -> Turned
+        requires at { at < length self.old.engines }
+        requires calls { All (λ s. IsCallOf table.now s.call) self.old.calls }
+        requires known { All (λ e. KnowsTenantOf (Q.knows tickets.old) e.entry.policy) self.old.engines }
+        ensures idle { (result ≡ Turned.Idle) ↔ (first_at at self.old.row ≡ None) }
+        ensures as_before { result ≡ Turned.Idle → (self.new ≡ self.old) × (tickets.new ≡ tickets.old) }
+        ensures first { OnTurn result (λ seq outcome. first_at at self.old.row ≡ Some (seq, at)) }
+        ensures turn { OnTurn result (λ seq outcome. HasTurn self.old at now seq outcome self.new) }
+        ensures row { OnTurn result (λ seq outcome. self.new.row ≡ row_after seq outcome self.old.row) }
+        ensures attached { self.new.attached ≡ self.old.attached }
+        ensures tickets { OnTurn result (λ seq outcome. (e : EngineParts) → slice_get self.old.engines at ≡ Some e
+            → LeavesTickets Q.knows Q.drawn Q.since e.entry.policy (noted_in outcome) tickets.old tickets.new) }
+    {
+        let Some(place) = self.first_place(at) else {
+            return Turned::Idle;
+        };
+        self.is_chain();
+        let seq = self.row.at(place as usize).call().seq;
+        let outcome = self.work(place, at, table, now, tickets);
+        self.settle(place, at, outcome);
+        Turned::told(seq, outcome)
+    }
+
+    // The place of the first call at a position, where there is one: behind all calls that stand at later ones.
+    fn first_place(&self, at: u32) -> Option<u32>
+        requires { at < length self.now.engines }
+        ensures none { IfNone result (first_at at self.now.row ≡ None) }
+        ensures place { IfSome result (λ place. place ≡ length (filter (λ call. nat_le (at + 1) call.1) self.now.row)) }
+        ensures below { IfSome result (λ place. place < length (filter (λ call. nat_le at call.1) self.now.row)) }
+        ensures within { IfSome result (λ place. place < length self.now.calls) }
+        ensures first { IfSome result (λ place. (s : StandingCall) → slice_get self.now.calls place ≡ Some s
+            → first_at at self.now.row ≡ Some (s.call.seq, at)) }
+    {
+        let place = self.cuts.behind[at as usize];
+        if place < self.cut(at) {
+            Some(place)
+        } else {
+            None
+        }
+    }
+
+    // The engine at a position works on the call at a place.
+    fn work<Q: Tickets>(
+        &mut self,
+        place: u32,
+        at: u32,
+        table: &Table,
+        now: u64,
+        tickets: &mut Q,
+    ) -> Outcome
+        requires place { place < length self.old.calls }
+        requires at { at < length self.old.engines }
+        requires calls { All (λ s. IsCallOf table.now s.call) self.old.calls }
+        requires known { All (λ e. KnowsTenantOf (Q.knows tickets.old) e.entry.policy) self.old.engines }
+        ensures works { Works self.old.engines self.old.calls at place now result self.new.engines self.new.calls }
+        ensures attached { self.new.attached ≡ self.old.attached }
+        ensures row { self.new.row ≡ self.old.row }
+        ensures tickets { (e : EngineParts) → slice_get self.old.engines at ≡ Some e
+            → LeavesTickets Q.knows Q.drawn Q.since e.entry.policy (noted_in result) tickets.old tickets.new }
+    {
+        self.row.work(
+            place as usize,
+            self.engines.as_mut_slice(),
+            at as usize,
+            table,
+            now,
+            tickets,
+        )
+    }
+
+    // The call at a place, the first at a position, moves as its turn came out.
+    fn settle(&mut self, place: u32, at: u32, outcome: Outcome)
+        requires at { at < length self.old.engines }
+        requires place { place ≡ length (filter (λ call. nat_le (at + 1) call.1) self.old.row) }
+        requires below { place < length (filter (λ call. nat_le at call.1) self.old.row) }
+        ensures row { (s : StandingCall) → slice_get self.old.calls place ≡ Some s
+            → self.new.row ≡ row_after s.call.seq outcome self.old.row }
+        ensures calls { self.new.calls ≡ calls_left outcome place self.old.calls }
+        ensures engines { self.new.engines ≡ self.old.engines }
+        ensures attached { self.new.attached ≡ self.old.attached }
+    {
+        match outcome {
+            Outcome::Passed(_) => self.cuts.raise(at as usize),
+            Outcome::Held { .. } => {}
+            Outcome::Refused(..) => {
+                self.cuts.take_out(place);
+                let _ = self.row.take(place as usize);
+            }
+            Outcome::Redacted => self.cuts.lower_to(place),
+        }
+    }
+}

@@ -1,0 +1,87 @@
+//! Where the calls of a row stand: nine cuts in place of a queue for each engine.
+
+ghost use Rattle.std.specs.Prelude.{◌≡◌, ◌-◌, ◌<◌, ◌≤◌, length, max, min, replicate, slice_index};
+ghost use Rattle.chain_upgrade.specs.Cuts.{position_at, zeroed, closed_up, raised, taken_out, lowered};
+
+use engine_core::MAX_ENGINES;
+
+/// The cuts of positions 1 to 8: how many calls of the row stand at a position or later. They never rise.
+#[derive(Clone, Copy)]
+pub struct Cuts {
+    pub behind: [u32; MAX_ENGINES],
+}
+
+impl Cuts {
+    // All calls stand at position 0.
+    pub fn new() -> Cuts
+        ensures { result.behind ≡ replicate 8 0 }
+    {
+        Cuts {
+            behind: [0; MAX_ENGINES],
+        }
+    }
+
+    // The position of the call at a place.
+    pub fn position(&self, place: u32) -> u32
+        ensures { result ≡ position_at place self.now.behind }
+    {
+        let mut position = 0;
+        for cut in &self.behind {
+            if *cut <= place {
+                return position;
+            }
+            position += 1;
+        }
+        position
+    }
+
+    // All calls behind a position go back to it.
+    pub fn zero_behind(&mut self, at: usize)
+        requires { at ≤ 8 }
+        ensures { self.new.behind ≡ zeroed at self.old.behind }
+    {
+        self.behind[at..].fill(0);
+    }
+
+    // The engine at a position leaves: calls behind it move up by one.
+    pub fn close_up(&mut self, at: usize)
+        requires { at < 8 }
+        ensures { self.new.behind ≡ closed_up at self.old.behind }
+    {
+        self.behind[at..].rotate_left(1);
+        self.behind[MAX_ENGINES - 1] = 0;
+    }
+
+    // The first call at a position goes on.
+    pub fn raise(&mut self, at: usize)
+        requires at { at < 8 }
+        requires room { slice_index self.old.behind at < 64 }
+        ensures raised { self.new.behind ≡ raised at self.old.behind }
+        ensures within { at < length self.old.behind }
+    {
+        self.behind[at] += 1;
+    }
+
+    // The call at a place leaves the row.
+    pub fn take_out(&mut self, place: u32)
+        ensures { self.new.behind ≡ taken_out place self.old.behind }
+    {
+        for cut in self.behind.iter_mut() {
+            *cut = without(*cut, place);
+        }
+    }
+
+    // The call at a place and those behind it begin again.
+    pub fn lower_to(&mut self, place: u32)
+        ensures { self.new.behind ≡ lowered place self.old.behind }
+    {
+        self.behind = self.behind.map(|cut| cut.min(place));
+    }
+}
+
+// A cut without the call at a place.
+fn without(cut: u32, place: u32) -> u32
+    ensures { result ≡ max (min cut place) (cut - 1) }
+{
+    if cut > place { cut - 1 } else { cut }
+}
