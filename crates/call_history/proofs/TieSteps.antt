@@ -107,7 +107,7 @@ takes-on unmarked u past es n calls call s prefix ties apart next is none =
 pub attaches-on : TrueUnmarked → (conn : ℕ) (past : Behind) (es : List EngineParts) (n : ℕ) (calls : List StandingCall) (at : ℕ) (name label : List ℕ) (policy : Policy)
     → AreTied conn past es n calls → Changes (chain past) (Attach at name label policy) (changed (Attach at name label policy) (chain past))
     → AreTied conn (Op (Attach at name label policy) ∷ past)
-      (insert es at (record { entry = new_entry name (n + 1) policy; level = first_level policy; last = moment past })) (n + 1) calls
+    (insert es at (record { entry = new_entry name (n + 1) policy; level = first_level policy; last = moment past })) (n + 1) calls
 attaches-on unmarked conn past es n calls at name label policy ties changes = record {
   same_chain = same;
   engines_behind = All-insert (IsEngineBehind (Op (Attach at name label policy) ∷ past)) es at
@@ -143,8 +143,8 @@ attaches-on unmarked conn past es n calls at name label policy ties changes = re
           notes = All-insert (λ e. past_of s.marks e.entry.attach ≡ noted e.entry.name s.call.seq (Op (Attach at name label policy) ∷ past)) es at
               (record { entry = new_entry name (n + 1) policy; level = first_level policy; last = moment past })
               (all-step (λ e. past_of s.marks e.entry.attach ≡ noted e.entry.name s.call.seq past)
-                (λ e. past_of s.marks e.entry.attach ≡ noted e.entry.name s.call.seq (Op (Attach at name label policy) ∷ past)) es
-                (λ e has is. is ∙ sym (noted-attached_other past at s.call.seq name e.entry.name label policy (no-name e has))) was.notes)
+              (λ e. past_of s.marks e.entry.attach ≡ noted e.entry.name s.call.seq (Op (Attach at name label policy) ∷ past)) es
+              (λ e has is. is ∙ sym (noted-attached_other past at s.call.seq name e.entry.name label policy (no-name e has))) was.notes)
               (rw none (sym (noted-attached past at s.call.seq name label policy)));
           marked = λ attach above. was.marked attach (omega (arith, above));
           true_for = All-insert (λ e. IsTrueFor e.entry s) es at (record { entry = new_entry name (n + 1) policy; level = first_level policy; last = moment past })
@@ -209,7 +209,7 @@ detaches-on stays u past es n calls name p e prefix ties is same =
     record {
       same_chain =
           ap (λ (xs : List Entry). let c : Chain = record { entries = xs; attached = n } in c)
-            (remove-map (λ (e : EngineParts). e.entry) es p ∙ sym (without-named name es p e is_chain.names is same))
+          (remove-map (λ (e : EngineParts). e.entry) es p ∙ sym (without-named name es p e is_chain.names is same))
           ∙ ap (λ (c : Chain). changed (Detach name) c) ties.same_chain;
       engines_behind = All-remove (IsEngineBehind (Op (Detach name) ∷ past)) es p
           (λ k d inside. (let was = ties.engines_behind k d inside in record { level = was.level; last = was.last }));
@@ -234,7 +234,7 @@ pub upgrades-on : StaysChain → (u : Under) (past : Behind) (es : List EnginePa
 upgrades-on stays u past es n calls name label policy p e e' prefix ties is same entry_is level_is last_is true_still = record {
   same_chain =
       ap (λ (xs : List Entry). let c : Chain = record { entries = xs; attached = n } in c)
-        (map-set (λ (e : EngineParts). e.entry) es p e' ∙ (ap (λ (x : Entry). set (map (λ (e : EngineParts). e.entry) es) p x) entry_is ∙ sym (upgraded-named name policy es p e is_chain.names is same)))
+      (map-set (λ (e : EngineParts). e.entry) es p e' ∙ (ap (λ (x : Entry). set (map (λ (e : EngineParts). e.entry) es) p x) entry_is ∙ sym (upgraded-named name policy es p e is_chain.names is same)))
       ∙ ap (λ (c : Chain). changed (Upgrade name label policy) c) ties.same_chain;
   engines_behind = replaced (IsEngineBehind past) (IsEngineBehind (Op (Upgrade name label policy) ∷ past)) es p e e' is_chain.names is_chain.attachments is own other ties.engines_behind;
   calls_behind = λ k d inside. call-kept (get_or calls k d) (ties.calls_behind k d inside);
@@ -303,7 +303,7 @@ shows-on stays u past es n calls now prefix ties later = record {
           ap (λ (l : ℕ). level_at e.entry.policy l (now - e.last)) was.level
           ∙ (ap (λ (m : ℕ). level_at e.entry.policy (level e.entry.name past) (now - m)) was.last
           ∙ ap (λ (found : Option Policy). filled found (now - moment past) (level e.entry.name past))
-            (sym (policy-there past es n e (chained stays u past prefix) ties.same_chain has)));
+          (sym (policy-there past es n e (chained stays u past prefix) ties.same_chain has)));
       last = ap (λ (m : ℕ). max m now) was.last ∙ omega (arith, later);
     }
 

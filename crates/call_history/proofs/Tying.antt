@@ -52,7 +52,6 @@ contains-at (z ∷ zs) (suc p) x is = contains-later z zs x (contains-at zs p x 
 
 -- ---- engines
 
-
 pub named-in : (es : List EngineParts) (e : EngineParts) → Contains es e → Contains (names_of (map (λ e. e.entry) es)) e.entry.name
 named-in es e has = named-there (map (λ (e : EngineParts). e.entry) es) e.entry (contains-map (λ (e : EngineParts). e.entry) es e has)
 
@@ -67,17 +66,17 @@ replaced P Q [] p e e' names attaches is own others all = absurd cc
 replaced P Q (x ∷ es) zero e e' names attaches is own others all =
     let there : x ≡ e = cc in
     All-cons Q e' es own (all-step P Q es (λ y has. others y
-      (λ same. names.0 (subst (λ (n : List ℕ). Contains (names_of (map (λ e. e.entry) es)) n) (same ∙ ap (λ (e : EngineParts). e.entry.name) (sym there)) (named-in es y has)))
-      (λ same. attaches.0 (subst (λ (n : ℕ). Contains (attachments_of (map (λ e. e.entry) es)) n) (same ∙ ap (λ (e : EngineParts). e.entry.attach) (sym there)) (attached-in es y has))))
-      (All-tail P x es all))
+    (λ same. names.0 (subst (λ (n : List ℕ). Contains (names_of (map (λ e. e.entry) es)) n) (same ∙ ap (λ (e : EngineParts). e.entry.name) (sym there)) (named-in es y has)))
+    (λ same. attaches.0 (subst (λ (n : ℕ). Contains (attachments_of (map (λ e. e.entry) es)) n) (same ∙ ap (λ (e : EngineParts). e.entry.attach) (sym there)) (attached-in es y has))))
+    (All-tail P x es all))
 replaced P Q (x ∷ es) (suc p) e e' names attaches is own others all =
     let has = contains-at es p e is in
     All-cons Q x (set es p e')
-      (others x
-        (λ same. names.0 (subst (λ (n : List ℕ). Contains (names_of (map (λ e. e.entry) es)) n) (sym same) (named-in es e has)))
-        (λ same. attaches.0 (subst (λ (n : ℕ). Contains (attachments_of (map (λ e. e.entry) es)) n) (sym same) (attached-in es e has)))
-        (All-head P x es all))
-      (replaced P Q es p e e' names.1 attaches.1 is own others (All-tail P x es all))
+    (others x
+    (λ same. names.0 (subst (λ (n : List ℕ). Contains (names_of (map (λ e. e.entry) es)) n) (sym same) (named-in es e has)))
+    (λ same. attaches.0 (subst (λ (n : ℕ). Contains (attachments_of (map (λ e. e.entry) es)) n) (sym same) (attached-in es e has)))
+    (All-head P x es all))
+    (replaced P Q es p e e' names.1 attaches.1 is own others (All-tail P x es all))
 
 -- a call in the place of another of its number
 pub replaced-call : (P Q : StandingCall → Type 0) (calls : List StandingCall) (j : ℕ) (s s' : StandingCall) → AreNumbersApart calls → slice_get calls j ≡ Some s
@@ -88,7 +87,7 @@ replaced-call P Q (x ∷ calls) zero s s' apart is own others all =
     All-cons Q s' calls own (λ k d inside. others (get_or calls k d) (λ same. apart.0 k d inside (same ∙ ap (λ (s : StandingCall). s.call.seq) (sym there))) (All-tail P x calls all k d inside))
 replaced-call P Q (x ∷ calls) (suc j) s s' apart is own others all =
     All-cons Q x (set calls j s') (others x (λ same. All-at (λ (t : StandingCall). t.call.seq ≢ x.call.seq) calls j s apart.0 is (sym same)) (All-head P x calls all))
-      (replaced-call P Q calls j s s' apart.1 is own others (All-tail P x calls all))
+    (replaced-call P Q calls j s s' apart.1 is own others (All-tail P x calls all))
 
 -- looking a name up gives its entry
 pub find-there : (es : List Entry) (e : Entry) → AreDistinct (names_of es) → Contains es e → find (is_named e.name) es ≡ Some e
