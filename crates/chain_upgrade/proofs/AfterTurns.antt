@@ -30,11 +30,6 @@ module _ (es : List EngineParts) (room n p j moment : ℕ) (calls : List Standin
   work-row v seen = ap (λ (seqs : List ℕ). row_from 0 cuts seqs) (same-numbers es n p j moment calls outcome es' calls' kept.stands w)
       ∙ ap (λ (v : ChainParts). v.row) seen
 
-pub works-seen : (es : List EngineParts) (n p j moment : ℕ) (calls : List StandingCall) (cuts : List ℕ) (outcome : Outcome) (es' : List EngineParts)
-    (calls' : List StandingCall) (v : ChainParts) → seen-of es n calls cuts ≡ v → Works es calls p j moment outcome es' calls'
-    → Works v.engines v.calls p j moment outcome es' calls'
-works-seen es n p j moment calls cuts outcome es' calls' v seen w = subst (λ (v : ChainParts). Works v.engines v.calls p j moment outcome es' calls') seen w
-
 -- ---- where calls stand then
 
 module _ (es : List EngineParts) (room n p j : ℕ) (calls : List StandingCall) (cuts : List ℕ) (v : ChainParts) (seen : seen-of es n calls cuts ≡ v)

@@ -6,10 +6,10 @@ use Rattle.chain_upgrade.specs.Cuts.{position_at, cut_at, IsFalling, IsShort, ze
 
 -- ---- positions
 
-pub over : (k c : ℕ) (cs : List ℕ) → k < c → position_at k (c ∷ cs) ≡ position_at k cs + 1
+over : (k c : ℕ) (cs : List ℕ) → k < c → position_at k (c ∷ cs) ≡ position_at k cs + 1
 over k c cs above = grind (arith, nat_tests)
 
-pub under : (k c : ℕ) (cs : List ℕ) → c ≤ k → position_at k (c ∷ cs) ≡ 0
+under : (k c : ℕ) (cs : List ℕ) → c ≤ k → position_at k (c ∷ cs) ≡ 0
 under k c cs below = grind (arith, nat_tests)
 
 pub bottom : (k top : ℕ) (cs : List ℕ) → IsFalling top cs → top ≤ k → position_at k cs ≡ 0
@@ -37,7 +37,7 @@ cut-low top (suc p) [] falls = omega arith
 cut-low top (suc zero) (c ∷ cs) falls = falls.0
 cut-low top (suc (suc p)) (c ∷ cs) falls = omega (arith, falls.0, cut-low c (suc p) cs falls.1)
 
-pub cut-next : (top p c : ℕ) (cs : List ℕ) → cut_at top (c ∷ cs) (suc p) ≡ cut_at c cs p
+cut-next : (top p c : ℕ) (cs : List ℕ) → cut_at top (c ∷ cs) (suc p) ≡ cut_at c cs p
 cut-next top zero c cs = refl
 cut-next top (suc p) c cs = refl
 

@@ -1,6 +1,5 @@
 mod AfterTurns
 mod Clocks
-mod CutCode
 mod CutLaws
 mod KeepLaws
 mod Keeping

@@ -8,18 +8,12 @@ use Rattle.engine_core.specs.Marks.{StandingCall}
 use Rattle.engine_core.specs.Moves.{Row, first_at}
 use Rattle.chain_upgrade.specs.Chains.{ChainParts, IsAscending, numbers_of}
 use Rattle.chain_upgrade.specs.Cuts.{position_at, row_from, cut_at, IsFalling, IsShort, taken_out}
-use Rattle.chain_upgrade.proofs.CutLaws.{cut-low, cut-next, position-between}
+use Rattle.chain_upgrade.proofs.CutLaws.{cut-low, position-between}
 use Rattle.chain_upgrade.proofs.Keeping.{cut-none, cut-some, same-fall, seen-of}
 use Rattle.chain_upgrade.proofs.RowLaws.{apart, filter-in, filter-out, find-later, unequal, row-at, row-first, row-no-first, row-none-at, row-rest}
 use Rattle.chain_upgrade.proofs.Stands.{inside-at, number-at}
 
 -- ---- cuts
-
--- no more calls stand behind a position than at it or behind it
-pub next-low : (top p : ℕ) (cs : List ℕ) → IsFalling top cs → get_or cs p 0 ≤ cut_at top cs p
-next-low top p [] falls = omega arith
-next-low top zero (c ∷ cs) falls = falls.0
-next-low top (suc p) (c ∷ cs) falls = omega (arith, cut-next top p c cs, next-low c p cs falls.1)
 
 -- none stands behind the position for transport
 pub short-at : (n : ℕ) (cs : List ℕ) → IsShort n cs → get_or cs n 0 ≡ 0
@@ -113,10 +107,6 @@ none-counted n (x ∷ xs) none = elim (cases_lt x.1 n) [
       let here = filter-in (λ call. nat_le n call.1) x xs (at-least n x.1 more) in
       absurd (omega (arith, ap (λ (row : Row). length row) here))
 ]
-
-pub first-rest : {X : Type 0} (xs : List X) (x : X) → slice_get xs 0 ≡ Some x → xs ≡ x ∷ remove xs 0
-first-rest [] x is = absurd cc
-first-rest {X = X} (y ∷ ys) x is = let there : y ≡ x = cc in ap (λ (y : X). y ∷ ys) there
 
 -- it stands for transport, and leaves
 pub row-ready : (es : List EngineParts) (n : ℕ) (calls : List StandingCall) (cuts : List ℕ) (v : ChainParts) (s : StandingCall)

@@ -229,28 +229,6 @@ put-back [] p x inside = absurd (omega arith)
 put-back (y ∷ ys) zero x inside = refl
 put-back (y ∷ ys) (suc p) x inside = let rest = put-back ys p x (omega arith) in cc
 
--- the first engine of a name
-pub first_place : (es : List EngineParts) (k : ℕ) (d : EngineParts) (name : List ℕ) → k < length es
-    → ((j : ℕ) (e : EngineParts) → j < k → (get_or es j e).entry.name ≡ name → ⊥) → (get_or es k d).entry.name ≡ name
-    → place_of name (map (λ e. e.entry) es) ≡ k
-first_place [] k d name inside before same = absurd (omega arith)
-first_place (x ∷ xs) zero d name inside before same = let mine = named-is name x.entry same in rw mine refl
-first_place (x ∷ xs) (suc k) d name inside before same =
-    let other = other-is name x.entry (λ mine. before 0 d (omega arith) mine) in
-    let rest = first_place xs k d name (omega arith) (λ j e less mine. before (suc j) e (omega arith) mine) same in
-    rw other (omega arith)
-
-none-at : (es : List EngineParts) (name : List ℕ) (k : ℕ) → ((j : ℕ) (e : EngineParts) → j < length es → (get_or es j e).entry.name ≡ name → ⊥)
-    → k < length (names_of (map (λ e. e.entry) es)) → get_or (names_of (map (λ e. e.entry) es)) k name ≡ name → ⊥
-none-at [] name k none inside same = omega arith
-none-at (x ∷ xs) name zero none inside same = none 0 x (omega arith) same
-none-at (x ∷ xs) name (suc k) none inside same = none-at xs name k (λ j e less mine. none (suc j) e (omega arith) mine) (omega arith) same
-
--- no engine has the name
-pub none_there : (es : List EngineParts) (name : List ℕ) → ((j : ℕ) (e : EngineParts) → j < length es → (get_or es j e).entry.name ≡ name → ⊥)
-    → Contains (names_of (map (λ e. e.entry) es)) name → ⊥
-none_there es name none has = none-at es name has.0 none has.1 has.2
-
 pub has_first : (es : List EngineParts) (k : ℕ) (d : EngineParts) (name : List ℕ) → k < length es → (get_or es k d).entry.name ≡ name
     → Contains (names_of (map (λ e. e.entry) es)) name
 has_first [] k d name inside same = absurd (omega arith)

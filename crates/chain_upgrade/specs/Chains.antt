@@ -2,6 +2,7 @@
 use Rattle.std.specs.Prelude.{◌≡◌, ℕ, ◌-◌, ◌<◌, ◌≤◌, max, List, [], ◌∷◌, ◌++◌, map, length, set, slice_get, All, Option, Some, None}
 use Rattle.engine_core.specs.Chains.{Chain, IsChain, Refusal, no_such, taken, no_place, full, other_kind}
 use Rattle.engine_core.specs.Engines.{EngineParts}
+use Rattle.engine_core.specs.declared.call_row.TheConstants.{MAX_CALLS}
 use Rattle.engine_core.specs.Marks.{IsTrueFor, StandingCall, note_of, past_of}
 use Rattle.engine_core.specs.Moves.{Row, goes_on, without_call, begin_again}
 use Rattle.engine_core.specs.Policies.{IsPolicy, level_at}
@@ -63,7 +64,7 @@ pub record StandsOn (engines : List EngineParts) (attached : ℕ) (calls : List 
   pub chain : IsChain (record { entries = map (λ e. e.entry) engines; attached = attached })
   pub policies : All (λ e. IsPolicy e.entry.policy) engines
   -- at most 64 calls, by ascending number
-  pub few : length calls ≤ 64
+  pub few : length calls ≤ MAX_CALLS
   pub ascend : IsAscending (numbers_of calls)
   -- marks are of attachments that were, and true for each entry
   pub marks : All (λ s. HasMarksUpTo attached s) calls

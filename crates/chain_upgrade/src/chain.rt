@@ -52,6 +52,7 @@ impl Model for Chain {
 impl Chain {
     ghost use Rattle.policy_rate.specs.declared.rate.Rate.{Rate as RatePolicy};
     ghost use Rattle.policy_rate.specs.Level.{BucketHappening, moment, upgrade};
+    ghost use Rattle.engine_core.specs.declared.call_row.TheConstants.{MAX_CALLS};
     ghost use Rattle.engine_core.specs.Answers.{Answers, hold};
     ghost use Rattle.engine_core.specs.Chains.{Changes, Refuses, new_entry, upgraded};
     ghost use Rattle.engine_core.specs.Engines.{EngineParts, HasPast};
@@ -85,11 +86,11 @@ impl Chain {
 
     // ---- calls
 
-    /// Puts a call behind the others, at position 0. Where 64 calls stand it is given back.
+    /// Puts a call behind the others, at position 0. Where `MAX_CALLS` stand it is given back.
     pub fn push(&mut self, call: Standing) -> Result<(), PushFault>
         requires unmarked { call.marks ≡ [] }
         requires greater { All (λ s. s.call.seq < call.call.seq) self.old.calls }
-        ensures full { IsErr result ↔ (length self.old.calls ≡ 64) }
+        ensures full { IsErr result ↔ (length self.old.calls ≡ MAX_CALLS) }
         ensures given_back { IfErr result (λ fault. fault ≡ PushFault.Standing call) }
         ensures as_before { OnErr result (self.new ≡ self.old) }
         ensures stands { OnOk result (self.new ≡ record self.old {

@@ -23,6 +23,6 @@ pub enum ChainFault {
 /// Why a chain takes no further call.
 #[derive(Drop)]
 pub enum PushFault {
-    /// 64 calls stand, as many as may; the call is given back.
+    /// `MAX_CALLS` stand, as many as may; the call is given back.
     Standing(Standing),
 }
