@@ -101,7 +101,8 @@ calls_after (outcomes.Refused noted why) front call back = front ++ back
 calls_after _ front call back = front ++ call ∷ back
 
 -- the engine at a position has a turn with the call of a number: `call'` and `engine'` are what it leaves of them
-pub record HasTurn (before : ChainParts) (position moment seq : ℕ) (outcome : Outcome) (after : ChainParts) : Type 0 where
+pub record HasTurn (before : ChainParts) (position moment seq : ℕ) (outcome : Outcome)
+    (after : ChainParts) : Type 0 where
   pub engine : EngineParts
   pub engine' : EngineParts
   pub is_engine : slice_get before.engines position ≡ Some engine
@@ -114,7 +115,8 @@ pub record HasTurn (before : ChainParts) (position moment seq : ℕ) (outcome : 
   pub stood : before.calls ≡ front ++ call ∷ back
   pub calls : after.calls ≡ calls_after outcome front call' back
   -- the turn is that of an entry of which the marks say what was noted
-  pub comes : ComesOut engine.entry.policy engine.level moment call.call (past_of call.marks engine.entry.attach) outcome
+  pub comes : ComesOut engine.entry.policy engine.level moment call.call
+      (past_of call.marks engine.entry.attach) outcome
   -- the call as the engine meets it, with the marks of the chain's engines alone
   pub met : StandingCall
   pub keeps : KeepsMarksOf before.engines call met

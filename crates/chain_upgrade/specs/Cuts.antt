@@ -1,5 +1,6 @@
--- How a chain keeps the positions of its calls by cuts: the code's own. The cut of a position, from 1, is how many calls
--- stand at it or later, and the calls are numbered by their places, from 0. No other definition imports this module.
+-- How a chain keeps the positions of its calls by cuts: the code's own. The cut of a position, from 1, is how many
+-- calls stand at it or later, and the calls are numbered by their places, from 0. No other definition imports this
+-- module.
 use Rattle.std.specs.Prelude.{◌≡◌, ℕ, ◌+◌, ◌-◌, ◌≤◌, zero, suc, nat_lt, max, min, List, [], ◌∷◌, ◌++◌, map, set, slice_index, if◌then◌else◌}
 use Rattle.engine_core.specs.Moves.{Row}
 

@@ -9,7 +9,8 @@ use Rattle.chain_upgrade.specs.declared.turned.Turned.TheVariants as turns
 use Rattle.chain_upgrade.specs.Chains.{StandsOn}
 use Rattle.chain_upgrade.specs.Cuts.{IsFalling, IsShort}
 
-pub record IsKept (engines : List EngineParts) (room attached : ℕ) (calls : List StandingCall) (cuts : List ℕ) : Type 0 where
+pub record IsKept (engines : List EngineParts) (room attached : ℕ) (calls : List StandingCall)
+    (cuts : List ℕ) : Type 0 where
   pub stands : StandsOn engines attached calls
   pub falls : IsFalling (length calls) cuts
   pub short : IsShort (length engines) cuts
