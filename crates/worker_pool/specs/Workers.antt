@@ -1,0 +1,58 @@
+-- The code's own: what a worker holds and keeps.
+use Rattle.std.specs.Prelude.{◌≡◌, ◌≤◌, List, Option, false, true, length}
+use Rattle.std.specs.Vec.{vec_capacity}
+use Rattle.crossbeam_queue.specs.Passes.{Pass, IsPassOf, IsSamePass, ruled_capacity, view}
+use Rattle.crossbeam_queue.specs.declared.array_queue.Doing.{Doing}
+use Rattle.crossbeam_queue.specs.declared.array_queue.Slotted.{Slotted}
+use Rattle.worker_pool.specs.declared.hand.Hand.{Hand}
+use Rattle.worker_pool.specs.declared.hand.Numbered.{Numbered}
+use Rattle.worker_pool.specs.declared.worker.Worker.{Worker}
+use Rattle.worker_pool.specs.declared.limits.TheConstants.{MOST_ITEMS}
+use Rattle.worker_pool.specs.Rule.{Every, IsOneOf, numbers_of}
+
+-- the queue of a pool of such items
+abbrev pub LineOf : Type 0 → Type 0 → Type 0 → Type 0
+LineOf T Q A = Slotted (Option (Numbered T)) (Doing (Numbered T) (Hand T)) Q A
+
+module _ {T : Type 0} where
+  -- a pass of a pool's queue
+  pub record IsLinePass {Q A : Type 0} (q : LineOf T Q A) (p : Pass (Numbered T) (Hand T)) : Type 0 where
+    pub of_queue : IsPassOf q p
+    pub places : ruled_capacity q ≡ MOST_ITEMS
+
+  -- a worker keeps the items that it holds, in the order in which it came to hold them, and has room for all there are;
+  -- each is one that was handed in, later on, and unless the worker was stopped, it is over
+  pub record IsWorker (since : T → T → Type 0) (over : T → Type 0) (w : Worker T) : Type 0 where
+    pub held : (view w.pass).held ≡ numbers_of w.kept.items
+    pub room : length (view w.pass).firsts ≤ vec_capacity w.kept
+    pub ones : Every (IsOneOf since (view w.pass).firsts) w.kept.items
+    pub ends : w.stopped ≡ false → Every (λ x. over x.item) w.kept.items
+
+  -- a worker later on: it has the same pass, with as many parts, and knows the same items as they were handed in
+  pub record GoesOn (old new : Worker T) : Type 0 where
+    pub pass : IsSamePass old.pass new.pass
+    pub parts : (view new.pass).parts ≡ (view old.pass).parts
+    pub firsts : (view new.pass).firsts ≡ (view old.pass).firsts
+
+  -- a worker whose pass knows these items as they were handed in
+  abbrev pub Knows : List T → Worker T → Type 0
+  Knows firsts w = (view w.pass).firsts ≡ firsts
+
+  -- a worker of this queue that hasn't begun, with one part
+  pub record IsFresh {Q A : Type 0} (since : T → T → Type 0) (over : T → Type 0)
+      (q : LineOf T Q A) (w : Worker T) : Type 0 where
+    pub line : IsLinePass q w.pass
+    pub part : (view w.pass).parts ≡ 1
+    pub keeps : IsWorker since over w
+    pub on : w.stopped ≡ false
+
+  -- a worker of this queue, with one part, which knows these items
+  pub record IsOfRun {Q A : Type 0} (q : LineOf T Q A) (firsts : List T) (w : Worker T) : Type 0 where
+    pub line : IsLinePass q w.pass
+    pub part : (view w.pass).parts ≡ 1
+    pub knows : Knows firsts w
+
+  -- a worker that has ended: it was stopped only with this cause
+  pub record HasEnded (since : T → T → Type 0) (over : T → Type 0) (Cause : Type 0) (w : Worker T) : Type 0 where
+    pub keeps : IsWorker since over w
+    pub cause : w.stopped ≡ true → Cause

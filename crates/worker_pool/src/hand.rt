@@ -1,0 +1,106 @@
+// What each pass of a pool's queue knows, and what its steps tell. No value of `Hand` is made.
+use crate::visited::Visited;
+use crossbeam_queue::protocol::{Join, Lesson, Outcome, Protocol, Split};
+use crossbeam_queue::{Pass, RuledArrayQueue};
+use std::collections::LinkedList;
+
+// An item with its number: its place among the items of the run.
+#[derive(Drop)]
+pub struct Numbered<T> {
+    pub number: usize,
+    pub item: T,
+}
+
+// What one pass has of the right to know the whole, in parts; the numbers of the items that it holds, one in hand last,
+// before it those that are over; and all items as they were handed in, by number.
+pub struct Hand<T> {
+    pub parts: u64,
+    pub held: LinkedList<usize>,
+    pub firsts: LinkedList<T>,
+}
+
+// The queue of a pool, and its passes.
+pub(crate) type Line<T> = RuledArrayQueue<Numbered<T>, Hand<T>, Pooling>;
+
+pub(crate) type LinePass<T> = Pass<Numbered<T>, Hand<T>>;
+
+// Each number stands once.
+pub struct Pooling;
+
+impl<T: Visited> Protocol<Numbered<T>, Hand<T>> for Pooling {
+    ghost use Rattle.std.specs.Prelude.{[]};
+    ghost use Rattle.worker_pool.specs.Rule.{IsPooled, all_parts, hand};
+
+    ghost holds = { IsPooled T.since };
+
+    ghost first = { hand all_parts [] [] };
+}
+
+// A new item comes, with the next number. Only a pass that has all parts may bring one.
+pub struct Enters;
+
+impl<T> Outcome<Numbered<T>, Hand<T>> for Enters {
+    ghost use Rattle.std.specs.Prelude.{◌≡◌, [], ◌∷◌, ◌++◌};
+    ghost use Rattle.worker_pool.specs.Rule.{hand};
+
+    ghost then = { λ v x w. w ≡ hand v.parts v.held (v.firsts ++ x.item ∷ []) };
+}
+
+impl<T> Lesson<Numbered<T>, Hand<T>> for Enters {
+    ghost use Rattle.worker_pool.specs.Rule.{FindRoom};
+
+    ghost fact = { FindRoom };
+}
+
+// The oldest item comes into the hand.
+pub struct Takes;
+
+impl<T: Visited> Outcome<Numbered<T>, Hand<T>> for Takes {
+    ghost use Rattle.worker_pool.specs.Rule.{Took};
+
+    ghost then = { Took T.since };
+}
+
+// Where the queue is empty, a pass that has all parts holds every item.
+impl<T> Lesson<Numbered<T>, Hand<T>> for Takes {
+    ghost use Rattle.worker_pool.specs.Rule.{HoldOnce};
+
+    ghost fact = { HoldOnce };
+}
+
+// The item in the hand goes back behind those that wait.
+pub struct Returns;
+
+impl<T> Outcome<Numbered<T>, Hand<T>> for Returns {
+    ghost use Rattle.std.specs.Prelude.{◌≡◌};
+    ghost use Rattle.worker_pool.specs.Rule.{hand, without_last};
+
+    ghost then = { λ v x w. w ≡ hand v.parts (without_last v.held) v.firsts };
+}
+
+impl<T> Lesson<Numbered<T>, Hand<T>> for Returns {
+    ghost use Rattle.worker_pool.specs.Rule.{FindRoom};
+
+    ghost fact = { FindRoom };
+}
+
+// One part goes to a pass for a worker, and comes back with what that holds.
+pub struct Shares;
+
+impl<T> Split<Hand<T>> for Shares {
+    ghost use Rattle.std.specs.Prelude.{[], ◌-◌};
+    ghost use Rattle.worker_pool.specs.Rule.{hand};
+
+    ghost left = { λ v. hand (v.parts - 1) v.held v.firsts };
+
+    ghost right = { λ v. hand 1 [] v.firsts };
+}
+
+impl<T> Join<Hand<T>> for Shares {
+    ghost use Rattle.std.specs.Prelude.{[], ◌++◌, ◌+◌};
+    ghost use Rattle.worker_pool.specs.Rule.{hand};
+
+    ghost both = { λ v w. hand (v.parts + w.parts) (v.held ++ w.held) v.firsts };
+
+    ghost spent = { hand 0 [] [] };
+}

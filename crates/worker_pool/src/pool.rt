@@ -1,0 +1,196 @@
+ghost use Rattle.std.specs.Prelude.{◌≡◌, ◌<◌, ◌≤◌, ◌+◌, List, [], ◌∷◌, ◌++◌, true, false, All, IfOk, OnOk, length};
+ghost use Rattle.std.specs.List.{AllZip};
+ghost use Rattle.std.specs.Vec.{vec_capacity};
+ghost use Rattle.crossbeam_queue.specs.Passes.{view, IsSamePass};
+ghost use Rattle.worker_pool.specs.Rule.{all_parts, hand};
+ghost use Rattle.worker_pool.specs.Workers.{HasEnded, IsFresh, IsLinePass, IsOfRun, Knows};
+ghost use Rattle.worker_pool.specs.Later.{IsLater};
+ghost use Rattle.worker_pool.specs.declared.limits.TheConstants.{MOST_ITEMS, MOST_WORKERS};
+
+use crate::hand::{Enters, Line, LinePass, Numbered, Shares};
+use crate::limits::{MOST_ITEMS, MOST_WORKERS};
+use crate::stop::StopFlag;
+use crate::visited::Visited;
+use crate::worker::Worker;
+use std::alloc::{AllocError, Global};
+use std::sync::Wait;
+use std::sync::atomic::AtomicU64;
+use std::thread;
+use std::thread::Threads;
+
+/// What a run gives back.
+#[derive(Drop)]
+pub struct Ran<T> {
+    /// The items, each at the place at which it was handed in.
+    pub items: Vec<T>,
+    /// Whether the stop flag was seen to be set. If not, each item is over.
+    pub stopped: bool,
+}
+
+/// Visits items by so many workers, until all are over or the flag is set, and gives them back. Items are numbered by
+/// their places in the list. Where no thread can be made, the workers run one after another.
+///
+/// It fails only where no memory was found, and then all items are dropped. Whatever it needs is taken before the first
+/// visit, but for what the start of threads takes.
+pub fn run<R: Threads + Wait + Sync, T: Visited + Send + Drop, S: StopFlag>(
+    rt: &R,
+    alloc: Global,
+    items: Vec<T>,
+    workers: usize,
+    stop: &S,
+) -> Result<Ran<T>, AllocError>
+    requires few_items { length items.items ≤ MOST_ITEMS }
+    requires some_worker { 1 ≤ workers }
+    requires few_workers { workers ≤ MOST_WORKERS }
+    ensures each { IfOk result (λ ran. AllZip (IsLater T.since) items.items ran.items.items) }
+    ensures over { IfOk result (λ ran. ran.stopped ≡ false → All T.over ran.items.items) }
+    ensures stopped { IfOk result (λ ran. ran.stopped ≡ true → S.may_stop stop.now) }
+{
+    let count = items.len();
+    let back = Vec::with_capacity(alloc, count)?;
+    let (line, mut pass) = Line::<T>::ruled(alloc, MOST_ITEMS)?;
+    enter_all(rt, &line, &mut pass, items);
+    let jobs = start(alloc, &line, &mut pass, workers, count)?;
+    let mut all = Worker {
+        pass,
+        kept: Vec::with_capacity(alloc, count)?,
+        stopped: false,
+    };
+    let left = AtomicU64::new(count as u64);
+    let ended = work_beside(rt, &line, &left, stop, jobs)?;
+    absorb_all(&line, &mut all, ended, stop)?;
+    all.finish(rt, &line, stop);
+    Ok(all.into_items(back))
+}
+
+// Puts the items into the queue, each with its place for its number.
+fn enter_all<R: Wait, T: Visited + Drop>(
+    rt: &R,
+    line: &Line<T>,
+    pass: &mut LinePass<T>,
+    items: Vec<T>,
+)
+    requires pass { IsLinePass line.now pass.old }
+    requires view { view pass.old ≡ hand all_parts [] [] }
+    requires few { length items.items ≤ MOST_ITEMS }
+    ensures pass { IsSamePass pass.old pass.new }
+    ensures view { view pass.new ≡ hand all_parts [] items.items }
+{
+    let mut rest = items.into_iter();
+    let mut number = 0;
+    while let Some(item) = rest.next() {
+        enter(rt, line, pass, Numbered { number, item });
+        number += 1;
+    }
+}
+
+// Puts an item into the queue, with the next number.
+fn enter<R: Wait, T: Visited>(rt: &R, line: &Line<T>, pass: &mut LinePass<T>, numbered: Numbered<T>)
+    requires pass { IsLinePass line.now pass.old }
+    requires all { (view pass.old).parts ≡ all_parts }
+    requires next { numbered.number ≡ length (view pass.old).firsts }
+    requires few { length (view pass.old).firsts < MOST_ITEMS }
+    ensures pass { IsSamePass pass.old pass.new }
+    ensures view { view pass.new
+        ≡ hand (view pass.old).parts (view pass.old).held ((view pass.old).firsts ++ numbered.item ∷ []) }
+{
+    match line.push_as::<Enters, R>(rt, pass, numbered) {
+        Ok(()) => (),
+        Err(_) => unreachable!(),
+    }
+}
+
+// So many workers, each with one part and with room for every item.
+fn start<T: Visited + Drop>(
+    alloc: Global,
+    line: &Line<T>,
+    pass: &mut LinePass<T>,
+    workers: usize,
+    count: usize,
+) -> Result<Vec<Worker<T>>, AllocError>
+    requires pass { IsLinePass line.now pass.old }
+    requires parts { workers < (view pass.old).parts }
+    requires room { length (view pass.old).firsts ≤ count }
+    ensures pass { IsSamePass pass.old pass.new }
+    ensures len { IfOk result (λ jobs. length jobs.items ≡ workers) }
+    ensures parts { OnOk result ((view pass.new).parts + workers ≡ (view pass.old).parts) }
+    ensures held { (view pass.new).held ≡ (view pass.old).held }
+    ensures firsts { (view pass.new).firsts ≡ (view pass.old).firsts }
+    ensures fresh { IfOk result (λ jobs. All (IsFresh T.since T.over line.now) jobs.items) }
+    ensures know { IfOk result (λ jobs. All (Knows (view pass.old).firsts) jobs.items) }
+{
+    let mut jobs = Vec::with_capacity(alloc, workers)?;
+    while jobs.len() < workers {
+        let kept = Vec::with_capacity(alloc, count)?;
+        jobs.push_reserved(share(line, pass, kept));
+    }
+    Ok(jobs)
+}
+
+// A worker with one of the pass's parts, and with an empty list that has room for every item.
+fn share<T: Visited>(line: &Line<T>, pass: &mut LinePass<T>, kept: Vec<Numbered<T>>) -> Worker<T>
+    requires pass { IsLinePass line.now pass.old }
+    requires parts { 1 < (view pass.old).parts }
+    requires none { kept.items ≡ [] }
+    requires room { length (view pass.old).firsts ≤ vec_capacity kept }
+    ensures pass { IsSamePass pass.old pass.new }
+    ensures parts { (view pass.new).parts + 1 ≡ (view pass.old).parts }
+    ensures held { (view pass.new).held ≡ (view pass.old).held }
+    ensures firsts { (view pass.new).firsts ≡ (view pass.old).firsts }
+    ensures fresh { IsFresh T.since T.over line.now result }
+    ensures knows { Knows (view pass.old).firsts result }
+{
+    Worker {
+        pass: line.another::<Shares>(pass),
+        kept,
+        stopped: false,
+    }
+}
+
+// Lets workers work beside each other, up to the end of each.
+fn work_beside<R: Threads + Wait + Sync, T: Visited + Send + Drop, S: StopFlag>(
+    rt: &R,
+    line: &Line<T>,
+    left: &AtomicU64,
+    stop: &S,
+    jobs: Vec<Worker<T>>,
+) -> Result<Vec<Worker<T>>, AllocError>
+    requires fresh { All (IsFresh T.since T.over line.now) jobs.items }
+    ensures len { IfOk result (λ ended. length ended.items ≡ length jobs.items) }
+    ensures of_run { (firsts : List T) → All (Knows firsts) jobs.items
+        → IfOk result (λ ended. All (IsOfRun line.now firsts) ended.items) }
+    ensures ended { IfOk result (λ ended. All (HasEnded T.since T.over (S.may_stop stop.now)) ended.items) }
+{
+    thread::map_vec(
+        rt,
+        jobs,
+        &|worker: Worker<T>| -> Worker<T>
+            requires fresh { IsFresh T.since T.over line.now worker }
+            ensures ended { HasEnded T.since T.over (S.may_stop stop.entry.now) result }
+            ensures of_run { IsOfRun line.entry.now (view worker.pass).firsts result }
+        { worker.work(rt, line, left, stop) },
+    )
+}
+
+// Takes in all workers.
+fn absorb_all<T: Visited + Drop, S: StopFlag>(
+    line: &Line<T>,
+    all: &mut Worker<T>,
+    mut ended: Vec<Worker<T>>,
+    _stop: &S,
+) -> Result<(), AllocError>
+    requires pass { IsLinePass line.now all.old.pass }
+    requires part { 0 < (view all.old.pass).parts }
+    requires all { HasEnded T.since T.over (S.may_stop _stop.now) all.old }
+    requires of_run { All (IsOfRun line.now (view all.old.pass).firsts) ended.items }
+    requires ended { All (HasEnded T.since T.over (S.may_stop _stop.now)) ended.items }
+    ensures pass { IsSamePass all.old.pass all.new.pass }
+    ensures parts { OnOk result ((view all.new.pass).parts ≡ (view all.old.pass).parts + length ended.items) }
+    ensures firsts { (view all.new.pass).firsts ≡ (view all.old.pass).firsts }
+    ensures all { OnOk result (HasEnded T.since T.over (S.may_stop _stop.now) all.new) }
+{
+    while let Some(worker) = ended.pop() {
+        all.absorb(line, worker)?;
+    }
+    Ok(())
+}
