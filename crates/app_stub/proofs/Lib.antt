@@ -1,0 +1,6 @@
+mod Copied
+mod Echoings
+mod Listing
+mod Parting
+mod Rows
+mod Served

@@ -1,0 +1,6 @@
+pub mod Desks
+pub mod Echoing
+pub mod Pairing
+pub mod Ports
+pub mod Programs
+pub mod Serving

@@ -1,0 +1,181 @@
+//! Clients.
+
+ghost use Rattle.std.specs.Prelude.{◌≡◌, ◌<◌, ◌≤◌, ◌+◌, ◌^◌, ◌++◌, ℕ, List, false, [], IfOk, OnOk, OnErr, IfSome, IfNone, IsTrue, length, map};
+ghost use Rattle.app_stub.specs.Pairing.{IsPaired};
+ghost use Rattle.app_stub.specs.Ports.{HasSent, IsNew, IsOfPort, TookAll};
+ghost use Rattle.app_stub.specs.Programs.{IsClientLine, IsClientProgram, line_reclaims, line_stores, line_submits, reclaims_of, stores_of, submits_of};
+ghost use Rattle.app_stub.specs.Serving.{blocks_of, submission_of};
+
+use crate::delivery::Delivery;
+use crate::lines::{call, store_line};
+use crate::outgoing::Outgoing;
+use crate::port::{AppEnd, AppPort, AppSent};
+use crate::program::{Program, ProgramLine};
+use crate::stop::StopFlag;
+use crate::waiting::{self, Stopped};
+use descriptor_ring::NumberSender;
+use shared_heap::Writer;
+use std::sync::Wait;
+
+/// Runs a client: it does the lines of its program, closes the ring of its calls, takes its notices to their closing,
+/// gives the block of each back, and closes the ring of the blocks that it gives back. Where a ring is full or empty it
+/// waits, and ends once the stop flag is set. It takes no memory.
+pub fn client<R: Wait, F: StopFlag + Drop>(rt: &R, program: &Program, port: AppPort<F>) -> AppEnd
+    requires port { IsNew port }
+    requires program { IsClientProgram port.writer.heap.words program.now }
+
+    ensures port { IsOfPort port result }
+    ensures memory { result.memory ≡ false }
+    ensures stopped { IfNone result.sent (F.may_be_set port.stop) }
+
+    // Unless the flag was seen set, its stores and its calls are those of the program, each call behind the stores
+    // before it, and it gave back what the program says and then the block of each notice.
+    ensures stores { IfSome result.sent (λ _. result.note.stores ≡ stores_of program.now) }
+    ensures sent { IfSome result.sent (HasSent port.sender.ring port.reclaims.ring (submits_of 0 program.now)
+        (reclaims_of program.now ++ blocks_of result.notices.taken result.blocks.taken)) }
+    ensures all { IfSome result.sent (λ _. TookAll result) }
+{
+    let AppPort {
+        mut writer,
+        sender,
+        capacity: _,
+        notices,
+        blocks,
+        reader,
+        reclaims,
+        stop,
+    } = port;
+    let mut delivery = Delivery { notices, blocks };
+    let outgoing = Outgoing { sender, reclaims };
+    let sent = run(rt, &stop, program, &mut writer, &mut delivery, outgoing);
+    let Delivery { notices, blocks } = delivery;
+    AppEnd {
+        note: writer.finish(),
+        reader,
+        notices,
+        blocks,
+        memory: false,
+        sent: sent.ok(),
+    }
+}
+
+// What the client does, up to the closing of both its rings.
+fn run<R: Wait, F: StopFlag>(
+    rt: &R,
+    stop: &F,
+    program: &Program,
+    writer: &mut Writer,
+    delivery: &mut Delivery,
+    mut outgoing: Outgoing,
+) -> Result<AppSent, Stopped>
+    requires heap { outgoing.sender.heap ≡ writer.old.heap }
+    requires program { IsClientProgram writer.old.heap.words program.now }
+    requires new { (writer.old.stores ≡ []) × (outgoing.sender.sent ≡ []) × (outgoing.reclaims.sent ≡ [])
+        × (delivery.old.notices.taken ≡ []) × (delivery.old.blocks.taken ≡ []) }
+    ensures stores { IfOk result (λ _. writer.new.stores ≡ stores_of program.now) }
+    ensures sent { IfOk result (HasSent outgoing.sender.ring outgoing.reclaims.ring (submits_of 0 program.now)
+        (reclaims_of program.now ++ blocks_of delivery.new.notices.taken delivery.new.blocks.taken)) }
+    ensures all { IfOk result (λ _. IsTrue delivery.new.notices.closed × IsTrue delivery.new.blocks.closed) }
+    ensures seen { OnErr result (F.may_be_set stop.now) }
+    ensures heap { writer.new.heap ≡ writer.old.heap }
+    ensures notices { (delivery.new.notices.ring ≡ delivery.old.notices.ring)
+        × (delivery.new.notices.heap ≡ delivery.old.notices.heap) }
+    ensures blocks { delivery.new.blocks.ring ≡ delivery.old.blocks.ring }
+{
+    do_lines(rt, stop, program, writer, &mut outgoing)?;
+    let Outgoing {
+        sender,
+        mut reclaims,
+    } = outgoing;
+    let calls = waiting::close(rt, stop, sender)?;
+    give_all_back(rt, stop, delivery, &mut reclaims)?;
+    let reclaims = waiting::close_reclaims(rt, stop, reclaims)?;
+    Ok(AppSent { calls, reclaims })
+}
+
+fn do_lines<R: Wait, F: StopFlag>(
+    rt: &R,
+    stop: &F,
+    program: &Program,
+    writer: &mut Writer,
+    outgoing: &mut Outgoing,
+) -> Result<(), Stopped>
+    requires heap { outgoing.old.sender.heap ≡ writer.old.heap }
+    requires program { IsClientProgram writer.old.heap.words program.now }
+    requires new { (writer.old.stores ≡ []) × (outgoing.old.sender.sent ≡ []) × (outgoing.old.reclaims.sent ≡ []) }
+    ensures stores { OnOk result (writer.new.stores ≡ stores_of program.now) }
+    ensures calls { OnOk result (map submission_of outgoing.new.sender.sent ≡ submits_of 0 program.now) }
+    ensures reclaims { OnOk result (outgoing.new.reclaims.sent ≡ reclaims_of program.now) }
+    ensures seen { OnErr result (F.may_be_set stop.now) }
+    ensures heap { writer.new.heap ≡ writer.old.heap }
+    ensures rings { (outgoing.new.sender.ring ≡ outgoing.old.sender.ring)
+        × (outgoing.new.reclaims.ring ≡ outgoing.old.reclaims.ring) }
+{
+    for line in program.as_slice() {
+        do_line(rt, stop, line, writer, outgoing)?;
+    }
+    Ok(())
+}
+
+fn do_line<R: Wait, F: StopFlag>(
+    rt: &R,
+    stop: &F,
+    line: &ProgramLine,
+    writer: &mut Writer,
+    outgoing: &mut Outgoing,
+) -> Result<(), Stopped>
+    requires heap { outgoing.old.sender.heap ≡ writer.old.heap }
+    requires line { IsClientLine writer.old.heap.words line.now }
+    requires few_stores { length writer.old.stores + length (line_stores line.now) ≤ 2 ^ 63 }
+    requires few_calls { length outgoing.old.sender.sent < 4294967294 }
+    requires few_reclaims { length outgoing.old.reclaims.sent < 2 ^ 61 }
+    ensures stores { OnOk result (writer.new.stores ≡ writer.old.stores ++ line_stores line.now) }
+    ensures calls { OnOk result (map submission_of outgoing.new.sender.sent
+        ≡ map submission_of outgoing.old.sender.sent ++ line_submits (length writer.old.stores) line.now) }
+    ensures reclaims { OnOk result (outgoing.new.reclaims.sent ≡ outgoing.old.reclaims.sent ++ line_reclaims line.now) }
+    ensures seen { OnErr result (F.may_be_set stop.now) }
+    ensures heap { (writer.new.heap ≡ writer.old.heap) × (outgoing.new.sender.heap ≡ outgoing.old.sender.heap) }
+    ensures rings { (outgoing.new.sender.ring ≡ outgoing.old.sender.ring)
+        × (outgoing.new.reclaims.ring ≡ outgoing.old.reclaims.ring) }
+{
+    match line {
+        ProgramLine::Submit { method, addr } => {
+            let request = call(writer, 1, *method, 0, *addr);
+            waiting::send(rt, stop, &mut outgoing.sender, request)
+        }
+        ProgramLine::Reclaim { block } => {
+            waiting::reclaim(rt, stop, &mut outgoing.reclaims, *block)
+        }
+        _ => {
+            store_line(writer, line);
+            Ok(())
+        }
+    }
+}
+
+// Takes the notices to their closing and gives the block of each back; then takes the numbers of blocks to theirs.
+fn give_all_back<R: Wait, F: StopFlag>(
+    rt: &R,
+    stop: &F,
+    delivery: &mut Delivery,
+    reclaims: &mut NumberSender,
+) -> Result<(), Stopped>
+    requires new { (delivery.old.notices.taken ≡ []) × (delivery.old.blocks.taken ≡ []) }
+    requires few { length reclaims.old.sent ≤ 2 ^ 60 }
+    ensures given { OnOk result (reclaims.new.sent
+        ≡ reclaims.old.sent ++ blocks_of delivery.new.notices.taken delivery.new.blocks.taken) }
+    ensures all { OnOk result (IsTrue delivery.new.notices.closed × IsTrue delivery.new.blocks.closed) }
+    ensures seen { OnErr result (F.may_be_set stop.now) }
+    ensures ring { reclaims.new.ring ≡ reclaims.old.ring }
+    ensures notices { (delivery.new.notices.ring ≡ delivery.old.notices.ring)
+        × (delivery.new.notices.heap ≡ delivery.old.notices.heap) }
+    ensures blocks { delivery.new.blocks.ring ≡ delivery.old.blocks.ring }
+{
+    for _ in rt.forever() {
+        match waiting::next_notice(rt, stop, &mut delivery.notices)? {
+            Some(_) => delivery.give_back(rt, stop, reclaims)?,
+            None => return delivery.finish(rt, stop),
+        }
+    }
+    unreachable!()
+}

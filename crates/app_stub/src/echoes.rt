@@ -1,0 +1,345 @@
+//! Echoes.
+
+ghost use Rattle.std.specs.Prelude.{◌≡◌, ◌⊎◌, ◌<◌, ◌≤◌, ◌+◌, ◌*◌, ◌^◌, ◌↔◌, ◌++◌, ◌∷◌, List, [], IfOk, IfErr, OnOk, IfSome, IfNone, IsTrue, MatchOption, length, map};
+ghost use Rattle.mrpc_table.specs.Calls.{message_of};
+ghost use Rattle.mrpc_table.specs.Normal.{IsNormal};
+ghost use Rattle.mrpc_table.specs.Valid.{IsValid};
+ghost use Rattle.mrpc_table.specs.declared.call.Sort.TheVariants.{Request, Reply};
+ghost use Rattle.mrpc_table.specs.declared.limits.TheConstants.{MAX_HEAP, MIN_HEAP};
+ghost use Rattle.graph_place.specs.Size.{tree_words};
+ghost use Rattle.graph_place.specs.Stored.{StandsIn};
+ghost use Rattle.shared_heap.specs.Fresh.{Fresh};
+ghost use Rattle.descriptor_ring.specs.Rings.{IsOf};
+ghost use Rattle.descriptor_ring.specs.declared.descriptor.Descriptor.{Descriptor};
+ghost use Rattle.descriptor_ring.specs.declared.limits.TheConstants.{MAX_CAPACITY};
+ghost use Rattle.app_stub.specs.Desks.{CopiesTo, IsDesk, IsNewDesk, PlacedReply, echo_of};
+ghost use Rattle.app_stub.specs.Echoing.{Echoed, HasReply, slice_words};
+ghost use Rattle.app_stub.specs.Pairing.{IsDue, IsPaired};
+ghost use Rattle.app_stub.specs.Ports.{HasSent, IsNew, IsOfPort, TookAll};
+ghost use Rattle.app_stub.specs.Serving.{blocks_of, submission_of};
+
+use crate::delivery::Delivery;
+use crate::ending::Ending;
+use crate::lines::call;
+use crate::outgoing::Outgoing;
+use crate::port::{AppEnd, AppPort, AppSent};
+use crate::slices::{next_slice, words_of};
+use crate::stop::StopFlag;
+use crate::waiting;
+use descriptor_ring::{Descriptor, Sender};
+use graph_copy::CopyResult;
+use graph_form::sound_tree_is_normal;
+use graph_place::{place, place_words};
+use mrpc_base::Stores;
+use mrpc_table::{MAX_LOADS, Memory, Sort, Table, Tree};
+use shared_heap::{Reader, Writer, calls_are_fresh, writers_go_on};
+use std::alloc::Global;
+use std::sync::Wait;
+use untouched_copy::copy_message;
+
+// What an echo works with.
+#[derive(Drop)]
+pub(crate) struct Desk {
+    pub(crate) alloc: Global,
+    pub(crate) writer: Writer,
+    pub(crate) reader: Reader,
+    // How many calls its ring holds, and how many replies it has sent.
+    pub(crate) ring: u64,
+    pub(crate) replies: u64,
+}
+
+/// Runs an echo: it takes its notices to their closing, copies each request, gives the block of each notice back, and
+/// replies to a request with its own message, placed into the next slice of the heap; then it closes both its rings. A
+/// request has no reply where its number is 0, where the method's input and output differ, where its graph is
+/// malformed, and where its tree doesn't fit a slice. Where a ring is full or empty the echo waits, and ends once the
+/// stop flag is set. Where it finds no memory it sets the flag and ends.
+pub fn echo<R: Wait, F: StopFlag + Drop>(
+    rt: &R,
+    alloc: Global,
+    table: &Table,
+    port: AppPort<F>,
+) -> AppEnd
+    requires valid { IsValid table.now }
+    requires port { IsNew port }
+    requires heap { (MIN_HEAP ≤ port.writer.heap.words) × (port.writer.heap.words ≤ MAX_HEAP) }
+    requires receive { (MIN_HEAP ≤ port.reader.heap.words) × (port.reader.heap.words ≤ MAX_HEAP) }
+    requires ring { port.capacity ≤ MAX_CAPACITY }
+
+    ensures port { IsOfPort port result }
+    ensures stopped { IfNone result.sent (IsTrue result.memory ⊎ F.may_be_set port.stop) }
+
+    // Unless no memory was found, or the flag was seen set, it made copies of the requests that it was told of, which
+    // with them determine its stores and its replies, and gave back the block of each notice.
+    ensures echoed { IfSome result.sent (λ sent. Echoed
+        (record { table = table.now; heap = port.writer.heap.words; receive = port.reader.heap.words; ring = port.capacity })
+        result.notices.taken result.note.stores (map submission_of sent.calls.items) result.reader) }
+    ensures sent { IfSome result.sent (λ sent. HasSent port.sender.ring port.reclaims.ring
+        (map submission_of sent.calls.items) (blocks_of result.notices.taken result.blocks.taken) sent) }
+    ensures all { IfSome result.sent (λ _. TookAll result) }
+{
+    let AppPort {
+        writer,
+        sender,
+        capacity,
+        notices,
+        blocks,
+        reader,
+        reclaims,
+        stop,
+    } = port;
+    let mut desk = Desk {
+        alloc,
+        writer,
+        reader,
+        ring: capacity,
+        replies: 0,
+    };
+    let mut delivery = Delivery { notices, blocks };
+    let outgoing = Outgoing { sender, reclaims };
+    let answer = run(rt, &stop, table, &mut desk, &mut delivery, outgoing);
+    let memory = matches!(&answer, Err(Ending::NoMemory));
+    if memory {
+        stop.set();
+    }
+    let Desk { writer, reader, .. } = desk;
+    let Delivery { notices, blocks } = delivery;
+    AppEnd {
+        note: writer.finish(),
+        reader,
+        notices,
+        blocks,
+        memory,
+        sent: answer.ok(),
+    }
+}
+
+// What the echo does, up to the closing of both its rings.
+fn run<R: Wait, F: StopFlag>(
+    rt: &R,
+    stop: &F,
+    table: &Table,
+    desk: &mut Desk,
+    delivery: &mut Delivery,
+    mut outgoing: Outgoing,
+) -> Result<AppSent, Ending>
+    requires valid { IsValid table.now }
+    requires new { IsNewDesk desk.old delivery.old outgoing }
+    ensures echoed { IfOk result (λ sent. Echoed (echo_of table.now desk.old) delivery.new.notices.taken
+        desk.new.writer.stores (map submission_of sent.calls.items) desk.new.reader) }
+    ensures sent { IfOk result (λ sent. HasSent outgoing.sender.ring outgoing.reclaims.ring
+        (map submission_of sent.calls.items)
+        (blocks_of delivery.new.notices.taken delivery.new.blocks.taken) sent) }
+    ensures all { IfOk result (λ _. IsTrue delivery.new.notices.closed × IsTrue delivery.new.blocks.closed) }
+    ensures ended { IfErr result (λ e. e ≡ Ending.FlagSet → F.may_be_set stop.now) }
+    ensures heaps { (desk.new.writer.heap ≡ desk.old.writer.heap) × (desk.new.reader.heap ≡ desk.old.reader.heap) }
+    ensures notices { (delivery.new.notices.ring ≡ delivery.old.notices.ring)
+        × (delivery.new.notices.heap ≡ delivery.old.notices.heap) }
+    ensures blocks { delivery.new.blocks.ring ≡ delivery.old.blocks.ring }
+{
+    echo_all(rt, stop, table, desk, delivery, &mut outgoing)?;
+    let Outgoing { sender, reclaims } = outgoing;
+    let calls = waiting::close(rt, stop, sender)?;
+    let reclaims = waiting::close_reclaims(rt, stop, reclaims)?;
+    Ok(AppSent { calls, reclaims })
+}
+
+// Takes the notices to their closing, and does for each what is to be done; then takes the numbers of blocks to theirs.
+fn echo_all<R: Wait, F: StopFlag>(
+    rt: &R,
+    stop: &F,
+    table: &Table,
+    desk: &mut Desk,
+    delivery: &mut Delivery,
+    outgoing: &mut Outgoing,
+) -> Result<(), Ending>
+    requires valid { IsValid table.now }
+    requires new { IsNewDesk desk.old delivery.old outgoing.old }
+    ensures echoed { OnOk result (Echoed (echo_of table.now desk.old) delivery.new.notices.taken
+        desk.new.writer.stores (map submission_of outgoing.new.sender.sent) desk.new.reader) }
+    ensures given { OnOk result (outgoing.new.reclaims.sent
+        ≡ blocks_of delivery.new.notices.taken delivery.new.blocks.taken) }
+    ensures all { OnOk result (IsTrue delivery.new.notices.closed × IsTrue delivery.new.blocks.closed) }
+    ensures ended { IfErr result (λ e. e ≡ Ending.FlagSet → F.may_be_set stop.now) }
+    ensures heaps { (desk.new.writer.heap ≡ desk.old.writer.heap) × (desk.new.reader.heap ≡ desk.old.reader.heap) }
+    ensures notices { (delivery.new.notices.ring ≡ delivery.old.notices.ring)
+        × (delivery.new.notices.heap ≡ delivery.old.notices.heap) }
+    ensures blocks { delivery.new.blocks.ring ≡ delivery.old.blocks.ring }
+    ensures rings { (outgoing.new.sender.ring ≡ outgoing.old.sender.ring)
+        × (outgoing.new.reclaims.ring ≡ outgoing.old.reclaims.ring) }
+{
+    calls_are_fresh();
+    for _ in rt.forever() {
+        match waiting::next_notice(rt, stop, &mut delivery.notices)? {
+            Some(notice) => echo_one(rt, stop, table, desk, delivery, outgoing, notice)?,
+            None => {
+                delivery.finish(rt, stop)?;
+                return Ok(());
+            }
+        }
+    }
+    unreachable!()
+}
+
+// Does what an echo does for a notice: its request is copied before its block is given back, and replied to then.
+fn echo_one<R: Wait, F: StopFlag>(
+    rt: &R,
+    stop: &F,
+    table: &Table,
+    desk: &mut Desk,
+    delivery: &mut Delivery,
+    outgoing: &mut Outgoing,
+    notice: Descriptor,
+) -> Result<(), Ending>
+    requires valid { IsValid table.now }
+    requires desk { IsDesk desk.old outgoing.old.sender }
+    requires of_heap { IsOf desk.old.reader.heap notice }
+    requires due { IsDue delivery.old.notices.taken delivery.old.blocks }
+    requires few { length outgoing.old.sender.sent < 4294967294 }
+    requires few_reclaims { length outgoing.old.reclaims.sent < 2 ^ 61 }
+    ensures echoed { OnOk result ((notices : List Descriptor)
+        → Echoed (echo_of table.now desk.old) notices desk.old.writer.stores (map submission_of outgoing.old.sender.sent)
+        desk.old.reader
+        → Echoed (echo_of table.now desk.old) (notices ++ notice ∷ []) desk.new.writer.stores
+        (map submission_of outgoing.new.sender.sent) desk.new.reader) }
+    ensures desk { OnOk result (IsDesk desk.new outgoing.new.sender) }
+    ensures sent { OnOk result (length outgoing.new.sender.sent ≤ length outgoing.old.sender.sent + 1) }
+    ensures paired { OnOk result (IsPaired delivery.new.notices.taken delivery.new.blocks) }
+    ensures given { outgoing.old.reclaims.sent ≡ delivery.old.blocks.taken
+        → OnOk result (outgoing.new.reclaims.sent ≡ delivery.new.blocks.taken) }
+    ensures ended { IfErr result (λ e. e ≡ Ending.FlagSet → F.may_be_set stop.now) }
+    ensures heaps { (desk.new.writer.heap ≡ desk.old.writer.heap) × (desk.new.reader.heap ≡ desk.old.reader.heap)
+        × (desk.new.ring ≡ desk.old.ring) }
+    ensures notices { delivery.new.notices ≡ delivery.old.notices }
+    ensures blocks { delivery.new.blocks.ring ≡ delivery.old.blocks.ring }
+    ensures rings { (outgoing.new.sender.ring ≡ outgoing.old.sender.ring)
+        × (outgoing.new.reclaims.ring ≡ outgoing.old.reclaims.ring) }
+{
+    let asked = (notice.method, notice.number);
+    let tree = copied(table, desk, notice)?;
+    delivery.give_back(rt, stop, &mut outgoing.reclaims)?;
+    match tree {
+        Some(tree) => {
+            reply(rt, stop, table, desk, asked, &tree, &mut outgoing.sender)?;
+            Ok(())
+        }
+        None => Ok(()),
+    }
+}
+
+// The tree by which a notice is replied to, if it is. Its request is copied, where the table has its method.
+fn copied(table: &Table, desk: &mut Desk, notice: Descriptor) -> Result<Option<Tree>, Memory>
+    requires valid { IsValid table.now }
+    requires of_heap { IsOf desk.old.reader.heap notice }
+    requires heap { (MIN_HEAP ≤ desk.old.writer.heap.words) × (desk.old.writer.heap.words ≤ MAX_HEAP) }
+    requires receive { (MIN_HEAP ≤ desk.old.reader.heap.words) × (desk.old.reader.heap.words ≤ MAX_HEAP) }
+    requires ring { desk.old.ring ≤ MAX_CAPACITY }
+    ensures copies { IfOk result (CopiesTo (echo_of table.now desk.old) notice desk.old.reader desk.new.reader) }
+    ensures normal { IfOk result (λ tree. IfSome tree (IsNormal table.now (message_of table.now notice.method Reply))) }
+    ensures known { IfOk result (λ tree. IfSome tree (λ _. notice.method < length table.now.methods)) }
+    ensures reader { desk.new.reader.heap ≡ desk.old.reader.heap }
+    ensures same { (desk.new.writer ≡ desk.old.writer) × (desk.new.ring ≡ desk.old.ring)
+        × (desk.new.replies ≡ desk.old.replies) }
+{
+    calls_are_fresh();
+    sound_tree_is_normal();
+    let Descriptor {
+        kind,
+        method,
+        number,
+        addr,
+        note,
+        ..
+    } = notice;
+    desk.reader.meet(note);
+    if kind != 1 || usize::from(method) >= table.methods.len() {
+        return Ok(None);
+    }
+    let message = message_of(table, method, Sort::Request);
+    let answer = copy_message(
+        desk.alloc,
+        &mut desk.reader,
+        table,
+        message,
+        addr,
+        MAX_LOADS,
+    )?;
+    match answer {
+        CopyResult::Copied { tree, .. } => Ok(replied(table, desk, (method, number), tree)),
+        CopyResult::Malformed { .. } => Ok(None),
+    }
+}
+
+// The message of a method's requests or replies.
+fn message_of(table: &Table, method: u16, sort: Sort) -> u32
+    requires valid { IsValid table.now }
+    requires known { method < length table.now.methods }
+    ensures message { result ≡ message_of table.now method sort }
+    ensures known { result < length table.now.messages }
+{
+    let method = &table.methods.as_slice()[usize::from(method)];
+    match sort {
+        Sort::Request => method.input,
+        Sort::Reply => method.output,
+    }
+}
+
+// The tree of a request's copy, if the request has a reply.
+fn replied(table: &Table, desk: &Desk, asked: (u16, u32), tree: Tree) -> Option<Tree>
+    requires valid { IsValid table.now }
+    requires known { asked.0 < length table.now.methods }
+    requires normal { IsNormal table.now (message_of table.now asked.0 Request) tree }
+    requires heap { (MIN_HEAP ≤ desk.now.writer.heap.words) × (desk.now.writer.heap.words ≤ MAX_HEAP) }
+    requires ring { desk.now.ring ≤ MAX_CAPACITY }
+    ensures tree { IfSome result (λ t. t ≡ tree) }
+    ensures reply { MatchOption result
+        (HasReply (echo_of table.now desk.now) asked.0 asked.1 tree → ⊥)
+        (λ t. HasReply (echo_of table.now desk.now) asked.0 asked.1 tree) }
+{
+    let (method, number) = asked;
+    let input = message_of(table, method, Sort::Request);
+    if number == 0 || input != message_of(table, method, Sort::Reply) {
+        return None;
+    }
+    if place_words(&tree, table, input) > words_of(desk.writer.size(), desk.ring) {
+        return None;
+    }
+    Some(tree)
+}
+
+// Places the tree of a request into the next slice, and sends the reply.
+fn reply<R: Wait, F: StopFlag>(
+    rt: &R,
+    stop: &F,
+    table: &Table,
+    desk: &mut Desk,
+    asked: (u16, u32),
+    tree: &Tree,
+    sender: &mut Sender,
+) -> Result<(), Ending>
+    requires valid { IsValid table.now }
+    requires known { asked.0 < length table.now.methods }
+    requires normal { IsNormal table.now (message_of table.now asked.0 Reply) tree.now }
+    requires fits { tree_words table.now (message_of table.now asked.0 Reply) tree.now
+        ≤ slice_words desk.old.writer.heap.words desk.old.ring }
+    requires desk { IsDesk desk.old sender.old }
+    requires few { length sender.old.sent < 4294967294 }
+    ensures replied { OnOk result (PlacedReply (echo_of table.now desk.old) asked.0 asked.1 tree.now
+        (desk.old.writer.stores, map submission_of sender.old.sent)
+        (desk.new.writer.stores, map submission_of sender.new.sent)) }
+    ensures desk { OnOk result (IsDesk desk.new sender.new) }
+    ensures sent { OnOk result (length sender.new.sent ≡ length sender.old.sent + 1) }
+    ensures ended { IfErr result (λ e. e ≡ Ending.FlagSet → F.may_be_set stop.now) }
+    ensures same { (desk.new.writer.heap ≡ desk.old.writer.heap) × (desk.new.reader ≡ desk.old.reader)
+        × (desk.new.ring ≡ desk.old.ring) }
+    ensures ring { (sender.new.ring ≡ sender.old.ring) × (sender.new.heap ≡ sender.old.heap) }
+{
+    writers_go_on();
+    let (method, number) = asked;
+    let at = next_slice(desk.writer.size(), desk.ring, desk.replies);
+    let message = message_of(table, method, Sort::Reply);
+    place(desk.alloc, tree, table, message, at, &mut desk.writer)?;
+    let reply = call(&mut desk.writer, 2, method, number, at);
+    waiting::send(rt, stop, sender, reply)?;
+    desk.replies += 1;
+    Ok(())
+}

@@ -1,0 +1,197 @@
+//! Servers.
+
+ghost use Rattle.std.specs.Prelude.{◌≡◌, ◌<◌, ◌≤◌, ◌+◌, ◌*◌, ◌^◌, ◌++◌, ℕ, List, false, [], IfOk, OnOk, OnErr, IfSome, IfNone, IsTrue, All, length, map};
+ghost use Rattle.app_stub.specs.Ports.{HasSent, IsNew, IsOfPort, TookAll};
+ghost use Rattle.app_stub.specs.Programs.{StoresIn, IsServerProgram, reply_address, stores_of};
+ghost use Rattle.app_stub.specs.Serving.{all_served_replies, all_served_stores, blocks_of, can_be_answered, is_request, served_replies, served_stores, submission_of};
+
+use crate::delivery::Delivery;
+use crate::lines::{call, store_line};
+use crate::outgoing::Outgoing;
+use crate::port::{AppEnd, AppPort, AppSent};
+use crate::program::{MAX_REQUEST_STORES, Program, ProgramLine};
+use crate::stop::StopFlag;
+use crate::waiting::{self, Stopped};
+use descriptor_ring::{Descriptor, Sender};
+use shared_heap::Writer;
+use std::sync::Wait;
+
+/// Runs a server: it takes its notices to their closing, does the stores of its program for each request, replies to it
+/// unless its number is 0, and gives the block of each notice back; then it closes both its rings. A notice of a reply
+/// has no other effect. Where a ring is full or empty it waits, and ends once the stop flag is set. It takes no memory.
+pub fn server<R: Wait, F: StopFlag + Drop>(rt: &R, program: &Program, port: AppPort<F>) -> AppEnd
+    requires port { IsNew port }
+    requires program { IsServerProgram port.writer.heap.words program.now }
+
+    ensures port { IsOfPort port result }
+    ensures memory { result.memory ≡ false }
+    ensures stopped { IfNone result.sent (F.may_be_set port.stop) }
+
+    // Unless the flag was seen set, its stores and its replies are those of the program for each request that it was
+    // told of, in order, each reply behind the stores for its request, and it gave back the block of each notice.
+    ensures stores { IfSome result.sent
+        (λ _. result.note.stores ≡ all_served_stores program.now result.notices.taken) }
+    ensures sent { IfSome result.sent (HasSent port.sender.ring port.reclaims.ring
+        (all_served_replies program.now 0 result.notices.taken)
+        (blocks_of result.notices.taken result.blocks.taken)) }
+    ensures all { IfSome result.sent (λ _. TookAll result) }
+{
+    let AppPort {
+        mut writer,
+        sender,
+        capacity: _,
+        notices,
+        blocks,
+        reader,
+        reclaims,
+        stop,
+    } = port;
+    let mut delivery = Delivery { notices, blocks };
+    let outgoing = Outgoing { sender, reclaims };
+    let sent = run(rt, &stop, program, &mut writer, &mut delivery, outgoing);
+    let Delivery { notices, blocks } = delivery;
+    AppEnd {
+        note: writer.finish(),
+        reader,
+        notices,
+        blocks,
+        memory: false,
+        sent: sent.ok(),
+    }
+}
+
+// What the server does, up to the closing of both its rings.
+fn run<R: Wait, F: StopFlag>(
+    rt: &R,
+    stop: &F,
+    program: &Program,
+    writer: &mut Writer,
+    delivery: &mut Delivery,
+    mut outgoing: Outgoing,
+) -> Result<AppSent, Stopped>
+    requires heap { outgoing.sender.heap ≡ writer.old.heap }
+    requires program { IsServerProgram writer.old.heap.words program.now }
+    requires new { (writer.old.stores ≡ []) × (outgoing.sender.sent ≡ []) × (outgoing.reclaims.sent ≡ [])
+        × (delivery.old.notices.taken ≡ []) × (delivery.old.blocks.taken ≡ []) }
+    ensures stores { IfOk result (λ _. writer.new.stores ≡ all_served_stores program.now delivery.new.notices.taken) }
+    ensures sent { IfOk result (HasSent outgoing.sender.ring outgoing.reclaims.ring
+        (all_served_replies program.now 0 delivery.new.notices.taken)
+        (blocks_of delivery.new.notices.taken delivery.new.blocks.taken)) }
+    ensures all { IfOk result (λ _. IsTrue delivery.new.notices.closed × IsTrue delivery.new.blocks.closed) }
+    ensures seen { OnErr result (F.may_be_set stop.now) }
+    ensures heap { writer.new.heap ≡ writer.old.heap }
+    ensures notices { (delivery.new.notices.ring ≡ delivery.old.notices.ring)
+        × (delivery.new.notices.heap ≡ delivery.old.notices.heap) }
+    ensures blocks { delivery.new.blocks.ring ≡ delivery.old.blocks.ring }
+{
+    serve_all(rt, stop, program, writer, delivery, &mut outgoing)?;
+    let Outgoing { sender, reclaims } = outgoing;
+    let calls = waiting::close(rt, stop, sender)?;
+    let reclaims = waiting::close_reclaims(rt, stop, reclaims)?;
+    Ok(AppSent { calls, reclaims })
+}
+
+// Takes the notices to their closing, serves each and gives its block back; then takes the numbers of blocks to theirs.
+fn serve_all<R: Wait, F: StopFlag>(
+    rt: &R,
+    stop: &F,
+    program: &Program,
+    writer: &mut Writer,
+    delivery: &mut Delivery,
+    outgoing: &mut Outgoing,
+) -> Result<(), Stopped>
+    requires heap { outgoing.old.sender.heap ≡ writer.old.heap }
+    requires program { IsServerProgram writer.old.heap.words program.now }
+    requires new { (writer.old.stores ≡ []) × (outgoing.old.sender.sent ≡ []) × (outgoing.old.reclaims.sent ≡ [])
+        × (delivery.old.notices.taken ≡ []) × (delivery.old.blocks.taken ≡ []) }
+    ensures stores { OnOk result (writer.new.stores ≡ all_served_stores program.now delivery.new.notices.taken) }
+    ensures calls { OnOk result (map submission_of outgoing.new.sender.sent
+        ≡ all_served_replies program.now 0 delivery.new.notices.taken) }
+    ensures given { OnOk result (outgoing.new.reclaims.sent
+        ≡ blocks_of delivery.new.notices.taken delivery.new.blocks.taken) }
+    ensures all { OnOk result (IsTrue delivery.new.notices.closed × IsTrue delivery.new.blocks.closed) }
+    ensures seen { OnErr result (F.may_be_set stop.now) }
+    ensures heap { writer.new.heap ≡ writer.old.heap }
+    ensures notices { (delivery.new.notices.ring ≡ delivery.old.notices.ring)
+        × (delivery.new.notices.heap ≡ delivery.old.notices.heap) }
+    ensures blocks { delivery.new.blocks.ring ≡ delivery.old.blocks.ring }
+    ensures rings { (outgoing.new.sender.ring ≡ outgoing.old.sender.ring)
+        × (outgoing.new.reclaims.ring ≡ outgoing.old.reclaims.ring) }
+{
+    let address = address_of(program);
+    for _ in rt.forever() {
+        match waiting::next_notice(rt, stop, &mut delivery.notices)? {
+            Some(notice) => {
+                serve(
+                    rt,
+                    stop,
+                    program,
+                    address,
+                    &notice,
+                    writer,
+                    &mut outgoing.sender,
+                )?;
+                delivery.give_back(rt, stop, &mut outgoing.reclaims)?;
+            }
+            None => return delivery.finish(rt, stop),
+        }
+    }
+    unreachable!()
+}
+
+// Where the replies of a program stand.
+fn address_of(program: &Program) -> u64
+    ensures { result ≡ reply_address program.now }
+{
+    for line in program.as_slice() {
+        if let ProgramLine::Reply { addr } = line {
+            return *addr;
+        }
+    }
+    0
+}
+
+// Does what a server does for one notice.
+fn serve<R: Wait, F: StopFlag>(
+    rt: &R,
+    stop: &F,
+    program: &Program,
+    address: u64,
+    notice: &Descriptor,
+    writer: &mut Writer,
+    sender: &mut Sender,
+) -> Result<(), Stopped>
+    requires heap { sender.old.heap ≡ writer.old.heap }
+    requires lines { All (StoresIn writer.old.heap.words) program.now }
+    requires address { address ≡ reply_address program.now }
+    requires few_stores { length writer.old.stores + length (stores_of program.now) ≤ 2 ^ 63 }
+    requires few_calls { length sender.old.sent < 4294967294 }
+    ensures stores { OnOk result (writer.new.stores ≡ writer.old.stores ++ served_stores program.now notice.now) }
+    ensures calls { OnOk result (map submission_of sender.new.sent ≡ map submission_of sender.old.sent
+        ++ served_replies program.now (length writer.old.stores + length (served_stores program.now notice.now)) notice.now) }
+    ensures seen { OnErr result (F.may_be_set stop.now) }
+    ensures heap { (writer.new.heap ≡ writer.old.heap) × (sender.new.heap ≡ sender.old.heap) }
+    ensures ring { sender.new.ring ≡ sender.old.ring }
+{
+    if notice.kind != 1 {
+        return Ok(());
+    }
+    store_lines(writer, program);
+    if notice.number == 0 {
+        return Ok(());
+    }
+    let reply = call(writer, 2, notice.method, notice.number, address);
+    waiting::send(rt, stop, sender, reply)
+}
+
+// Stores what a program stores.
+fn store_lines(writer: &mut Writer, program: &Program)
+    requires places { All (StoresIn writer.old.heap.words) program.now }
+    requires few { length writer.old.stores + length (stores_of program.now) ≤ 2 ^ 63 }
+    ensures stores { writer.new.stores ≡ writer.old.stores ++ stores_of program.now }
+    ensures heap { writer.new.heap ≡ writer.old.heap }
+{
+    for line in program.as_slice() {
+        store_line(writer, line);
+    }
+}
