@@ -1,0 +1,5 @@
+mod HeadTexts
+mod OneFront
+mod OneHead
+mod Ranges
+mod TextLines

@@ -1,0 +1,98 @@
+//! The lines in front of the text of a table.
+
+ghost use Rattle.std.specs.Prelude.{◌≡◌, ◌≤◌, ◌++◌, ℕ, List, length, IfOk, IfErr};
+ghost use Rattle.script_head.specs.Fronts.{IsHead, IsFaultOf};
+ghost use Rattle.script_head.specs.Limits.{HasLimit, IsLimitFault, within};
+
+use crate::limits::USUAL_LOADS;
+use mrpc_table::{Decimal, MAX_LOADS, cut, number_of};
+use script_words::{ScriptFault, ScriptReason};
+
+/// The line in front of the table's text.
+const TABLE_LINE: &[u8] = b"table\n";
+
+/// The line that says how many words are loaded for a call at most, up to that number.
+const LOADS: &[u8] = b"loads ";
+
+/// What stands in front of the table's text.
+#[derive(Clone, Copy)]
+pub(crate) struct Head<'a> {
+    /// How many words are loaded for a call at most.
+    pub loads: u64,
+    /// These lines.
+    pub front: &'a [u8],
+    /// What stands behind them.
+    pub behind: &'a [u8],
+}
+
+/// The lines in front of the text of the table, the first of which is this one, with its line feed.
+pub(crate) fn read_head<'a>(text: &'a [u8], first: &[u8]) -> Result<Head<'a>, ScriptFault>
+    ensures head { IfOk result (λ h. IsHead first.now h.front.now h.loads
+        × (text.now ≡ h.front.now ++ h.behind.now)) }
+    ensures fault { IfErr result (IsFaultOf first.now text.now) }
+{
+    let Some(second) = text.strip_prefix(first) else {
+        return Err(fault(1, ScriptReason::Header));
+    };
+    if let Some(behind) = second.strip_prefix(TABLE_LINE) {
+        return Ok(head_before(text, USUAL_LOADS, behind));
+    }
+    let (loads, third) = match read_limit(second) {
+        Ok(limit) => limit,
+        Err(reason) => return Err(fault(2, reason)),
+    };
+    match third.strip_prefix(TABLE_LINE) {
+        Some(behind) => Ok(head_before(text, loads, behind)),
+        None => Err(fault(3, ScriptReason::Word)),
+    }
+}
+
+/// The head of a text that has this behind it.
+fn head_before<'a>(text: &'a [u8], loads: u64, behind: &'a [u8]) -> Head<'a>
+    requires { length behind.now ≤ length text.now }
+    ensures front { (front : List ℕ) → text.now ≡ front ++ behind.now → result.front.now ≡ front }
+    ensures behind { result.behind.now ≡ behind.now }
+    ensures loads { result.loads ≡ loads }
+{
+    Head {
+        loads,
+        front: &text[..text.len() - behind.len()],
+        behind,
+    }
+}
+
+fn fault(line: u64, reason: ScriptReason) -> ScriptFault
+    ensures { result ≡ ScriptFault.At line reason }
+{
+    ScriptFault::At { line, reason }
+}
+
+/// The limit that a line of its own says, and what stands behind that line.
+fn read_limit(text: &[u8]) -> Result<(u64, &[u8]), ScriptReason>
+    ensures limit { IfOk result (λ p. HasLimit text.now p.0 p.1.now) }
+    ensures fault { IfErr result (IsLimitFault text.now) }
+{
+    let Some((line, behind)) = cut(text, b'\n') else {
+        return Err(ScriptReason::Word);
+    };
+    let Some(word) = line.strip_prefix(LOADS) else {
+        return Err(ScriptReason::Word);
+    };
+    let Some(number) = number_of(word) else {
+        return Err(ScriptReason::Word);
+    };
+    match within(1, MAX_LOADS, number) {
+        Ok(loads) => Ok((loads, behind)),
+        Err(reason) => Err(reason),
+    }
+}
+
+/// The number, where it is in its range.
+fn within(least: u64, most: u64, number: Decimal) -> Result<u64, ScriptReason>
+    ensures { result ≡ within least most number }
+{
+    match number {
+        Decimal::Small(number) if least <= number && number <= most => Ok(number),
+        _ => Err(ScriptReason::Number),
+    }
+}

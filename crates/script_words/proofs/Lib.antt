@@ -1,0 +1,7 @@
+mod Deciding
+mod Hexadecimal
+mod Numbers
+mod OneKeyword
+mod Stored
+mod Verdicts
+mod Walking

@@ -1,0 +1,14 @@
+-- The code's own: the words that are left of a line, and the first of some reasons.
+use Rattle.std.specs.Prelude.{ℕ, nat_le, if◌then◌else◌, List, [], Option, Some, None}
+use Rattle.std.specs.Borrow.{Bor}
+use Rattle.mrpc_table.specs.Lines.{words_of}
+use Rattle.script_words.specs.Reasons.{order_of}
+use Rattle.script_words.specs.declared.fault.ScriptReason.{ScriptReason}
+
+abbrev pub words_in : Option (Bor (List ℕ)) → List (List ℕ)
+words_in None = []
+words_in (Some text) = words_of text.now
+
+abbrev pub earlier : Option ScriptReason → ScriptReason → ScriptReason
+earlier None reason = reason
+earlier (Some other) reason = if nat_le (order_of other) (order_of reason) then other else reason

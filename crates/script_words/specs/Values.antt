@@ -1,0 +1,40 @@
+-- The numbers that words spell, and the values that lines store (this project's own).
+use Rattle.std.specs.Prelude.{◌≡◌, ℕ, ◌-◌, ◌%◌, ◌^◌, ◌<◌, ◌≤◌, nat_lt, nat_le, Bool, true, ◌&&◌, ◌||◌, List, ◌∷◌, ◌++◌, length, codes, Some}
+use Rattle.std.specs.List.{list_all}
+use Rattle.std.specs.Str.Parse.{digits_value}
+use Rattle.mrpc_table.specs.Lines.{number_of}
+
+-- decimal digits without a leading zero, however many
+abbrev pub IsNumber : List ℕ → ℕ → Type 0
+IsNumber word n = number_of word ≡ Some n
+
+-- a value, as a line writes it: in decimal digits, in decimal digits behind `-`, in hexadecimal digits behind `0x`
+pub data Value : Type 0 where
+  plain : (n : ℕ) → Value
+  negative : (n : ℕ) → Value
+  hexadecimal : (digits : List ℕ) → Value
+
+-- 0 to 9 and a to f
+abbrev pub is_hexadecimal : ℕ → Bool
+is_hexadecimal c = (nat_le 48 c && nat_le c 57) || (nat_le 97 c && nat_le c 102)
+
+-- 1 to 16 digits
+abbrev pub are_hexadecimal : List ℕ → Bool
+are_hexadecimal digits = (nat_lt 0 (length digits) && nat_le (length digits) 16) && list_all is_hexadecimal digits
+
+abbrev pub IsValue : List ℕ → Value → Type 0
+IsValue word (plain n) = IsNumber word n
+IsValue word (negative n) = (digits : List ℕ) × (word ≡ 45 ∷ digits) × IsNumber digits n
+IsValue word (hexadecimal digits) = (word ≡ codes "0x" ++ digits) × (are_hexadecimal digits ≡ true)
+
+-- it has 64 bits; a number below zero goes down to -2^63
+abbrev pub Fits : Value → Type 0
+Fits (plain n) = n < 2 ^ 64
+Fits (negative n) = n ≤ 2 ^ 63
+Fits (hexadecimal digits) = Unit {0}
+
+-- what is stored: below zero in two's complement
+abbrev pub word_of : Value → ℕ
+word_of (plain n) = n
+word_of (negative n) = (2 ^ 64 - n) % 2 ^ 64
+word_of (hexadecimal digits) = digits_value 16 digits

@@ -1,0 +1,240 @@
+//! The forms of lines, as a table.
+
+ghost use Rattle.std.specs.Prelude.{◌≡◌, ◌≤◌, length};
+ghost use Rattle.mrpc_table.specs.Lines.{words_of};
+ghost use Rattle.script_words.specs.Lines.{fits_key, has_form};
+ghost use Rattle.script_words.specs.Forms.{sorts_of, form_in};
+
+use crate::keyword::Keyword;
+use crate::sort::Sort;
+use crate::words::first_word;
+use mrpc_table::{MAX_HEAP, MIN_HEAP};
+
+/// The form of a line.
+#[derive(Clone, Copy)]
+pub enum Form {
+    /// `store CONN PLACE VALUE`
+    Store,
+    /// `submit CONN METHOD ADDR`
+    Submit,
+    /// `submit CONN METHOD ADDR NUMBER`
+    Reply,
+    /// `race CONN LOAD PLACE VALUE`
+    Race,
+    /// `turn CONN AT`
+    Turn,
+    /// `send CONN`
+    Send,
+    /// `drain CONN`
+    Drain,
+    /// `moment CONN MS`
+    Moment,
+    /// `attach CONN AT NAME POLICY`
+    Attach,
+    /// `detach CONN NAME`
+    Detach,
+    /// `upgrade CONN NAME POLICY`
+    Upgrade,
+    /// `conn CONN WORDS`
+    Conn,
+    /// `tenant NAME PER`
+    Tenant,
+    /// `policy NAME access`, in front of rules and `end`
+    Access,
+    /// `policy NAME rate N per P burst B hold|deny`
+    Rate,
+    /// `policy NAME quota TENANT cap C`
+    Quota,
+    /// `policy NAME count`
+    Count,
+    /// `policy NAME redact`, in front of clears and `end`
+    Redact,
+    /// `close`
+    Close,
+}
+
+const FORMS: [Form; 19] = [
+    Form::Store,
+    Form::Submit,
+    Form::Reply,
+    Form::Race,
+    Form::Turn,
+    Form::Send,
+    Form::Drain,
+    Form::Moment,
+    Form::Attach,
+    Form::Detach,
+    Form::Upgrade,
+    Form::Conn,
+    Form::Tenant,
+    Form::Access,
+    Form::Rate,
+    Form::Quota,
+    Form::Count,
+    Form::Redact,
+    Form::Close,
+];
+
+/// The number of a connection.
+const CONN: Sort = Sort::Number { least: 1, most: 16 };
+
+/// Any number of 64 bits.
+const NUMBER: Sort = Sort::Number {
+    least: 0,
+    most: u64::MAX,
+};
+
+const METHOD: Sort = Sort::Number {
+    least: 0,
+    most: 65535,
+};
+
+/// The number of the request to which a reply belongs.
+const REQUEST: Sort = Sort::Number {
+    least: 1,
+    most: 0xffff_ffff,
+};
+
+/// A moment in milliseconds.
+const MOMENT: Sort = Sort::Number {
+    least: 0,
+    most: 1 << 53,
+};
+
+const WORDS: Sort = Sort::Number {
+    least: MIN_HEAP,
+    most: MAX_HEAP,
+};
+
+/// The milliseconds of a window, or of a rate.
+const MILLISECONDS: Sort = Sort::Number {
+    least: 1,
+    most: 86_400_000,
+};
+
+/// How many calls.
+const CALLS: Sort = Sort::Number {
+    least: 1,
+    most: 1_000_000,
+};
+
+const CAP: Sort = Sort::Number {
+    least: 0,
+    most: 0xffff_ffff,
+};
+
+impl Form {
+    /// The sorts of its words.
+    pub fn sorts(self) -> &'static [Sort]
+        ensures sorts { result.now ≡ sorts_of self }
+        ensures few { length result.now ≤ 9 }
+    {
+        match self {
+            Form::Store => &[
+                Sort::Key(Keyword::Store),
+                CONN,
+                Sort::Unbounded,
+                Sort::Value,
+            ],
+            Form::Submit => &[Sort::Key(Keyword::Submit), CONN, METHOD, NUMBER],
+            Form::Reply => &[Sort::Key(Keyword::Submit), CONN, METHOD, NUMBER, REQUEST],
+            Form::Race => &[
+                Sort::Key(Keyword::Race),
+                CONN,
+                NUMBER,
+                Sort::Unbounded,
+                Sort::Value,
+            ],
+            Form::Turn => &[Sort::Key(Keyword::Turn), CONN, Sort::Unbounded],
+            Form::Send => &[Sort::Key(Keyword::Send), CONN],
+            Form::Drain => &[Sort::Key(Keyword::Drain), CONN],
+            Form::Moment => &[Sort::Key(Keyword::Moment), CONN, MOMENT],
+            Form::Attach => &[
+                Sort::Key(Keyword::Attach),
+                CONN,
+                Sort::Unbounded,
+                Sort::Name,
+                Sort::Name,
+            ],
+            Form::Detach => &[Sort::Key(Keyword::Detach), CONN, Sort::Name],
+            Form::Upgrade => &[Sort::Key(Keyword::Upgrade), CONN, Sort::Name, Sort::Name],
+            Form::Conn => &[Sort::Key(Keyword::Conn), CONN, WORDS],
+            Form::Tenant => &[Sort::Key(Keyword::Tenant), Sort::Name, MILLISECONDS],
+            Form::Access => &[
+                Sort::Key(Keyword::Policy),
+                Sort::Name,
+                Sort::Key(Keyword::Access),
+            ],
+            Form::Rate => &[
+                Sort::Key(Keyword::Policy),
+                Sort::Name,
+                Sort::Key(Keyword::Rate),
+                CALLS,
+                Sort::Fixed(Keyword::Per),
+                MILLISECONDS,
+                Sort::Fixed(Keyword::Burst),
+                CALLS,
+                Sort::Either(Keyword::Hold, Keyword::Deny),
+            ],
+            Form::Quota => &[
+                Sort::Key(Keyword::Policy),
+                Sort::Name,
+                Sort::Key(Keyword::Quota),
+                Sort::Name,
+                Sort::Fixed(Keyword::Cap),
+                CAP,
+            ],
+            Form::Count => &[
+                Sort::Key(Keyword::Policy),
+                Sort::Name,
+                Sort::Key(Keyword::Count),
+            ],
+            Form::Redact => &[
+                Sort::Key(Keyword::Policy),
+                Sort::Name,
+                Sort::Key(Keyword::Redact),
+            ],
+            Form::Close => &[Sort::Key(Keyword::Close)],
+        }
+    }
+}
+
+/// Whether a word may stand where one of this sort stands in a form: it is the one by which the form is known, if it
+/// has to be.
+fn fits_key(sort: Sort, word: &[u8]) -> bool
+    ensures { result ≡ fits_key sort word.now }
+{
+    match sort {
+        Sort::Key(keyword) => word == keyword.spelling(),
+        _ => true,
+    }
+}
+
+/// Whether a line is of the form of these sorts: it has as many words, and those by which the form is known.
+fn has_form(sorts: &[Sort], line: &[u8]) -> bool
+    ensures { result ≡ has_form sorts.now (words_of line.now) }
+{
+    let mut rest = Some(line);
+    for sort in sorts {
+        let Some(text) = rest else {
+            return false;
+        };
+        let (word, behind) = first_word(text);
+        if !fits_key(*sort, word) {
+            return false;
+        }
+        rest = behind;
+    }
+    rest.is_none()
+}
+
+/// The form of a line, by its number of words and by those that stand in it as they are; none where it has no form.
+/// What its other words are isn't asked. It takes time in proportion to the line.
+pub fn form_of(line: &[u8]) -> Option<Form>
+    ensures { result ≡ form_in (words_of line.now) }
+{
+    FORMS
+        .iter()
+        .copied()
+        .find(|form| has_form(form.sorts(), line))
+}

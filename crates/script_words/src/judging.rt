@@ -1,0 +1,150 @@
+//! The words of a line, each judged by its sort.
+
+ghost use Rattle.std.specs.Prelude.{◌≡◌, ◌≤◌, length, Some, MatchResult};
+ghost use Rattle.mrpc_table.specs.Lines.{words_of};
+ghost use Rattle.script_words.specs.Reasons.{IsFirst};
+ghost use Rattle.script_words.specs.Sorts.{Says, Offends};
+ghost use Rattle.script_words.specs.Lines.{AreSaid, IsAgainst};
+ghost use Rattle.script_words.specs.Meanings.{meaning_of, meanings_of};
+ghost use Rattle.script_words.specs.Rests.{earlier};
+
+use crate::fault::ScriptReason;
+use crate::keyword::Keyword;
+use crate::sort::{Said, Sort};
+use crate::value::value_of;
+use crate::words::first_word;
+use arrayvec::ArrayVec;
+use mrpc_table::{Decimal, is_name, number_of};
+
+/// The most words that a form has.
+pub const MAX_WORDS: usize = 9;
+
+/// What the words of a line say, one by one.
+pub type Judged<'a> = ArrayVec<Said<'a>, MAX_WORDS>;
+
+fn fixed_word<'a>(keyword: Keyword, word: &'a [u8]) -> Result<Said<'a>, ScriptReason>
+    ensures { MatchResult result (λ s. Says (Sort.Fixed keyword) word.now (meaning_of s))
+        (Offends (Sort.Fixed keyword) word.now) }
+{
+    if keyword.is(word) {
+        Ok(Said::Word(keyword))
+    } else {
+        Err(ScriptReason::Word)
+    }
+}
+
+fn one_of_two<'a>(first: Keyword, second: Keyword, word: &'a [u8]) -> Result<Said<'a>, ScriptReason>
+    ensures { MatchResult result (λ s. Says (Sort.Either first second) word.now (meaning_of s))
+        (Offends (Sort.Either first second) word.now) }
+{
+    if first.is(word) {
+        Ok(Said::Word(first))
+    } else if second.is(word) {
+        Ok(Said::Word(second))
+    } else {
+        Err(ScriptReason::Word)
+    }
+}
+
+fn number_in<'a>(least: u64, most: u64, word: &'a [u8]) -> Result<Said<'a>, ScriptReason>
+    ensures { MatchResult result (λ s. Says (Sort.Number least most) word.now (meaning_of s))
+        (Offends (Sort.Number least most) word.now) }
+{
+    match number_of(word) {
+        None => Err(ScriptReason::Word),
+        Some(Decimal::Large) => Err(ScriptReason::Number),
+        Some(Decimal::Small(number)) => {
+            if least <= number && number <= most {
+                Ok(Said::Number(number))
+            } else {
+                Err(ScriptReason::Number)
+            }
+        }
+    }
+}
+
+fn any_number<'a>(word: &'a [u8]) -> Result<Said<'a>, ScriptReason>
+    ensures { MatchResult result (λ s. Says Sort.Unbounded word.now (meaning_of s))
+        (Offends Sort.Unbounded word.now) }
+{
+    match number_of(word) {
+        None => Err(ScriptReason::Word),
+        Some(number) => Ok(Said::Unbounded(number)),
+    }
+}
+
+fn stored<'a>(word: &'a [u8]) -> Result<Said<'a>, ScriptReason>
+    ensures { MatchResult result (λ s. Says Sort.Value word.now (meaning_of s)) (Offends Sort.Value word.now) }
+{
+    match value_of(word) {
+        None => Err(ScriptReason::Word),
+        Some(Decimal::Large) => Err(ScriptReason::Number),
+        Some(Decimal::Small(value)) => Ok(Said::Number(value)),
+    }
+}
+
+fn named<'a>(word: &'a [u8]) -> Result<Said<'a>, ScriptReason>
+    ensures { MatchResult result (λ s. Says Sort.Name word.now (meaning_of s)) (Offends Sort.Name word.now) }
+{
+    if is_name(word) {
+        Ok(Said::Name(word))
+    } else {
+        Err(ScriptReason::Name)
+    }
+}
+
+/// What a word of a sort says, or the reason against it.
+fn said_by<'a>(sort: Sort, word: &'a [u8]) -> Result<Said<'a>, ScriptReason>
+    ensures { MatchResult result (λ s. Says sort word.now (meaning_of s)) (Offends sort word.now) }
+{
+    match sort {
+        Sort::Key(keyword) => fixed_word(keyword, word),
+        Sort::Fixed(keyword) => fixed_word(keyword, word),
+        Sort::Either(first, second) => one_of_two(first, second, word),
+        Sort::Number { least, most } => number_in(least, most, word),
+        Sort::Unbounded => any_number(word),
+        Sort::Value => stored(word),
+        Sort::Name => named(word),
+    }
+}
+
+/// The first of the reasons so far and one more.
+fn earlier(so_far: Option<ScriptReason>, reason: ScriptReason) -> ScriptReason
+    ensures { result ≡ earlier so_far reason }
+{
+    match so_far {
+        Some(other) if other.order() <= reason.order() => other,
+        _ => reason,
+    }
+}
+
+/// What the words of a line say, each judged by its sort, or the first reason against them. A line with another number
+/// of words is [`ScriptReason::Word`] alone. It takes no memory, and time in proportion to the line.
+pub fn judge<'a>(sorts: &[Sort], line: &'a [u8]) -> Result<Judged<'a>, ScriptReason>
+    requires { length sorts.now ≤ MAX_WORDS }
+    // The words say this, or the reason is the first one against them.
+    ensures { MatchResult result (λ said. AreSaid sorts.now (words_of line.now) (meanings_of said.items))
+        (IsFirst (IsAgainst sorts.now (words_of line.now))) }
+{
+    let mut said = Judged::new();
+    let mut first = None;
+    let mut rest = Some(line);
+    for sort in sorts {
+        let Some(text) = rest else {
+            return Err(ScriptReason::Word);
+        };
+        let (word, behind) = first_word(text);
+        match said_by(*sort, word) {
+            Ok(one) => said.push(one),
+            Err(reason) => first = Some(earlier(first, reason)),
+        }
+        rest = behind;
+    }
+    if rest.is_some() {
+        return Err(ScriptReason::Word);
+    }
+    match first {
+        None => Ok(said),
+        Some(reason) => Err(reason),
+    }
+}

@@ -1,0 +1,21 @@
+//! Laws of words. These functions do nothing; their clauses hold.
+
+ghost use Rattle.std.specs.Prelude.{◌≡◌, ◌≤◌, ◌⊎◌, ℕ, List};
+ghost use Rattle.script_words.specs.Reasons.{order_of, IsFirst};
+ghost use Rattle.script_words.specs.Lines.{AreSaid, IsAgainst};
+ghost use Rattle.script_words.specs.Sorts.{Meaning};
+ghost use Rattle.script_words.specs.declared.fault.ScriptReason.{ScriptReason};
+ghost use Rattle.script_words.specs.declared.sort.Sort.{Sort};
+
+/// Words that are to be of some sorts say one list, or there is one first reason against them, and never both.
+pub fn one_judgement()
+    ensures one { (sorts : List Sort) (words : List (List ℕ)) (ms ns : List Meaning)
+        → AreSaid sorts words ms → AreSaid sorts words ns → ms ≡ ns }
+    // Reasons are in one order.
+    ensures order { (r q : ScriptReason) → order_of r ≤ order_of q → order_of q ≤ order_of r → r ≡ q }
+    ensures either { (sorts : List Sort) (words : List (List ℕ))
+        → ((ms : List Meaning) × AreSaid sorts words ms)
+        ⊎ ((r : ScriptReason) × IsFirst (IsAgainst sorts words) r) }
+    ensures not_both { (sorts : List Sort) (words : List (List ℕ)) (ms : List Meaning) (r : ScriptReason)
+        → AreSaid sorts words ms → IsAgainst sorts words r → ⊥ }
+{}
