@@ -1,0 +1,19 @@
+-- The frames of a history that goes on.
+use Rattle.std.proofs.Common.{◌≡◌, ℕ, List, [], ◌∷◌, ◌++◌, sym, ap, ◌∙◌, append_assoc, append-nil}
+use Rattle.mrpc_table.specs.declared.table.Table.{Table}
+use Rattle.call_history.specs.Legal.{History, behind}
+use Rattle.call_history.specs.declared.happening.Happened.{Happened}
+use Rattle.audit_text.specs.Frames.{sent_frame, frames_behind, frames}
+
+-- the frame of a happening behind a history
+abbrev pub next_frame : Table → History → Happened → List ℕ
+next_frame T before x = sent_frame T x.conn (behind x.conn before) x.what
+
+pub frames-append : (T : Table) (before h k : History) → frames_behind T before (h ++ k) ≡ frames_behind T before h ++ frames_behind T (before ++ h) k
+frames-append T before [] k = ap (λ b. frames_behind T b k) (sym (append-nil before))
+frames-append T before (x ∷ h) k =
+    ap (λ l. next_frame T before x ++ l) (frames-append T (before ++ x ∷ []) h k ∙ ap (λ b. frames_behind T (before ++ x ∷ []) h ++ frames_behind T b k) (append_assoc before (x ∷ []) h))
+    ∙ sym (append_assoc (next_frame T before x) (frames_behind T (before ++ x ∷ []) h) (frames_behind T (before ++ x ∷ h) k))
+
+pub frames-more : (T : Table) (h : History) (x : Happened) → frames T (h ++ x ∷ []) ≡ frames T h ++ next_frame T h x
+frames-more T h x = frames-append T [] h (x ∷ []) ∙ ap (λ l. frames T h ++ l) (append-nil (next_frame T h x))

@@ -1,0 +1,10 @@
+mod Bytes
+mod Distinct
+mod EncodedBytes
+mod Frames
+mod Pieces
+mod Rows
+mod Same
+mod Telling
+mod Texts
+mod Words

@@ -1,0 +1,43 @@
+-- Lines by the pieces that are appended one after another.
+use Rattle.std.proofs.Common.{◌≡◌, ℕ, List, [], ◌∷◌, ◌++◌, refl, sym, ap, ◌∙◌, append_assoc, append-nil, codes}
+use Rattle.std.specs.Prelude.{map, Result, Ok, Err, OnOk}
+use Rattle.std.specs.List.{flat_map}
+use Rattle.std.specs.Fmt.{decimal}
+use Rattle.mrpc_table.specs.Calls.{message_at}
+use Rattle.mrpc_table.specs.Text.{line, spaced}
+use Rattle.mrpc_table.specs.declared.table.Table.{Table}
+use Rattle.call_history.specs.declared.happening.Taken.{Taken}
+use Rattle.call_history.specs.declared.happening.TookCopy.{TookCopy}
+use Rattle.call_history.specs.declared.happening.TookCopy.TheVariants.{Copy, Malformed}
+use Rattle.audit_text.specs.Lines.{copy_words, encoding_of, hex_word}
+use Rattle.audit_text.specs.Pieces.{behind_spaces, told_copy}
+
+-- words with a space between each two are the first, and the others each behind a space
+pub spaced-pieces : (w : List ℕ) (ws : List (List ℕ)) → spaced (w ∷ ws) ≡ w ++ behind_spaces ws
+spaced-pieces w [] = sym (append-nil w)
+spaced-pieces w (v ∷ ws) = ap (λ l. w ++ 32 ∷ l) (spaced-pieces v ws)
+
+-- numbers, each behind a space
+pub numbers-spaced : (ns : List ℕ) → flat_map (λ n. 32 ∷ decimal n) ns ≡ behind_spaces (map decimal ns)
+numbers-spaced [] = refl
+numbers-spaced (n ∷ ns) = ap (λ l. 32 ∷ decimal n ++ l) (numbers-spaced ns)
+
+pub line-pieces : (w : List ℕ) (ws : List (List ℕ)) → line (w ∷ ws) ≡ (w ++ behind_spaces ws) ++ 10 ∷ []
+line-pieces w ws = ap (λ l. l ++ 10 ∷ []) (spaced-pieces w ws)
+
+pub spaced-append : (vs ws : List (List ℕ)) → behind_spaces (vs ++ ws) ≡ behind_spaces vs ++ behind_spaces ws
+spaced-append [] ws = refl
+spaced-append (v ∷ vs) ws = ap (λ l. 32 ∷ v ++ l) (spaced-append vs ws) ∙ sym (append_assoc (32 ∷ v) (behind_spaces vs) (behind_spaces ws))
+
+-- a copy is told by its encoding
+copy-told : (T : Table) (call : Taken) (copy : TookCopy) (encoding : List ℕ) → encoding ≡ encoding_of T call copy → copy_words T (message_at T call.method call.number) copy ≡ told_copy encoding copy
+copy-told T call (Copy tree) encoding is = ap (λ l. codes "copy" ∷ hex_word l ∷ []) (sym is)
+copy-told T call (Malformed reason place value) encoding is = refl
+
+pub told-copy : (T : Table) (call : Taken) (encoding : List ℕ) → encoding ≡ encoding_of T call call.copy → copy_words T (message_at T call.method call.number) call.copy ≡ told_copy encoding call.copy
+told-copy T call encoding is = copy-told T call call.copy encoding is
+
+-- what holds where a step was made, holds by it
+pub on-ok : {T E : Type 0} (r : Result T E) (P Q : Type 0) → OnOk r P → (P → Q) → OnOk r Q
+on-ok (Ok x) P Q h f = f h
+on-ok (Err e) P Q h f = tt

@@ -1,0 +1,5 @@
+pub mod Frames
+pub mod Labels
+pub mod Lines
+pub mod Pieces
+pub mod Writable

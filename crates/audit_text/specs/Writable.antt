@@ -1,0 +1,108 @@
+-- Which happenings the audit text can tell: their numbers are in the ranges of their types, their names have the form
+-- of a name, an operator's policy is the one that was declared under its label, and a copy is a normal tree whose
+-- encoding has a length of 64 bits (this project's own).
+use Rattle.std.specs.Prelude.{◌≡◌, ℕ, ◌<◌, ◌^◌, ◌⊎◌, List, IsTrue, length, Option, Some, None}
+use Rattle.mrpc_table.specs.Calls.{message_at}
+use Rattle.mrpc_table.specs.Names.{is_name_form}
+use Rattle.mrpc_table.specs.Node.{Node}
+use Rattle.mrpc_table.specs.Normal.{IsNormal}
+use Rattle.mrpc_table.specs.declared.table.Table.{Table}
+use Rattle.wire_base.specs.Encoding.{encoding}
+use Rattle.engine_core.specs.declared.op.Op.{Op as Step}
+use Rattle.engine_core.specs.declared.op.Op.TheVariants.{Attach, Detach, Upgrade}
+use Rattle.engine_core.specs.declared.policy.Policy.{Policy}
+use Rattle.call_history.specs.declared.happening.Cause.{Cause}
+use Rattle.call_history.specs.declared.happening.Cause.TheVariants as cause
+use Rattle.call_history.specs.declared.happening.Happened.{Happened}
+use Rattle.call_history.specs.declared.happening.Happening.{Happening}
+use Rattle.call_history.specs.declared.happening.Happening.TheVariants.{Took, Away, Op, Moment, Charged, Drawn, Counted, Redacted, Sent, Refused}
+use Rattle.call_history.specs.declared.happening.Taken.{Taken}
+use Rattle.call_history.specs.declared.happening.TookCopy.{TookCopy}
+use Rattle.call_history.specs.declared.happening.TookCopy.TheVariants.{Copy, Malformed}
+use Rattle.audit_text.specs.Labels.{Declared, policy_under}
+use Rattle.audit_text.specs.Lines.{transport}
+use Rattle.audit_text.specs.declared.holding.Holding.{Holding}
+
+-- a letter or `_`, and then letters, digits and `_`, of any length
+abbrev pub HasNameForm : List ℕ → Type 0
+HasNameForm name = IsTrue (is_name_form name)
+
+-- ---- an operator's step
+
+-- the policy is the one under the label
+pub record IsDeclared (declared : Declared) (label : List ℕ) (policy : Policy) : Type 0 where
+  pub form : HasNameForm label
+  pub under : policy_under label declared ≡ Some policy
+
+abbrev pub IsStep : Declared → Step → Type 0
+IsStep declared (Attach at name label policy) = (at < 2 ^ 32) × HasNameForm name × IsDeclared declared label policy
+IsStep declared (Detach name) = HasNameForm name
+IsStep declared (Upgrade name label policy) = HasNameForm name × IsDeclared declared label policy
+
+-- ---- an accepted call
+
+-- what was taken of a call: a normal tree of its message, with an encoding of fewer than 2^64 bytes, or it is malformed
+pub record IsCopy (T : Table) (call : Taken) (tree : Node) : Type 0 where
+  pub method : call.method < length T.methods
+  pub normal : IsNormal T (message_at T call.method call.number) tree
+  pub short : length (encoding T (message_at T call.method call.number) tree) < 2 ^ 64
+
+abbrev pub IsTaken : Table → Taken → TookCopy → Type 0
+IsTaken T call (Copy tree) = IsCopy T call tree
+IsTaken T call (Malformed reason place value) = (place < 2 ^ 64) × (value < 2 ^ 64)
+
+pub record IsAcceptance (T : Table) (call : Taken) : Type 0 where
+  pub seq : call.seq < 2 ^ 32
+  pub method : call.method < 2 ^ 16
+  pub number : call.number < 2 ^ 32
+  pub addr : call.addr < 2 ^ 64
+  pub after : call.after < 2 ^ 64
+  pub count : call.count < 2 ^ 64
+  pub copy : IsTaken T call call.copy
+
+-- ---- a refusal
+
+abbrev pub IsCause : Cause → Type 0
+IsCause cause.Malformed = Unit {0}
+IsCause (cause.Access name version rule) = HasNameForm name × (version < 2 ^ 32) × HasNameForm rule
+IsCause (cause.Rate name left cost) = HasNameForm name × (left < 2 ^ 64) × (cost < 2 ^ 64)
+IsCause (cause.Quota name ticket cap) = HasNameForm name × (ticket < 2 ^ 64) × (cap < 2 ^ 64)
+IsCause cause.Transport = Unit {0}
+
+-- ---- happenings
+
+-- the text can tell what happened, under a table and the policies that were declared
+abbrev pub CanBeTold : Table → Declared → Happening → Type 0
+CanBeTold T declared (Took call) = IsAcceptance T call
+CanBeTold T declared (Away method number addr) = (method < 2 ^ 16) × (number < 2 ^ 32) × (addr < 2 ^ 64)
+CanBeTold T declared (Op step) = IsStep declared step
+CanBeTold T declared (Moment ms) = ms < 2 ^ 64
+CanBeTold T declared (Charged seq name left) = (seq < 2 ^ 32) × HasNameForm name × (left < 2 ^ 64)
+CanBeTold T declared (Drawn seq name window ticket) =
+    (seq < 2 ^ 32) × HasNameForm name × (window < 2 ^ 64) × (ticket < 2 ^ 64)
+CanBeTold T declared (Counted seq name) = (seq < 2 ^ 32) × HasNameForm name
+CanBeTold T declared (Redacted seq name version) = (seq < 2 ^ 32) × HasNameForm name × (version < 2 ^ 32)
+CanBeTold T declared (Sent seq bytes) = (seq < 2 ^ 32) × (bytes < 2 ^ 64)
+CanBeTold T declared (Refused seq why) = (seq < 2 ^ 32) × IsCause why
+
+pub record IsWritable (T : Table) (declared : Declared) (x : Happened) : Type 0 where
+  pub conn : x.conn < 2 ^ 32
+  pub told : CanBeTold T declared x.what
+
+-- ---- calls that stand
+
+-- the name of an engine, or that of the queue for transport
+abbrev pub IsQueueName : List ℕ → Type 0
+IsQueueName name = HasNameForm name ⊎ (name ≡ transport)
+
+abbrev pub IsHolding : Option Holding → Type 0
+IsHolding None = Unit {0}
+IsHolding (Some holding) = (holding.level < 2 ^ 64) × (holding.cost < 2 ^ 64)
+
+-- the numbers of a call that stands are in the ranges of their types, and its queue has a name
+pub record IsStanding (call_conn call_seq place : ℕ) (queue : List ℕ) (held : Option Holding) : Type 0 where
+  pub conn : call_conn < 2 ^ 32
+  pub seq : call_seq < 2 ^ 32
+  pub position : place < 2 ^ 32
+  pub name : IsQueueName queue
+  pub holding : IsHolding held

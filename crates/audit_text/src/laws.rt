@@ -1,0 +1,62 @@
+//! Laws of the audit text. These functions do nothing; their clauses hold.
+
+ghost use Rattle.std.specs.Prelude.{◌≡◌, ◌≢◌, ◌<◌, ◌^◌, ◌++◌, ◌∷◌, ℕ, List, [], All, Option, length};
+ghost use Rattle.hex.specs.Hex.{IsBytes};
+ghost use Rattle.mrpc_table.specs.Node.{Node};
+ghost use Rattle.mrpc_table.specs.Normal.{IsNormal};
+ghost use Rattle.mrpc_table.specs.Valid.{IsValid};
+ghost use Rattle.mrpc_table.specs.declared.table.Table.{Table};
+ghost use Rattle.wire_base.specs.Encoding.{encoding};
+ghost use Rattle.call_history.specs.Legal.{History, behind};
+ghost use Rattle.call_history.specs.declared.happening.Happened.{Happened};
+ghost use Rattle.audit_text.specs.Labels.{Declared};
+ghost use Rattle.audit_text.specs.Frames.{frames, sent_frame};
+ghost use Rattle.audit_text.specs.Lines.{audit, audit_line, happening_words, stands_line, standing_words, IsCutInto};
+ghost use Rattle.audit_text.specs.Writable.{IsStanding, IsWritable};
+ghost use Rattle.audit_text.specs.declared.holding.Holding.{Holding};
+
+use wire_decode::{meaning_of_encoding, one_meaning};
+
+/// A text tells one history, of those that can be told under a table and the policies that were declared: the line at
+/// its front tells one happening, and what stands behind it.
+pub fn a_text_has_one_history()
+    ensures front { (T : Table) (declared : Declared) (x y : Happened) (a b : List ℕ) → IsValid T
+        → IsWritable T declared x → IsWritable T declared y → audit_line T x ++ a ≡ audit_line T y ++ b
+        → (x ≡ y) × (a ≡ b) }
+    ensures text { (T : Table) (declared : Declared) (h k : History) → IsValid T → All (IsWritable T declared) h
+        → All (IsWritable T declared) k → audit T h ≡ audit T k → h ≡ k }
+{
+    meaning_of_encoding();
+    one_meaning();
+}
+
+/// A line of a call that stands is never that of a happening, and tells one call.
+pub fn a_stands_line_tells_one_call()
+    ensures apart { (T : Table) (x : Happened) (conn seq position : ℕ) (name : List ℕ) (holding : Option Holding)
+        → stands_line conn seq position name holding ≢ audit_line T x }
+    ensures one { (conn seq position conn' seq' position' : ℕ) (name name' : List ℕ) (holding holding' : Option Holding)
+        → IsStanding conn seq position name holding → IsStanding conn' seq' position' name' holding'
+        → stands_line conn seq position name holding ≡ stands_line conn' seq' position' name' holding'
+        → (conn ≡ conn') × (seq ≡ seq') × (position ≡ position') × (name ≡ name') × (holding ≡ holding') }
+{}
+
+/// A line has one line feed, at its end, and is cut into its words at its blanks.
+pub fn a_line_is_cut_into_its_words()
+    ensures happening { (T : Table) (declared : Declared) (x : Happened) → IsValid T → IsWritable T declared x
+        → IsCutInto (happening_words T x.conn x.what) }
+    ensures stands { (conn seq position : ℕ) (name : List ℕ) (holding : Option Holding)
+        → IsStanding conn seq position name holding → IsCutInto (standing_words conn seq position name holding) }
+{}
+
+/// The encoding of a normal tree, whose length fits 64 bits, has bytes alone. So hexadecimal digits tell it.
+pub fn an_encoding_is_bytes()
+    ensures { (T : Table) (msg : ℕ) (t : Node) → IsValid T → IsNormal T msg t → length (encoding T msg t) < 2 ^ 64
+        → IsBytes (encoding T msg t) }
+{}
+
+/// The texts of a history that goes on.
+pub fn texts_go_on()
+    ensures lines { (T : Table) (h k : History) → audit T (h ++ k) ≡ audit T h ++ audit T k }
+    ensures frames { (T : Table) (h : History) (x : Happened)
+        → frames T (h ++ x ∷ []) ≡ frames T h ++ sent_frame T x.conn (behind x.conn h) x.what }
+{}
