@@ -1,0 +1,222 @@
+-- What holds of a connection's own fields: the code's own. No public clause cites this module.
+use Rattle.std.specs.Prelude.{◌≡◌, ◌≢◌, ℕ, ◌+◌, ◌≤◌, ◌<◌, Bool, List, [], ◌∷◌, ◌++◌, All, insert, length, remove, set, slice_get, sum, IfSome, Option, Some, None}
+use Rattle.std.specs.List.{AllZip, sum_by}
+use Rattle.mrpc_table.specs.Valid.{IsValid}
+use Rattle.mrpc_table.specs.declared.limits.TheConstants.{MAX_LOADS}
+use Rattle.mrpc_table.specs.declared.call.Call.{Call}
+use Rattle.mrpc_table.specs.declared.table.Table.{Table}
+use Rattle.policy_redact.specs.Redacting.{cleared}
+use Rattle.policy_redact.specs.declared.redact.Clear.{Clear}
+use Rattle.engine_core.specs.Answers.{Answers, note}
+use Rattle.engine_core.specs.Chains.{Changes, Entry, new_entry, upgraded}
+use Rattle.engine_core.specs.Engines.{EngineParts}
+use Rattle.engine_core.specs.Marks.{StandingCall, past_of}
+use Rattle.engine_core.specs.Moves.{moved_by, place_of}
+use Rattle.engine_core.specs.Policies.{first_level, level_under}
+use Rattle.engine_core.specs.declared.op.Op.{Op}
+use Rattle.engine_core.specs.declared.op.Op.TheVariants.{Attach, Detach, Upgrade}
+use Rattle.engine_core.specs.declared.outcome.Noted.{Noted}
+use Rattle.engine_core.specs.declared.outcome.Noted.TheVariants as notes
+use Rattle.engine_core.specs.declared.outcome.Outcome.{Outcome}
+use Rattle.engine_core.specs.declared.outcome.Outcome.TheVariants as outcomes
+use Rattle.engine_core.specs.declared.policy.Policy.TheVariants.{Redact}
+use Rattle.frame_transport.specs.declared.format.TheConstants.{MAX_PAYLOAD}
+use Rattle.graph_copy.specs.Answers.{loads_of}
+use Rattle.graph_copy.specs.declared.copying.CopyResult.{CopyResult}
+use Rattle.graph_copy.specs.declared.copying.CopyResult.TheVariants as results
+use Rattle.chain_upgrade.specs.Chains.{ChainParts, chain_of}
+use Rattle.call_history.specs.Behind.{copied, moment, taken}
+use Rattle.call_history.specs.Events.{cause_of}
+use Rattle.call_history.specs.Records.{Kept, step_at}
+use Rattle.call_history.specs.Loads.{IsLoaded, Loads}
+use Rattle.call_history.specs.Rules.{IsTakenBy, payload}
+use Rattle.call_history.specs.declared.happening.Cause.TheVariants as cause
+use Rattle.call_history.specs.declared.happening.Happening.{Happening}
+use Rattle.call_history.specs.declared.happening.Happening.TheVariants as what
+use Rattle.call_history.specs.declared.happening.Taken.{Taken}
+use Rattle.call_history.specs.declared.happening.TookCopy.{TookCopy}
+use Rattle.call_history.specs.declared.happening.TookCopy.TheVariants.{Copy, Malformed}
+use Rattle.conn_core.specs.declared.answers.Ask.{Ask}
+use Rattle.conn_core.specs.Connections.{Connection, IsConnection, behind}
+
+-- ---- which step put its policy into an entry
+
+-- a step put the entry's present policy there
+abbrev pub PutsIn : Op → Entry → Type 0
+PutsIn (Attach at name label policy) e = (name ≡ e.name) × (policy ≡ e.policy)
+PutsIn (Detach name) e = ⊥
+PutsIn (Upgrade name label policy) e = (name ≡ e.name) × (policy ≡ e.policy)
+
+-- the place is that of the step
+pub record IsStepOf (steps : List Op) (place : ℕ) (e : Entry) : Type 0 where
+  pub within : place < length steps
+  pub put : PutsIn (step_at steps place) e
+
+-- ---- what an acceptance adds
+
+-- the call of an ask, under a number
+pub record IsAsked (seq : ℕ) (ask : Ask) (call : Taken) : Type 0 where
+  pub number : call.seq ≡ seq
+  pub method : call.method ≡ ask.method
+  pub request : call.number ≡ ask.number
+  pub address : call.addr ≡ ask.addr
+  pub stores : call.after ≡ ask.after
+
+-- the copy of an answer
+abbrev pub copy_of : CopyResult → TookCopy
+copy_of (results.Copied tree loads) = Copy tree
+copy_of (results.Malformed reason place value loads) = Malformed reason place value
+
+-- a call and its form are those of an ask, by a copy's answer
+pub record IsOfAnswer (conn seq : ℕ) (ask : Ask) (answer : CopyResult) (call : Taken) (form : Option Call) : Type 0 where
+  pub asked : IsAsked seq ask call
+  pub copy : call.copy ≡ copy_of answer
+  pub count : call.count ≡ loads_of answer
+  pub form_is : form ≡ copied conn call call.copy
+
+-- what holds of a call that was taken, and of its form, by these loads
+pub record IsTakenWell (T : Table) (H limit : ℕ) (own : Loads) (call : Taken) (form : Option Call) : Type 0 where
+  pub loaded : IsLoaded T H limit call own
+  pub few : call.count ≤ limit
+  pub sound : IsTakenBy T call call.copy
+  pub short : IfSome form (λ f. length (payload T f) ≤ MAX_PAYLOAD)
+
+-- what happens when a call is accepted, in order: one without a form is refused at once
+abbrev pub told_acceptance : Taken → Option Call → List Happening
+told_acceptance call None = what.Took call ∷ what.Refused call.seq cause.Malformed ∷ []
+told_acceptance call (Some form) = what.Took call ∷ []
+
+-- a chain, with a call that joins it
+abbrev pub joined : Option Call → ChainParts → ChainParts
+joined None c = c
+joined (Some form) c = record c {
+  calls = c.calls ++ record { call = form; marks = [] } ∷ [];
+  row = c.row ++ (form.seq, 0) ∷ [];
+}
+
+-- ---- what a turn adds
+
+-- a note of a turn, as it happens
+abbrev pub told_note : List ℕ → ℕ → Noted → List Happening
+told_note name seq notes.Nothing = []
+told_note name seq (notes.Charged left) = what.Charged seq name left ∷ []
+told_note name seq (notes.Drawn window ticket) = what.Drawn seq name window ticket ∷ []
+told_note name seq notes.Counted = what.Counted seq name ∷ []
+
+-- what happens in a turn of an entry that comes out so for the call of a number, in order
+abbrev pub told_turn : Entry → ℕ → Outcome → List Happening
+told_turn e seq (outcomes.Passed n) = told_note e.name seq n
+told_turn e seq (outcomes.Held left cost) = []
+told_turn e seq (outcomes.Refused n why) = told_note e.name seq n ++ what.Refused seq (cause_of e why) ∷ []
+told_turn e seq outcomes.Redacted = what.Redacted seq e.name e.version ∷ []
+
+-- how many records a note takes, and a turn
+abbrev pub records_of : Noted → ℕ
+records_of notes.Nothing = 0
+records_of (notes.Charged left) = 1
+records_of (notes.Drawn window ticket) = 1
+records_of notes.Counted = 1
+
+abbrev pub records_in : Outcome → ℕ
+records_in (outcomes.Passed n) = records_of n
+records_in (outcomes.Held left cost) = 0
+records_in (outcomes.Refused n why) = records_of n + 1
+records_in outcomes.Redacted = 1
+
+-- ---- what a sending adds
+
+-- the first call that is ready leaves, and is recorded as sent
+pub record Leaves (seq bytes : ℕ) (before after : ChainParts) (old new : Kept) : Type 0 where
+  pub call : StandingCall
+  pub number : call.call.seq ≡ seq
+  pub calls : before.calls ≡ call ∷ after.calls
+  pub row : before.row ≡ (seq, length before.engines) ∷ after.row
+  pub engines : after.engines ≡ before.engines
+  pub attached : after.attached ≡ before.attached
+  pub steps : new.steps ≡ old.steps
+  pub told : new.happenings ≡ old.happenings ++ what.Sent seq bytes ∷ []
+  pub room : old.room ≤ new.room + 1
+
+-- ---- what a step of an operator changes
+
+-- the engines behind it
+abbrev pub AreEngines : Op → ℕ → ChainParts → List EngineParts → Type 0
+AreEngines (Attach at name label policy) now c engines = engines ≡ insert c.engines at (record {
+  entry = new_entry name (c.attached + 1) policy;
+  level = first_level policy;
+  last = now;
+})
+AreEngines (Detach name) now c engines = engines ≡ remove c.engines (place_of name (chain_of c).entries)
+AreEngines (Upgrade name label policy) now c engines = (e : EngineParts)
+    → slice_get c.engines (place_of name (chain_of c).entries) ≡ Some e
+    → engines ≡ set c.engines (place_of name (chain_of c).entries) (record {
+      entry = upgraded e.entry policy;
+      level = level_under e.entry.policy policy e.level;
+      last = e.last;
+    })
+
+-- a chain took a step at a moment
+pub record IsChanged (step : Op) (now : ℕ) (before after : ChainParts) : Type 0 where
+  pub changes : Changes (chain_of before) step (chain_of after)
+  pub engines : AreEngines step now before after.engines
+  pub calls : after.calls ≡ before.calls
+  pub row : after.row ≡ moved_by step (chain_of before).entries before.row
+
+-- the places of the steps that put their policies into the engines, behind a step of this place
+abbrev pub places_after : Op → List Entry → ℕ → List ℕ → List ℕ
+places_after (Attach at name label policy) entries place places = insert places at place
+places_after (Detach name) entries place places = remove places (place_of name entries)
+places_after (Upgrade name label policy) entries place places = set places (place_of name entries) place
+
+-- ---- what the end of a link adds
+
+-- what happens when a link fails: the calls that stand are refused
+abbrev pub told_failure : List StandingCall → List Happening
+told_failure [] = []
+told_failure (s ∷ calls) = what.Refused s.call.seq cause.Transport ∷ told_failure calls
+
+-- ---- room for records
+
+-- An entry may still record something of a call: at some level and moment it calls for a note, or it would clear fields.
+pub data MayRecord (s : StandingCall) (e : Entry) : Type 0 where
+  may_note : (level moment : ℕ) (n : Noted) → Answers e.policy level moment s.call (past_of s.marks e.attach) (note n)
+      → 1 ≤ records_of n → MayRecord s e
+  may_clear : (clears : List Clear) → e.policy ≡ Redact clears → cleared clears s.call ≢ s.call.tree → MayRecord s e
+
+-- so many records of a call may be due by each entry at the most
+abbrev pub AreDue : List Entry → StandingCall → List ℕ → Type 0
+AreDue entries s due = AllZip (λ e n. MayRecord s e → 1 ≤ n) entries due
+
+-- the records that are due of a call, its fate among them
+abbrev pub due_of : List ℕ → ℕ
+due_of due = sum due + 1
+
+-- there is room for all records that the calls which stand may still have
+pub record HasRoom (calls : List StandingCall) (entries : List Entry) (room : ℕ) : Type 0 where
+  pub dues : List (List ℕ)
+  pub each : AllZip (AreDue entries) calls dues
+  pub enough : sum_by due_of dues ≤ room
+
+-- ---- a connection
+
+-- as its fields show it
+abbrev pub seen : ℕ → Table → ℕ → ChainParts → Kept → Bool → Connection
+seen conn table limit chain history ended = record {
+  conn = conn;
+  table = table;
+  limit = limit;
+  chain = chain;
+  happenings = history.happenings;
+  ended = ended;
+}
+
+pub record IsKept (c : Connection) (steps : List ℕ) (history : Kept) (accepted ms : ℕ) : Type 0 where
+  pub connection : IsConnection c
+  pub valid : IsValid c.table
+  pub least_limit : 1 ≤ c.limit
+  pub greatest_limit : c.limit ≤ MAX_LOADS
+  pub count : accepted ≡ length (taken (behind c))
+  pub latest : ms ≡ moment (behind c)
+  pub engine_steps : AllZip (IsStepOf history.steps) steps (chain_of c.chain).entries
+  pub short : All (λ s. length (payload c.table s.call) ≤ MAX_PAYLOAD) c.chain.calls
+  pub room : HasRoom c.chain.calls (chain_of c.chain).entries history.room

@@ -1,0 +1,99 @@
+//! How a call is handed to a link, and leaves its chain.
+
+ghost use Rattle.std.specs.Prelude.{◌≡◌, ◌≢◌, ◌<◌, ◌≤◌, ◌++◌, ◌∷◌, [], IfOk, None, OnOk, length};
+ghost use Rattle.mrpc_base.specs.Faults.{HasCause};
+ghost use Rattle.mrpc_table.specs.Calls.{IsCallOf};
+ghost use Rattle.mrpc_table.specs.Valid.{IsValid};
+ghost use Rattle.engine_core.specs.Moves.{first_at};
+ghost use Rattle.frame_transport.specs.declared.format.TheConstants.{MAX_PAYLOAD};
+ghost use Rattle.call_history.specs.Frames.{frame_of, number_in_frame};
+ghost use Rattle.call_history.specs.Rules.{payload as payload_of};
+ghost use Rattle.conn_core.specs.Kept.{Leaves};
+
+use call_history::{History, Record};
+use chain_upgrade::Chain;
+use frame_transport::{frame, kind_of};
+use mrpc_base::{Handed, Link};
+use mrpc_table::{Bytes, Call, Memory, Sort, Table};
+use std::alloc::Global;
+use wire_encode::{Output, encode_into};
+
+/// Encodes a call into `payload`, and hands its frame to a link.
+pub(crate) fn hand<L: Link>(
+    alloc: Global,
+    payload: &mut Output,
+    table: &Table,
+    call: &Call,
+    link: &mut L,
+) -> Handed
+    requires valid { IsValid table.now }
+    requires fits { IsCallOf table.now call.now }
+    requires short { length (payload_of table.now call.now) ≤ MAX_PAYLOAD }
+    ensures encoded { result ≡ Handed.Done → payload.new ≡ payload_of table.now call.now }
+    ensures appended { result ≡ Handed.Done
+        → L.handed link.new ≡ L.handed link.old ++ frame_of table.now call.now ∷ [] }
+    ensures kept { result ≢ Handed.Done → L.handed link.new ≡ L.handed link.old }
+    ensures given { L.given link.new ≡ L.given link.old }
+    ensures link_ended { L.ended link.new ≡ L.ended link.old }
+    ensures same_link { (first : L) → L.since first link.old → L.since first link.new }
+    ensures cause { HasCause (result ≡ Handed.Failed) (L.faults link.old) (L.faults link.new) }
+{
+    match frame_for(alloc, payload, table, call) {
+        Ok(bytes) => link.send(bytes.as_slice()),
+        Err(_) => Handed::Memory,
+    }
+}
+
+// The frame of a call, whose encoding is left in `payload`.
+fn frame_for(
+    alloc: Global,
+    payload: &mut Output,
+    table: &Table,
+    call: &Call,
+) -> Result<Bytes, Memory>
+    requires valid { IsValid table.now }
+    requires fits { IsCallOf table.now call.now }
+    requires short { length (payload_of table.now call.now) ≤ MAX_PAYLOAD }
+    ensures encoded { OnOk result (payload.new ≡ payload_of table.now call.now) }
+    ensures frame { IfOk result (λ bytes. bytes ≡ frame_of table.now call.now) }
+{
+    let message = table.message_at(call.method, call.number);
+    encode_into(payload, &call.tree, table, message)?;
+    let kind = kind_of(Sort::of_number(call.number));
+    frame(
+        alloc,
+        kind,
+        call.method,
+        call.conn,
+        number_for(call),
+        payload.as_slice(),
+    )
+}
+
+// The number in the frame of a call: a request's own, and that of the request which a reply answers.
+fn number_for(call: &Call) -> u32
+    ensures { result ≡ number_in_frame call.now }
+{
+    if call.number == 0 {
+        call.seq
+    } else {
+        call.number
+    }
+}
+
+/// Takes the first call that is ready from a chain, and records that it was sent, in a frame of so many bytes. It
+/// answers the number of the call, and takes no memory.
+pub(crate) fn leave(chain: &mut Chain, history: &mut History, bytes: u64) -> u32
+    requires ready { first_at (length chain.old.engines) chain.old.row ≢ None }
+    requires room { 0 < history.old.room }
+    ensures { Leaves result bytes chain.old chain.new history.old history.new }
+{
+    match chain.pop_ready() {
+        Some(call) => {
+            let seq = call.call().seq;
+            history.push(Record::Sent { seq, bytes });
+            seq
+        }
+        None => unreachable!(),
+    }
+}

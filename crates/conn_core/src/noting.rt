@@ -1,0 +1,91 @@
+//! The records of turns.
+
+ghost use Rattle.std.specs.Prelude.{◌≡◌, ◌<◌, ◌≤◌, ◌+◌, ◌++◌, ℕ, List, length};
+ghost use Rattle.engine_core.specs.Chains.{Entry};
+ghost use Rattle.engine_core.specs.declared.op.Op.{Op};
+ghost use Rattle.chain_upgrade.specs.Chains.{OnTurn};
+ghost use Rattle.call_history.specs.Events.{cause_of};
+ghost use Rattle.call_history.specs.Records.{IsNamed, cause_of as cause_by, name_in, step_at};
+ghost use Rattle.call_history.specs.declared.record.Record.TheVariants.{Refused};
+ghost use Rattle.conn_core.specs.Kept.{PutsIn, records_in, records_of, told_failure, told_note, told_turn};
+
+use call_history::{History, Record, Refusal};
+use chain_upgrade::Turned;
+use engine_core::{CallRow, Noted, Why};
+
+/// Records what came of a turn of an engine of this version, whose policy the step at a place put there.
+pub(crate) fn record_turn(history: &mut History, step: usize, version: u32, turned: Turned)
+    requires step { step < length history.old.steps }
+    requires room { OnTurn turned (λ seq outcome. records_in outcome ≤ history.old.room) }
+    ensures steps { history.new.steps ≡ history.old.steps }
+    ensures idle { turned ≡ Turned.Idle → history.new ≡ history.old }
+    ensures told { OnTurn turned (λ seq outcome. (e : Entry) → PutsIn (step_at history.old.steps step) e
+        → e.version ≡ version → history.new.happenings ≡ history.old.happenings ++ told_turn e seq outcome) }
+    ensures room { OnTurn turned (λ seq outcome. history.old.room ≤ history.new.room + records_in outcome) }
+{
+    match turned {
+        Turned::Idle | Turned::Held { .. } => {}
+        Turned::Moved { seq, noted } => record_note(history, step, seq, noted),
+        Turned::Refused { seq, noted, why } => {
+            record_note(history, step, seq, noted);
+            let by = refusal(step, version, why);
+            history.push(Record::Refused { seq, by });
+        }
+        Turned::Redacted { seq } => history.push(Record::Redacted { seq, step, version }),
+    }
+}
+
+// Records a note of a call by the engine whose policy the step at a place put there.
+fn record_note(history: &mut History, step: usize, seq: u32, noted: Noted)
+    requires step { step < length history.old.steps }
+    requires room { records_of noted ≤ history.old.room }
+    ensures steps { history.new.steps ≡ history.old.steps }
+    ensures told { history.new.happenings
+        ≡ history.old.happenings ++ told_note (name_in (step_at history.old.steps step)) seq noted }
+    ensures room { history.old.room ≤ history.new.room + records_of noted }
+{
+    match noted {
+        Noted::Nothing => {}
+        Noted::Charged { level } => history.push(Record::Charged { seq, step, level }),
+        Noted::Drawn { window, ticket } => history.push(Record::Drawn {
+            seq,
+            step,
+            window,
+            ticket,
+        }),
+        Noted::Counted => history.push(Record::Counted { seq, step }),
+    }
+}
+
+// A refusal by an engine, as it is kept.
+fn refusal(step: usize, version: u32, why: Why) -> Refusal
+    ensures cause { (steps : List Op) (e : Entry) → PutsIn (step_at steps step) e → e.version ≡ version
+        → cause_by steps result ≡ cause_of e why }
+    ensures named { (steps seq : ℕ) → step < steps → IsNamed steps (Refused seq result) }
+{
+    match why {
+        Why::Denied { rule } => Refusal::Access {
+            step,
+            version,
+            rule,
+        },
+        Why::Short { level, cost } => Refusal::Rate { step, level, cost },
+        Why::Over { ticket, cap } => Refusal::Quota { step, ticket, cap },
+    }
+}
+
+/// Records that calls are refused since a link failed.
+pub(crate) fn refuse_all(history: &mut History, calls: &CallRow)
+    requires room { length calls.now ≤ history.old.room }
+    ensures steps { history.new.steps ≡ history.old.steps }
+    ensures told { history.new.happenings ≡ history.old.happenings ++ told_failure calls.now }
+    ensures room { history.old.room ≤ history.new.room + length calls.now }
+{
+    for place in 0..calls.len() {
+        let seq = calls.at(place).call().seq;
+        history.push(Record::Refused {
+            seq,
+            by: Refusal::Transport,
+        });
+    }
+}
