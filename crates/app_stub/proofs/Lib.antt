@@ -1,4 +1,5 @@
 mod Copied
+mod EchoRows
 mod Echoings
 mod Listing
 mod Parting

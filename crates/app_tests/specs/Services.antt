@@ -26,7 +26,10 @@ pub record IsTaking (words : ℕ) (taking : Taking) : Type 0 where
   pub heap : taking.calls.heap ≡ taking.reader.heap
   pub fresh : AreFresh taking.calls.taken taking.reader.known
 
--- a service that gives: its ring is of its heap, and as many notices were sent as numbers of blocks
-pub record IsGiving (service : Service) : Type 0 where
+-- a service that gives: its ring is of its heap, which has this many words and wasn't stored to, and as many notices
+-- were sent as numbers of blocks
+pub record IsGiving (words : ℕ) (service : Service) : Type 0 where
+  pub words_are : service.writer.heap.words ≡ words
+  pub stored : service.writer.stores ≡ []
   pub heap : service.notices.heap ≡ service.writer.heap
   pub even : length service.notices.sent ≡ length service.blocks.sent

@@ -31,7 +31,7 @@ pub(crate) fn run_client<R: Threads + Wait + Sync, F: StopFlag + Send + Drop>(
     requires program { IsClientProgram port.writer.heap.words program.now }
     requires side { IsSideOf port service }
     requires taking { IsTaking WORDS service.taking }
-    requires giving { IsGiving service }
+    requires giving { IsGiving WORDS service }
     requires unused { service.notices.sent ≡ [] }
     ensures calls { IfSome result (λ r. map submission_of r.0.calls.taken ≡ submits_of 0 program.now) }
     ensures known { IfSome result (λ r. r.0.reader.known ≡ stores_of program.now) }
@@ -49,7 +49,7 @@ pub(crate) fn run_client<R: Threads + Wait + Sync, F: StopFlag + Send + Drop>(
                 × TookAll result) }
         { client(rt, program, port) },
         move || -> Served
-            requires { IsSync R.row × IsTaking WORDS service.taking × IsGiving service × (service.notices.sent ≡ []) }
+            requires { IsSync R.row × IsTaking WORDS service.taking × IsGiving WORDS service × (service.notices.sent ≡ []) }
             ensures { IsTaking WORDS result.taking
                 × (result.taking.reader.heap ≡ service.taking.reader.heap)
                 × (result.taking.calls.ring ≡ service.taking.calls.ring)
@@ -57,7 +57,7 @@ pub(crate) fn run_client<R: Threads + Wait + Sync, F: StopFlag + Send + Drop>(
                 × IsTrue result.taking.calls.closed × IsTrue result.taking.reclaims.closed
                 × (result.noticed.ring ≡ service.notices.ring) × (result.numbered.ring ≡ service.blocks.ring)
                 × (length result.noticed.items ≡ length result.numbered.items) }
-        { serve(rt, service, requests) },
+        { serve(rt, service, requests, false) },
     );
     let AppEnd {
         note,
@@ -93,7 +93,7 @@ pub(crate) fn run_server<R: Threads + Wait + Sync, F: StopFlag + Send + Drop>(
     requires program { IsServerProgram port.writer.heap.words program.now }
     requires side { IsSideOf port service }
     requires taking { IsTaking WORDS service.taking }
-    requires giving { IsGiving service }
+    requires giving { IsGiving WORDS service }
     requires unused { service.notices.sent ≡ [] }
     ensures calls { IfSome result (λ t. (notices : List Descriptor)
         × (map submission_of t.calls.taken ≡ all_served_replies program.now 0 notices)
@@ -110,12 +110,12 @@ pub(crate) fn run_server<R: Threads + Wait + Sync, F: StopFlag + Send + Drop>(
                 × TookAll result) }
         { server(rt, program, port) },
         move || -> Served
-            requires { IsSync R.row × IsTaking WORDS service.taking × IsGiving service × (service.notices.sent ≡ []) }
+            requires { IsSync R.row × IsTaking WORDS service.taking × IsGiving WORDS service × (service.notices.sent ≡ []) }
             ensures { IsTaking WORDS result.taking
                 × (result.taking.reader.heap ≡ service.taking.reader.heap)
                 × (result.taking.calls.ring ≡ service.taking.calls.ring)
                 × IsTrue result.taking.calls.closed }
-        { serve(rt, service, requests) },
+        { serve(rt, service, requests, false) },
     );
     let AppEnd { note, sent, .. } = end;
     let Served { mut taking, .. } = served;

@@ -3,6 +3,8 @@
 #![tactic(auto)]
 
 #[cfg(test)]
+mod echoes;
+#[cfg(test)]
 mod joining;
 #[cfg(test)]
 mod port;

@@ -32,10 +32,11 @@ pub(crate) fn open_port<F: Drop>(
     requires at_least { 1 ≤ capacity }
     requires at_most { capacity ≤ 1024 }
     ensures new { IfOk result (λ ends. IsNew ends.0) }
-    ensures words { IfOk result (λ ends. ends.0.writer.heap.words ≡ WORDS) }
+    ensures words { IfOk result (λ ends. (ends.0.writer.heap.words ≡ WORDS) × (ends.0.reader.heap.words ≡ WORDS)) }
+    ensures capacity { IfOk result (λ ends. ends.0.capacity ≡ capacity) }
     ensures side { IfOk result (λ ends. IsSideOf ends.0 ends.1) }
     ensures taking { IfOk result (λ ends. IsTaking WORDS ends.1.taking) }
-    ensures giving { IfOk result (λ ends. IsGiving ends.1 × (ends.1.notices.sent ≡ [])) }
+    ensures giving { IfOk result (λ ends. IsGiving WORDS ends.1 × (ends.1.notices.sent ≡ [])) }
 {
     calls_are_fresh();
     let (writer, reader) = shared_heap::open(alloc, WORDS)?;

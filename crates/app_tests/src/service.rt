@@ -7,6 +7,7 @@ ghost use Rattle.app_tests.specs.declared.port.TheConstants.{WORDS};
 use crate::port::Service;
 use crate::taking::Taking;
 use descriptor_ring::{Descriptor, Full, NumberSender, NumbersSent, Sender, Sent};
+use mrpc_base::Stores;
 use shared_heap::Writer;
 use std::sync::Wait;
 
@@ -18,11 +19,11 @@ pub(crate) struct Served {
     pub(crate) numbered: NumbersSent,
 }
 
-// Gives notices of requests with the numbers 1 to `requests`, each of the method of its number, and with its number as
-// block.
-pub(crate) fn serve<R: Wait>(rt: &R, service: Service, requests: u16) -> Served
+// Gives notices of requests with the numbers 1 to `requests`, each of the method of its number or all of method 0, and
+// with its number as block and as its message at place 1.
+pub(crate) fn serve<R: Wait>(rt: &R, service: Service, requests: u16, same_method: bool) -> Served
     requires taking { IsTaking WORDS service.taking }
-    requires giving { IsGiving service }
+    requires giving { IsGiving WORDS service }
     requires new { service.notices.sent ≡ [] }
     ensures taking { IsTaking WORDS result.taking }
     ensures heap { result.taking.reader.heap ≡ service.taking.reader.heap }
@@ -39,7 +40,9 @@ pub(crate) fn serve<R: Wait>(rt: &R, service: Service, requests: u16) -> Served
         mut blocks,
     } = service;
     for number in 0..requests {
-        let notice = request(&mut writer, number + 1);
+        writer.store(1, u64::from(number) + 1);
+        let method = if same_method { 0 } else { number + 1 };
+        let notice = request(&mut writer, method, number + 1);
         give_notice(rt, &mut taking, &mut notices, notice);
         give_number(rt, &mut taking, &mut blocks, u64::from(number) + 1);
     }
@@ -53,13 +56,13 @@ pub(crate) fn serve<R: Wait>(rt: &R, service: Service, requests: u16) -> Served
     }
 }
 
-pub(crate) fn request(writer: &mut Writer, number: u16) -> Descriptor
+pub(crate) fn request(writer: &mut Writer, method: u16, number: u16) -> Descriptor
     ensures of_heap { IsOf writer.old.heap result }
     ensures same { writer.new ≡ writer.old }
 {
     Descriptor {
         kind: 1,
-        method: number,
+        method,
         number: u32::from(number),
         addr: 1,
         stores: writer.stores(),

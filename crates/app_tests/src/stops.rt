@@ -97,7 +97,7 @@ fn give_notice_alone<R: Abort + Wait>(rt: &R, service: Service)
         mut notices,
         ..
     } = service;
-    let notice = request(&mut writer, 1);
+    let notice = request(&mut writer, 1, 1);
     assert!(rt; notices.send(rt, notice).is_ok());
 }
 

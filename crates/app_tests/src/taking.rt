@@ -5,6 +5,7 @@ ghost use Rattle.descriptor_ring.specs.Rings.{IsOf};
 ghost use Rattle.app_tests.specs.Services.{IsTaking};
 ghost use Rattle.app_tests.specs.declared.port.TheConstants.{WORDS};
 
+use crate::port::WORDS;
 use descriptor_ring::{Descriptor, NumberReceiver, NumberTaken, Receiver, Taken};
 use mrpc_base::Words;
 use shared_heap::{Reader, calls_are_fresh};
@@ -17,8 +18,8 @@ pub(crate) struct Found {
     pub(crate) calls: u64,
     // By how many stores each call is to be behind the one before.
     pub(crate) stores: u64,
-    // Whether the k-th call was of method k, a request or a reply to k, behind k times as many stores, and its message
-    // was k or a later one.
+    // Whether the k-th call was of method 0 or k, a request or a reply to k, behind k times as many stores, and its
+    // message was k or a later one.
     pub(crate) in_order: bool,
     pub(crate) blocks: u64,
     // The sum of their numbers, modulo 2^64.
@@ -38,7 +39,7 @@ impl Found {
 
     fn add_call(&mut self, method: u16, number: u32, after: u64, value: u64) {
         self.calls = self.calls.wrapping_add(1);
-        let is_kth = u64::from(method) == self.calls
+        let is_kth = (method == 0 || u64::from(method) == self.calls)
             && (number == 0 || u64::from(number) == self.calls)
             && after == self.calls.wrapping_mul(self.stores)
             && (self.stores == 0 || self.calls <= value);
@@ -84,8 +85,8 @@ impl Taking {
         match self.calls.take(rt) {
             Taken::Item(call) => {
                 let (method, number, after) = (call.method, call.number, call.stores);
-                let value = load(&mut self.reader, call);
-                self.found.add_call(method, number, after, value);
+                let loaded = load(&mut self.reader, call);
+                self.found.add_call(method, number, after, loaded.1);
                 false
             }
             Taken::Closed => true,
@@ -113,16 +114,18 @@ impl Taking {
     }
 }
 
-// Meets the note of a call and loads place 2.
-fn load(reader: &mut Reader, call: Descriptor) -> u64
+// Meets the note of a call and loads the first word of its message, or word 0 where that lies outside the heap. Tells
+// the place and the word.
+fn load(reader: &mut Reader, call: Descriptor) -> (u64, u64)
     requires words { reader.old.heap.words ≡ WORDS }
     requires of_heap { IsOf reader.old.heap call }
     ensures heap { reader.new.heap ≡ reader.old.heap }
     ensures fresh { (calls : List CallLoads) → Fresh calls reader.old.known
-        → Fresh (calls ++ (record { after = call.stores; loads = (2, result) ∷ [] }) ∷ []) reader.new.known }
+        → Fresh (calls ++ (record { after = call.stores; loads = result ∷ [] }) ∷ []) reader.new.known }
 {
     calls_are_fresh();
-    let Descriptor { note, .. } = call;
+    let Descriptor { addr, note, .. } = call;
+    let place = if addr < WORDS { addr } else { 0 };
     reader.meet(note);
-    reader.load(2)
+    (place, reader.load(place))
 }

@@ -280,3 +280,27 @@ block_end text inner rest block = elim (ends (length text) text (omega arith)) [
   | inl b ↦ (b.passed, b.text_is ∙ ap (λ (t : List ℕ). b.passed ++ t) (same_rest text b.inner inner b.rest rest b.block block))
   | inr unended ↦ absurd (open_block text inner rest unended block)
 ]
+
+-- ---- how far down a line can stand
+
+line_at_is : (skips : Bool) (line : List ℕ) (lines : List (List ℕ)) (number : ℕ) (kept first : Bool) → is_kept skips line ≡ kept → (number == 1) ≡ first
+    → line_at skips (line ∷ lines) number ≡ cond kept (cond first 1 (1 + line_at skips lines (number - 1))) (1 + line_at skips lines number)
+line_at_is skips line lines number kept first k f =
+    ap (λ (b : Bool). cond b (cond (number == 1) 1 (1 + line_at skips lines (number - 1))) (1 + line_at skips lines number)) k
+    ∙ ap (λ (b : Bool). cond kept (cond b 1 (1 + line_at skips lines (number - 1))) (1 + line_at skips lines number)) f
+
+line_at_by : (skips : Bool) (line : List ℕ) (lines : List (List ℕ)) (number : ℕ) (kept first : Bool) → is_kept skips line ≡ kept → (number == 1) ≡ first → line_at skips lines (number - 1) ≤ length lines + 1 → line_at skips lines number ≤ length lines + 1
+    → line_at skips (line ∷ lines) number ≤ length (line ∷ lines) + 1
+line_at_by skips line lines number true true k f less same = subst (λ (n : ℕ). n ≤ length (line ∷ lines) + 1) (sym (line_at_is skips line lines number true true k f)) (omega arith)
+line_at_by skips line lines number true false k f less same = subst (λ (n : ℕ). n ≤ length (line ∷ lines) + 1) (sym (line_at_is skips line lines number true false k f)) (omega (arith, less))
+line_at_by skips line lines number false first k f less same = subst (λ (n : ℕ). n ≤ length (line ∷ lines) + 1) (sym (line_at_is skips line lines number false first k f)) (omega (arith, same))
+
+pub line_at_small : (skips : Bool) (lines : List (List ℕ)) (number : ℕ) → line_at skips lines number ≤ length lines + 1
+line_at_small skips [] number = omega arith
+line_at_small skips (line ∷ lines) number = line_at_by skips line lines number (is_kept skips line) (number == 1) refl refl (line_at_small skips lines (number - 1)) (line_at_small skips lines number)
+
+pub inner_count : (text : List ℕ) (inner : List (List ℕ)) (rest : List ℕ) → IsBlock text inner rest → length inner + 1 ≤ line_count text
+inner_count text inner rest b =
+    let p = has_piece rest in
+    let count = ap length (b.lines ∙ ap (λ (ps : List (List ℕ)). inner ++ end_line ∷ ps) p.2) ∙ length-append inner (end_line ∷ p.0 ∷ p.1) in
+    omega (arith, count, length-slice_split (λ c. c == 10) text)

@@ -3,7 +3,7 @@ use Rattle.std.proofs.Common.{◌≡◌, ◌⊎◌, ℕ, ◌+◌, ◌≤◌, Boo
 use Rattle.std.specs.Prelude.{is_some, slice_get}
 use Rattle.std.proofs.lemmas.Bool.{cases_Bool, cases_lt}
 use Rattle.std.proofs.lemmas.Option.{same_Some}
-use Rattle.mrpc_table.specs.Lines.{words_of, whole_lines}
+use Rattle.mrpc_table.specs.Lines.{words_of, whole_lines, line_count}
 use Rattle.mrpc_table.specs.declared.policy_lines.RuleReason.{RuleReason}
 use Rattle.mrpc_table.specs.declared.table.Table.{Table}
 use Rattle.policy_access.specs.Faults as access_faults
@@ -31,7 +31,7 @@ use Rattle.policy_blocks.specs.declared.item.Tenant.{Tenant}
 use Rattle.policy_blocks.specs.declared.item_form.ItemForm.{ItemForm}
 use Rattle.policy_blocks.specs.declared.item_form.ItemForm.TheVariants as of
 use Rattle.policy_blocks.proofs.HeadFaults.{full_first, words_first, known_first, lacking_first, heads_fine}
-use Rattle.policy_blocks.proofs.InnerLines.{same_inner, same_rest, open_block, ends_or_not, block_end}
+use Rattle.policy_blocks.proofs.InnerLines.{same_inner, same_rest, open_block, ends_or_not, block_end, line_at_small, inner_count, whole_count}
 use Rattle.policy_blocks.proofs.Naming as naming
 
 -- ---- blocks
@@ -232,3 +232,22 @@ module _ (laws : Laws) (T : Table) (skips : Bool) (d : Declared) where
 
   pub item_left : (f : ItemForm) (line text : List ℕ) (i : Item) (x : List ℕ) → Declares T skips d f line text i x → (passed : List ℕ) × (text ≡ passed ++ x)
   item_left f line text i x h = gives_left f h.meanings text i x h.gives
+
+  -- ---- where a line is at fault
+
+  breaks_place : (First : List (List ℕ) → ℕ → RuleReason → Type 0) (text : List ℕ) (m : ℕ) (r : ScriptReason) → Breaks First skips text m r → m ≤ line_count text + 1
+  breaks_place First text m r (in_block inner rest k why b first e g) = omega (arith, e, line_at_small skips inner k, inner_count text inner rest b)
+  breaks_place First text m r (in_open k why unended first within e g) = omega (arith, e, line_at_small skips (whole_lines text) k, whole_count text)
+  breaks_place First text m r (no_end unended none e g) = omega (arith, e, whole_count text)
+
+  broken_place : (f : ItemForm) (text : List ℕ) (m : ℕ) (r : ScriptReason) → BreaksIn T skips f text m r → m ≤ line_count text + 1
+  broken_place of.Access text m r h = breaks_place (access_faults.IsFirstFault T) text m r h
+  broken_place of.Redact text m r h = breaks_place (redact_faults.IsFirstFault T) text m r h
+  broken_place of.Tenant text m r h = absurd h
+  broken_place of.Rate text m r h = absurd h
+  broken_place of.Quota text m r h = absurd h
+  broken_place of.Count text m r h = absurd h
+
+  pub fault_place : (f : ItemForm) (line text : List ℕ) (n : ℕ) (r : ScriptReason) → FailsAt T skips d f line text n r → n ≤ line_count text + 2
+  fault_place f line text n r (in_head h e) = omega (arith, e)
+  fault_place f line text n r (items.in_block ms behind heads breaks e) = omega (arith, e, broken_place f text behind r breaks)

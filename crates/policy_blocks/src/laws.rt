@@ -1,6 +1,7 @@
 //! Laws of items. These functions do nothing; their clauses hold.
 
-ghost use Rattle.std.specs.Prelude.{◌≡◌, ◌⊎◌, ◌++◌, ℕ, Bool, List};
+ghost use Rattle.std.specs.Prelude.{◌≡◌, ◌⊎◌, ◌++◌, ◌+◌, ◌≤◌, ℕ, Bool, List};
+ghost use Rattle.mrpc_table.specs.Lines.{line_count};
 ghost use Rattle.mrpc_table.specs.declared.table.Table.{Table};
 ghost use Rattle.script_words.specs.declared.fault.ScriptReason.{ScriptReason};
 ghost use Rattle.policy_blocks.specs.Declarations.{Declared, IsNew, IsSound, with_item};
@@ -30,6 +31,9 @@ pub fn one_item()
     ensures either { (T : Table) (skips : Bool) (d : Declared) (f : ItemForm) (line text : List ℕ)
         → ((i : Item) × (x : List ℕ) × Declares T skips d f line text i x)
         ⊎ ((n : ℕ) × (r : ScriptReason) × FailsAt T skips d f line text n r) }
+    // A fault is on one of the lines, or right behind them.
+    ensures place { (T : Table) (skips : Bool) (d : Declared) (f : ItemForm) (line text : List ℕ) (n : ℕ)
+        (r : ScriptReason) → FailsAt T skips d f line text n r → n ≤ line_count text + 2 }
     // What is left behind an item is the end of the text.
     ensures left { (T : Table) (skips : Bool) (d : Declared) (f : ItemForm) (line text : List ℕ) (i : Item)
         (x : List ℕ) → Declares T skips d f line text i x → (passed : List ℕ) × (text ≡ passed ++ x) }

@@ -6,6 +6,8 @@ mod counted;
 #[cfg(test)]
 mod stopped;
 #[cfg(test)]
+mod talking;
+#[cfg(test)]
 mod turns;
 #[cfg(test)]
 mod waiting;

@@ -17,6 +17,7 @@ use std::alloc::Global;
 use table_text::{TableFault, one_fault, read_table, split_table};
 
 /// What stands at the front of a text.
+#[derive(Drop)]
 pub struct Front<'a> {
     /// How many words are loaded for a call at most, 1 to 16384; 1024 where no line says it.
     pub loads: u64,

@@ -58,7 +58,7 @@ pub fn run<R: Threads + Wait + Sync, T: Visited + Send + Drop, S: StopFlag>(
     };
     let left = AtomicU64::new(count as u64);
     let ended = work_beside(rt, &line, &left, stop, jobs)?;
-    absorb_all(&line, &mut all, ended, stop)?;
+    absorb_all(&line, &mut all, ended, stop);
     all.finish(rt, &line, stop);
     Ok(all.into_items(back))
 }
@@ -178,19 +178,18 @@ fn absorb_all<T: Visited + Drop, S: StopFlag>(
     all: &mut Worker<T>,
     mut ended: Vec<Worker<T>>,
     _stop: &S,
-) -> Result<(), AllocError>
+)
     requires pass { IsLinePass line.now all.old.pass }
     requires part { 0 < (view all.old.pass).parts }
     requires all { HasEnded T.since T.over (S.may_stop _stop.now) all.old }
     requires of_run { All (IsOfRun line.now (view all.old.pass).firsts) ended.items }
     requires ended { All (HasEnded T.since T.over (S.may_stop _stop.now)) ended.items }
     ensures pass { IsSamePass all.old.pass all.new.pass }
-    ensures parts { OnOk result ((view all.new.pass).parts ≡ (view all.old.pass).parts + length ended.items) }
+    ensures parts { (view all.new.pass).parts ≡ (view all.old.pass).parts + length ended.items }
     ensures firsts { (view all.new.pass).firsts ≡ (view all.old.pass).firsts }
-    ensures all { OnOk result (HasEnded T.since T.over (S.may_stop _stop.now) all.new) }
+    ensures all { HasEnded T.since T.over (S.may_stop _stop.now) all.new }
 {
     while let Some(worker) = ended.pop() {
-        all.absorb(line, worker)?;
+        all.absorb(line, worker);
     }
-    Ok(())
 }

@@ -1,5 +1,5 @@
 // A worker: its pass, and the items that it keeps.
-ghost use Rattle.std.specs.Prelude.{◌≡◌, ◌<◌, ◌≤◌, ◌+◌, ◌⊎◌, [], ◌∷◌, ◌++◌, true, false, All, IfNone, IfSome, IsPermutation, OnOk, length, map};
+ghost use Rattle.std.specs.Prelude.{◌≡◌, ◌<◌, ◌≤◌, ◌+◌, ◌⊎◌, [], ◌∷◌, ◌++◌, true, false, All, IfNone, IfSome, IsPermutation, length, map};
 ghost use Rattle.std.specs.List.{AllZip};
 ghost use Rattle.std.specs.List.Sorted.{IsNonDecreasingBy};
 ghost use Rattle.std.specs.Vec.{vec_capacity};
@@ -13,7 +13,6 @@ use crate::pauses::Pauses;
 use crate::pool::Ran;
 use crate::stop::StopFlag;
 use crate::visited::{Visit, Visited};
-use std::alloc::AllocError;
 use std::sync::Wait;
 use std::sync::atomic::{AtomicU64, Ordering};
 
@@ -198,8 +197,8 @@ impl<T: Visited + Drop> Worker<T> {
         }
     }
 
-    // Takes in another worker, with what it keeps.
-    pub(crate) fn absorb(&mut self, line: &Line<T>, other: Worker<T>) -> Result<(), AllocError>
+    // Takes in another worker, with what it keeps. There is room for it: both hold no more items than there are.
+    pub(crate) fn absorb(&mut self, line: &Line<T>, other: Worker<T>)
         requires pass { IsLinePass line.now self.old.pass }
         requires other_pass { IsLinePass line.now other.pass }
         requires part { 0 < (view self.old.pass).parts }
@@ -207,7 +206,7 @@ impl<T: Visited + Drop> Worker<T> {
         requires one_run { (view other.pass).firsts ≡ (view self.old.pass).firsts }
         requires worker { IsWorker T.since T.over self.old }
         requires other_worker { IsWorker T.since T.over other }
-        ensures worker { OnOk result (IsWorker T.since T.over self.new) }
+        ensures worker { IsWorker T.since T.over self.new }
         ensures pass { IsSamePass self.old.pass self.new.pass }
         ensures parts { (view self.new.pass).parts ≡ (view self.old.pass).parts + (view other.pass).parts }
         ensures firsts { (view self.new.pass).firsts ≡ (view self.old.pass).firsts }
@@ -219,9 +218,11 @@ impl<T: Visited + Drop> Worker<T> {
             stopped,
         } = other;
         line.absorb::<Shares>(&mut self.pass, pass);
-        self.kept.append(&mut kept)?;
-        self.stopped |= stopped;
-        Ok(())
+        line.learn_as::<Returns>(&mut self.pass);
+        match self.kept.append(&mut kept) {
+            Ok(()) => self.stopped |= stopped,
+            Err(_) => unreachable!(),
+        }
     }
 
     // The items, by number, in a list that has room for them.

@@ -9,4 +9,4 @@ invariant-loop-number g l =
     × (l.taking.reclaims.ring ≡ l.initial.taking.reclaims.ring)
     × (l.notices.heap ≡ l.initial.notices.heap) × (l.notices.ring ≡ l.initial.notices.ring)
     × (l.writer.heap ≡ l.initial.writer.heap) × (l.blocks.ring ≡ l.initial.blocks.ring)
-    × (length l.notices.sent ≡ l.number) × (length l.blocks.sent ≡ l.number)
+    × (length l.notices.sent ≡ l.number) × (length l.blocks.sent ≡ l.number) × (length l.writer.stores ≡ l.number)

@@ -1,0 +1,4 @@
+mod InputReading
+mod OneInput
+mod Runs
+mod TextLines

@@ -1,0 +1,11 @@
+-- The items so far, and what is declared with them.
+use Rattle.std.proofs.Common.{length}
+use Rattle.policy_blocks.specs.Declarations.{nothing}
+use Rattle.audit_input.specs.Inputs.{Reads}
+use Rattle.audit_input.proofs.input.read_items.Given as goal
+
+abbrev pub invariant-loop-line : goal.invariant-loop-line
+invariant-loop-line l = Reads l.table nothing l.text l.declared l.rest
+
+abbrev pub decreases-loop-line : goal.decreases-loop-line
+decreases-loop-line l = length l.rest

@@ -1,0 +1,191 @@
+//! The input of `audit` from its text.
+
+ghost use Rattle.std.specs.Prelude.{◌≡◌, ℕ, List, length, IfOk, IfErr, MatchResult};
+ghost use Rattle.std.specs.Str.{bytes_eq};
+ghost use Rattle.mrpc_table.specs.Valid.{IsValid};
+ghost use Rattle.mrpc_table.specs.declared.table.Table.{Table as TheTable};
+ghost use Rattle.policy_blocks.specs.Declarations.{Declared, IsSound};
+ghost use Rattle.script_words.specs.declared.fault.ScriptFault.TheVariants.{Memory as OutOfMemory};
+ghost use Rattle.audit_input.specs.Inputs.{audit_line, Says, IsFaultOf};
+ghost use Rattle.audit_input.specs.Reading.{AreItems, IsStopOf, stop_of};
+
+use crate::laws::one_input;
+use mrpc_table::{Memory, Table, cut, line_count};
+use policy_blocks::{Declarations, ItemForm, ItemLines, one_item, read_item, stays_sound};
+use script_head::read_front;
+use script_words::{ScriptFault, ScriptReason};
+use std::alloc::Global;
+
+/// The first line, with its line feed.
+const FIRST_LINE: &[u8] = b"mrpc-audit 1\n";
+
+/// The line behind which the audit stands.
+const AUDIT: &[u8] = b"audit";
+
+/// What the input of `audit` says.
+#[derive(Drop)]
+pub struct AuditInput<'a> {
+    /// How many words are loaded for a call at most, 1 to 16384.
+    pub loads: u64,
+    pub table: Table,
+    /// The tenants and the policies.
+    pub declared: Declarations,
+    /// The lines of the audit: what stands behind the line `audit`.
+    pub text: &'a [u8],
+    /// The number of the line `audit`, counted from 1.
+    pub line: u64,
+}
+
+/// What is declared in front of the line `audit`, and what stands from that line on and behind it.
+#[derive(Drop)]
+struct Items<'a> {
+    declared: Declarations,
+    /// The text from the line `audit` on.
+    rest: &'a [u8],
+    /// The text behind that line.
+    text: &'a [u8],
+}
+
+/// Why the items of a text weren't read up to a line `audit`.
+#[derive(Clone, Copy)]
+enum Stop {
+    /// A line is at fault, counted from 1 at the front of the bytes that are left.
+    At {
+        left: usize,
+        line: u64,
+        reason: ScriptReason,
+    },
+    /// No memory was found.
+    Memory,
+}
+
+/// The input of `audit` that a text says.
+///
+/// A text (this project's own format) begins with `mrpc-audit 1`, with `loads N` where the limit of loads isn't 1024,
+/// and with `table`. Then come the canonical text of a table, `end`, tenants and policies, and the line `audit`. Each of
+/// these lines ends with a line feed, and none of them is empty or a comment. It takes time in proportion to the text in
+/// front of the audit, but for the look-up of names.
+///
+/// # Errors
+///
+/// [`ScriptFault::At`] has the first line at fault, counted from 1, and its first reason; where the line `audit` is
+/// missing, that is [`ScriptReason::Close`] at the line behind the last. [`ScriptFault::Memory`] comes where no memory
+/// was found.
+pub fn read_audit_input(alloc: Global, text: &[u8]) -> Result<AuditInput<'_>, ScriptFault>
+    // What is read is what the text says.
+    ensures read { IfOk result (λ a. Says text.now a.loads a.table a.declared a.text.now a.line) }
+    // What the text says is read, unless memory runs out.
+    ensures only { (loads : ℕ) (T : TheTable) (d : Declared) (rest : List ℕ) (line : ℕ)
+        → Says text.now loads T d rest line
+        → MatchResult result (λ a. (a.loads ≡ loads) × (a.table ≡ T) × (a.declared ≡ d) × (a.text.now ≡ rest)
+        × (a.line ≡ line)) (λ e. e ≡ OutOfMemory) }
+    // A fault is that of the text: the first line at fault, with its first reason.
+    ensures fault { IfErr result (IsFaultOf text.now) }
+    // What holds of each input.
+    ensures table { IfOk result (λ a. IsValid a.table) }
+    ensures declared { IfOk result (λ a. IsSound a.declared) }
+{
+    one_input();
+    input_of(alloc, text)
+}
+
+fn input_of(alloc: Global, text: &[u8]) -> Result<AuditInput<'_>, ScriptFault>
+    ensures { MatchResult result (λ a. Says text.now a.loads a.table a.declared a.text.now a.line)
+        (IsFaultOf text.now) }
+{
+    one_item();
+    let front = read_front(alloc, text, FIRST_LINE)?;
+    match read_items(alloc, &front.table, front.behind) {
+        Ok(items) => Ok(AuditInput {
+            loads: front.loads,
+            table: front.table,
+            declared: items.declared,
+            text: items.text,
+            line: line_count(&text[..text.len() - items.rest.len()]) as u64 + 1,
+        }),
+        Err(Stop::At { left, line, reason }) => Err(ScriptFault::At {
+            line: line_count(&text[..text.len() - left]) as u64 + line,
+            reason,
+        }),
+        Err(Stop::Memory) => Err(ScriptFault::Memory),
+    }
+}
+
+/// What is declared in front of the line `audit`, and what stands from there on.
+fn read_items<'a>(alloc: Global, table: &Table, text: &'a [u8]) -> Result<Items<'a>, Stop>
+    requires { IsValid table.now }
+    ensures { MatchResult result (λ i. AreItems table.now text.now i) (IsStopOf table.now text.now) }
+{
+    one_item();
+    let mut declared = Declarations::new(alloc);
+    let mut rest = text;
+    while let Some((line, behind)) = cut(rest, b'\n') {
+        if is_audit(line) {
+            return Ok(Items {
+                declared,
+                rest,
+                text: behind,
+            });
+        }
+        let Some(form) = ItemForm::of(line) else {
+            return Err(stopped(rest, ScriptReason::Word));
+        };
+        let lines = ItemLines { form, line, behind };
+        match read_item(alloc, table, &declared, lines, false) {
+            Ok((item, more)) => {
+                stays_sound();
+                declared = declared.with(alloc, item)?;
+                rest = more;
+            }
+            Err(fault) => return Err(stopped_by(rest, fault)),
+        }
+    }
+    let reason = if rest.is_empty() {
+        ScriptReason::Close
+    } else {
+        ScriptReason::Word
+    };
+    Err(stopped(rest, reason))
+}
+
+/// Whether it is the line behind which the audit stands.
+fn is_audit(line: &[u8]) -> bool
+    ensures { result ≡ bytes_eq line.now audit_line }
+{
+    line == AUDIT
+}
+
+/// The item at the front of these bytes is at fault.
+fn stopped_by(rest: &[u8], fault: ScriptFault) -> Stop
+    ensures { result ≡ stop_of (length rest.now) fault }
+{
+    match fault {
+        ScriptFault::At { line, reason } => Stop::At {
+            left: rest.len(),
+            line,
+            reason,
+        },
+        ScriptFault::Memory => Stop::Memory,
+    }
+}
+
+/// The line at the front of these bytes is at fault.
+fn stopped(rest: &[u8], reason: ScriptReason) -> Stop
+    ensures { result ≡ Stop.At (length rest.now) 1 reason }
+{
+    Stop::At {
+        left: rest.len(),
+        line: 1,
+        reason,
+    }
+}
+
+impl From<Memory> for Stop {
+    ghost use Rattle.audit_input.specs.declared.input.Stop.TheVariants as stop;
+
+    ghost from_gives = { λ _ e. e ≡ stop.Memory };
+
+    fn from(_: Memory) -> Stop {
+        Stop::Memory
+    }
+}
