@@ -25,11 +25,12 @@ rule_in (Attach at name label policy) rule = rule_of policy rule
 rule_in (Detach name) rule = []
 rule_in (Upgrade name label policy) rule = rule_of policy rule
 
--- a kept history: the steps of operators, the happenings, and how many more there is room for
+-- a kept history: the steps of operators, the happenings, and for how many more of both there is room
 pub record Kept : Type 0 where
   pub steps : List Step
   pub happenings : List Happening
   pub room : ℕ
+  pub step_room : ℕ
 
 -- the step at a place
 abbrev pub step_at : List Step → ℕ → Step

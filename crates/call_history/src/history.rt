@@ -33,6 +33,7 @@ impl Model for History {
       steps = h.steps.items;
       happenings = map (told_by h.steps.items) h.records.items;
       room = vec_capacity h.records - length h.records.items;
+      step_room = vec_capacity h.steps - length h.steps.items;
     } };
 
     ghost invariant = { λ h. All (IsNamed (length h.steps.items)) h.records.items };
@@ -54,10 +55,21 @@ impl History {
     pub fn reserve(&mut self, records: usize) -> Result<(), Memory>
         ensures room { OnOk result (records ≤ self.new.room) }
         ensures never_falls { self.old.room ≤ self.new.room }
+        ensures step_room { self.new.step_room ≡ self.old.step_room }
         ensures steps { self.new.steps ≡ self.old.steps }
         ensures happenings { self.new.happenings ≡ self.old.happenings }
     {
         Ok(self.records.reserve(records)?)
+    }
+
+    /// Makes room for one more step of an operator. The room for records stays.
+    pub fn reserve_step(&mut self) -> Result<(), Memory>
+        ensures step_room { OnOk result (1 ≤ self.new.step_room) }
+        ensures room { self.new.room ≡ self.old.room }
+        ensures steps { self.new.steps ≡ self.old.steps }
+        ensures happenings { self.new.happenings ≡ self.old.happenings }
+    {
+        Ok(self.steps.reserve(1)?)
     }
 
     /// How many steps of operators there are.
@@ -67,18 +79,17 @@ impl History {
         self.steps.len()
     }
 
-    /// Adds a step of an operator. It takes memory for the step, and room for its record.
-    pub fn operate(&mut self, step: Op) -> Result<(), Memory>
-        requires { 0 < self.old.room }
-        ensures steps { OnOk result (self.new.steps ≡ self.old.steps ++ step ∷ []) }
-        ensures happenings { OnOk result (self.new.happenings ≡ self.old.happenings ++ Operated step ∷ []) }
+    /// Adds a step of an operator, for which there is room, and its record. It takes no memory.
+    pub fn operate(&mut self, step: Op)
+        requires room { 0 < self.old.room }
+        requires step_room { 0 < self.old.step_room }
+        ensures steps { self.new.steps ≡ self.old.steps ++ step ∷ [] }
+        ensures happenings { self.new.happenings ≡ self.old.happenings ++ Operated step ∷ [] }
         ensures room { self.old.room ≤ self.new.room + 1 }
-        ensures as_before { OnErr result (self.new ≡ self.old) }
     {
         let place = self.steps.len();
-        self.steps.push(step)?;
+        self.steps.push_reserved(step);
         self.records.push_reserved(Record::Op { step: place });
-        Ok(())
     }
 
     /// Adds a record, for which there is room. It takes no memory.

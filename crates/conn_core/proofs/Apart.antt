@@ -18,28 +18,42 @@ all-above : (low : ℕ) (calls : List StandingCall) → IsAbove low (numbers_of 
 all-above low [] h = All-nil (λ (s : StandingCall). low < s.call.seq)
 all-above low (s ∷ calls) h =
     All-cons (λ (s : StandingCall). low < s.call.seq) s calls h.0
-    (All-weaker (λ (t : StandingCall). s.call.seq < t.call.seq) (λ (t : StandingCall). low < t.call.seq) (λ t less. omega (arith, less, h.0)) calls (all-above s.call.seq calls h.1))
+    (All-weaker (λ (t : StandingCall). s.call.seq < t.call.seq) (λ (t : StandingCall). low < t.call.seq) (λ t less.
+    omega (arith, less, h.0)) calls (all-above s.call.seq calls h.1))
 
 above-all : (low : ℕ) (calls : List StandingCall) → IsAbove low (numbers_of calls) → All (λ s. s.call.seq ≢ low) calls
-above-all low calls h = All-weaker (λ (s : StandingCall). low < s.call.seq) (λ (s : StandingCall). s.call.seq ≢ low) (λ s less same. omega (arith, less, same)) calls (all-above low calls h)
+above-all low calls h = All-weaker (λ (s : StandingCall). low < s.call.seq) (λ (s : StandingCall). s.call.seq ≢ low)
+    (λ s less same. omega (arith, less, same)) calls (all-above low calls h)
 
-apart-above : (low : ℕ) (front : List StandingCall) (call : StandingCall) (back : List StandingCall) → IsAbove low (numbers_of (front ++ call ∷ back))
+apart-above : (low : ℕ) (front : List StandingCall) (call : StandingCall) (back : List StandingCall)
+    → IsAbove low (numbers_of (front ++ call ∷ back))
     → (low < call.call.seq) × All (λ s. s.call.seq ≢ call.call.seq) front × All (λ s. s.call.seq ≢ call.call.seq) back
-apart-above low [] call back h = (h.0, All-nil (λ (s : StandingCall). s.call.seq ≢ call.call.seq), above-all call.call.seq back h.1)
+apart-above low [] call back h =
+    (h.0, All-nil (λ (s : StandingCall). s.call.seq ≢ call.call.seq), above-all call.call.seq back h.1)
 apart-above low (x ∷ front) call back h =
-    let rest = apart-above x.call.seq front call back h.1 in
-    (omega (arith, h.0, rest.0), All-cons (λ (s : StandingCall). s.call.seq ≢ call.call.seq) x front (λ same. omega (arith, same, rest.0)) rest.1, rest.2)
+    let rest = apart-above x.call.seq front call back h.1 in (
+      omega (arith, h.0, rest.0),
+      All-cons (λ (s : StandingCall). s.call.seq ≢ call.call.seq) x front (λ same.
+          omega (arith, same, rest.0)) rest.1,
+      rest.2,
+    )
 
 -- the others have other numbers
-pub calls-apart : (front : List StandingCall) (call : StandingCall) (back : List StandingCall) → IsAscending (numbers_of (front ++ call ∷ back))
+pub calls-apart : (front : List StandingCall) (call : StandingCall) (back : List StandingCall)
+    → IsAscending (numbers_of (front ++ call ∷ back))
     → All (λ s. s.call.seq ≢ call.call.seq) front × All (λ s. s.call.seq ≢ call.call.seq) back
-calls-apart [] call back h = (All-nil (λ (s : StandingCall). s.call.seq ≢ call.call.seq), above-all call.call.seq back h)
+calls-apart [] call back h =
+    (All-nil (λ (s : StandingCall). s.call.seq ≢ call.call.seq), above-all call.call.seq back h)
 calls-apart (x ∷ front) call back h =
-    let rest = apart-above x.call.seq front call back h in
-    (All-cons (λ (s : StandingCall). s.call.seq ≢ call.call.seq) x front (λ same. omega (arith, same, rest.0)) rest.1, rest.2)
+    let rest = apart-above x.call.seq front call back h in (
+      All-cons (λ (s : StandingCall). s.call.seq ≢ call.call.seq) x front (λ same.
+          omega (arith, same, rest.0)) rest.1,
+      rest.2,
+    )
 
 -- what holds of the others and of the call holds after its turn
-pub all-after : (Q : StandingCall → Type 0) (outcome : Outcome) (front : List StandingCall) (call : StandingCall) (back : List StandingCall)
+pub all-after : (Q : StandingCall
+    → Type 0) (outcome : Outcome) (front : List StandingCall) (call : StandingCall) (back : List StandingCall)
     → All Q front → Q call → All Q back → All Q (calls_after outcome front call back)
 all-after Q (Passed noted) front call back f c b = All-append Q front (call ∷ back) f (All-cons Q call back c b)
 all-after Q (Held left cost) front call back f c b = All-append Q front (call ∷ back) f (All-cons Q call back c b)
@@ -48,44 +62,63 @@ all-after Q Redacted front call back f c b = All-append Q front (call ∷ back) 
 
 -- ---- entries
 
-all-keyed-apart : (P Q : Entry → Type 0) (x : Entry) → ((y : Entry) → y.name ≢ x.name → y.attach ≢ x.attach → P y → Q y) → (xs : List Entry)
+all-keyed-apart : (P Q : Entry → Type 0) (x : Entry) → ((y : Entry) → y.name ≢ x.name → y.attach ≢ x.attach → P y → Q y)
+    → (xs : List Entry)
     → (Contains (names_of xs) x.name → ⊥) → (Contains (attachments_of xs) x.attach → ⊥) → All P xs → All Q xs
 all-keyed-apart P Q x other [] names attachments h = All-nil Q
 all-keyed-apart P Q x other (y ∷ xs) names attachments h =
-    All-cons Q y xs (other y (λ same. names (0, omega arith, same)) (λ same. attachments (0, omega arith, same)) (All-head P y xs h))
-    (all-keyed-apart P Q x other xs (λ there. names (suc there.0, omega (arith, there.1), there.2)) (λ there. attachments (suc there.0, omega (arith, there.1), there.2)) (All-tail P y xs h))
+    All-cons Q y xs (other y (λ same. names (0, omega arith, same)) (λ same. attachments (0, omega arith, same))
+    (All-head P y xs h))
+    (all-keyed-apart P Q x other xs (λ there. names (suc there.0, omega (arith, there.1), there.2)) (λ there.
+    attachments (suc there.0, omega (arith, there.1), there.2)) (All-tail P y xs h))
 
-name-at : (xs : List Entry) (i : ℕ) (x : Entry) → slice_get xs i ≡ Some x → Contains (names_of xs) x.name × Contains (attachments_of xs) x.attach
+name-at : (xs : List Entry) (i : ℕ) (x : Entry) → slice_get xs i ≡ Some x → Contains (names_of xs) x.name
+    × Contains (attachments_of xs) x.attach
 name-at [] i x is = absurd cc
-name-at (y ∷ xs) zero x is = let same : y ≡ x = cc in ((0, omega arith, ap (λ (e : Entry). e.name) same), (0, omega arith, ap (λ (e : Entry). e.attach) same))
-name-at (y ∷ xs) (suc i) x is = let rest = name-at xs i x is in ((suc rest.0.0, omega (arith, rest.0.1), rest.0.2), (suc rest.1.0, omega (arith, rest.1.1), rest.1.2))
+name-at (y ∷ xs) zero x is = let same : y ≡ x =
+    cc in ((0, omega arith, ap (λ (e : Entry). e.name) same), (0, omega arith, ap (λ (e : Entry). e.attach) same))
+name-at (y ∷ xs) (suc i) x is = let rest =
+    name-at xs i x is in (
+      (suc rest.0.0, omega (arith, rest.0.1), rest.0.2),
+      (suc rest.1.0, omega (arith, rest.1.1), rest.1.2),
+    )
 
 -- what holds of an entry, and of those of other names and attachments, holds of all
-pub all-keyed : (P Q : Entry → Type 0) (xs : List Entry) (i : ℕ) (x : Entry) → slice_get xs i ≡ Some x → AreDistinct (names_of xs) → AreDistinct (attachments_of xs)
+pub all-keyed : (P Q : Entry → Type 0) (xs : List Entry) (i : ℕ) (x : Entry) → slice_get xs i ≡ Some x
+    → AreDistinct (names_of xs) → AreDistinct (attachments_of xs)
     → ((y : Entry) → y.name ≢ x.name → y.attach ≢ x.attach → P y → Q y) → (P x → Q x) → All P xs → All Q xs
 all-keyed P Q [] i x is names attachments other here h = absurd cc
 all-keyed P Q (y ∷ xs) zero x is names attachments other here h =
     let same : y ≡ x = cc in
     All-cons Q y xs (subst Q (sym same) (here (subst P same (All-head P y xs h))))
-    (all-keyed-apart P Q x other xs (λ there. names.0 (subst (λ (e : Entry). Contains (names_of xs) e.name) (sym same) there))
-    (λ there. attachments.0 (subst (λ (e : Entry). Contains (attachments_of xs) e.attach) (sym same) there)) (All-tail P y xs h))
+    (all-keyed-apart P Q x other xs (λ there.
+    names.0 (subst (λ (e : Entry). Contains (names_of xs) e.name) (sym same) there))
+    (λ there. attachments.0 (subst (λ (e : Entry). Contains (attachments_of xs) e.attach) (sym same) there))
+    (All-tail P y xs h))
 all-keyed P Q (y ∷ xs) (suc i) x is names attachments other here h =
     let there = name-at xs i x is in
-    All-cons Q y xs (other y (λ same. names.0 (subst (Contains (names_of xs)) (sym same) there.0)) (λ same. attachments.0 (subst (Contains (attachments_of xs)) (sym same) there.1)) (All-head P y xs h))
+    All-cons Q y xs (other y (λ same. names.0 (subst (Contains (names_of xs)) (sym same) there.0)) (λ same.
+    attachments.0 (subst (Contains (attachments_of xs)) (sym same) there.1)) (All-head P y xs h))
     (all-keyed P Q xs i x is names.1 attachments.1 other here (All-tail P y xs h))
 
-found : (xs : List Entry) (i : ℕ) (x : Entry) → slice_get xs i ≡ Some x → AreDistinct (names_of xs) → find (is_named x.name) xs ≡ Some x
+found : (xs : List Entry) (i : ℕ) (x : Entry) → slice_get xs i ≡ Some x → AreDistinct (names_of xs)
+    → find (is_named x.name) xs ≡ Some x
 found [] i x is names = absurd cc
 found (y ∷ xs) zero x is names =
     let same : y ≡ x = cc in
-    ap (λ b. cond b (Some y) (find (is_named x.name) xs)) (equal-name y.name x.name (ap (λ (e : Entry). e.name) same)) ∙ ap (λ (e : Entry). Some e) same
+    ap (λ b. cond b (Some y) (find (is_named x.name) xs)) (equal-name y.name x.name (ap (λ (e : Entry). e.name) same)) ∙
+    ap (λ (e : Entry). Some e) same
 found (y ∷ xs) (suc i) x is names =
-    ap (λ b. cond b (Some y) (find (is_named x.name) xs)) (other-name y.name x.name (λ same. names.0 (subst (Contains (names_of xs)) (sym same) (name-at xs i x is).0)))
+    ap (λ b. cond b (Some y) (find (is_named x.name) xs))
+    (other-name y.name x.name (λ same. names.0 (subst (Contains (names_of xs)) (sym same) (name-at xs i x is).0)))
     ∙ found xs i x is names.1
 
 -- the policy of an entry's name is its own
-pub policy-at : (past : Behind) (i : ℕ) (x : Entry) → IsChain (chain past) → slice_get (chain past).entries i ≡ Some x → policy_of x.name past ≡ Some x.policy
-policy-at past i x is-chain is = ap (option_map (λ (e : Entry). e.policy)) (found (chain past).entries i x is is-chain.names)
+pub policy-at : (past : Behind) (i : ℕ) (x : Entry) → IsChain (chain past) → slice_get (chain past).entries i ≡ Some x
+    → policy_of x.name past ≡ Some x.policy
+policy-at past i x is-chain is =
+    ap (option_map (λ (e : Entry). e.policy)) (found (chain past).entries i x is is-chain.names)
 
-pub all-policies : (past : Behind) → IsChain (chain past) → All (λ e. policy_of e.name past ≡ Some e.policy) (chain past).entries
+pub all-policies : (past : Behind) → IsChain (chain past)
+    → All (λ e. policy_of e.name past ≡ Some e.policy) (chain past).entries
 all-policies past is-chain = λ k d within. policy-at past k _ is-chain (at-get (chain past).entries k d within)

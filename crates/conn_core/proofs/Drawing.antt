@@ -27,22 +27,28 @@ told tenant window policy notes.Nothing = []
 told tenant window policy (notes.Charged left) = []
 told tenant window policy notes.Counted = []
 
-noted-tickets : (tenant window : ℕ) (name : List ℕ) (seq : ℕ) (policy : Policy) (n : Noted) (past : Behind) → policy_of name past ≡ Some policy
-    → tickets_behind tenant window (note_behind name seq n past) ≡ tickets_behind tenant window past ++ told tenant window policy n
+noted-tickets : (tenant window : ℕ) (name : List ℕ) (seq : ℕ) (policy : Policy) (n : Noted) (past : Behind)
+    → policy_of name past ≡ Some policy
+    → tickets_behind tenant window (note_behind name seq n past) ≡ tickets_behind tenant window past
+    ++ told tenant window policy n
 unfolding told
 noted-tickets tenant window name seq policy notes.Nothing past is = sym (append-nil (tickets_behind tenant window past))
 noted-tickets tenant window name seq policy (notes.Charged left) past is = refl
 noted-tickets tenant window name seq policy (notes.Drawn at ticket) past is =
-    ap (λ p. tickets_behind tenant window past ++ cond ((at == window) && option_map_or (is_quota_of tenant) p false) (ticket ∷ []) []) is
+    ap (λ p. tickets_behind tenant window past ++ cond ((at == window) && option_map_or (is_quota_of tenant) p false)
+    (ticket ∷ []) []) is
 noted-tickets tenant window name seq policy notes.Counted past is = refl
 
-turned-tickets : (tenant window : ℕ) (e : Entry) (seq : ℕ) (outcome : Outcome) (c : Course) → policy_of e.name c.past ≡ Some e.policy
-    → tickets_behind tenant window (turned e seq outcome c).past ≡ tickets_behind tenant window c.past ++ told tenant window e.policy (noted_in outcome)
+turned-tickets : (tenant window : ℕ) (e : Entry) (seq : ℕ) (outcome : Outcome) (c : Course)
+    → policy_of e.name c.past ≡ Some e.policy
+    → tickets_behind tenant window (turned e seq outcome c).past ≡ tickets_behind tenant window c.past
+    ++ told tenant window e.policy (noted_in outcome)
 unfolding told
 turned-tickets tenant window e seq (Passed n) c is = noted-tickets tenant window e.name seq e.policy n c.past is
 turned-tickets tenant window e seq (Held left cost) c is = sym (append-nil (tickets_behind tenant window c.past))
 turned-tickets tenant window e seq (Refused n why) c is =
-    append-nil (tickets_behind tenant window (note_behind e.name seq n c.past)) ∙ noted-tickets tenant window e.name seq e.policy n c.past is
+    append-nil (tickets_behind tenant window (note_behind e.name seq n c.past)) ∙ noted-tickets tenant window e.name seq
+    e.policy n c.past is
 turned-tickets tenant window e seq Redacted c is = refl
 
 -- ---- the lists that are told
@@ -58,65 +64,86 @@ adds-none None (Some now) same = absurd cc
 adds-none (Some earlier) (Some now) same = let is : now ≡ earlier = cc in is ∙ sym (append-nil earlier)
 
 draws-by : (tenant window : ℕ) (before after : Connection) (more : List ℕ) (drawn drawn' : Option (List ℕ))
-    → tickets_behind tenant window (behind after) ≡ tickets_behind tenant window (behind before) ++ more → Adds more drawn drawn' → Draws tenant window before after drawn drawn'
+    → tickets_behind tenant window (behind after) ≡ tickets_behind tenant window (behind before) ++ more
+    → Adds more drawn drawn' → Draws tenant window before after drawn drawn'
 draws-by tenant window before after more drawn None tickets adds = tt
 draws-by tenant window before after more None (Some now) tickets adds = adds
 draws-by tenant window before after more (Some earlier) (Some now) tickets adds = (more, tickets, adds)
 
 -- the draw of a turn, for one tenant and window
-adds-told : {Q : Type 0} (Knows : Q → ℕ → Type 0) (drawn_of : Q → ℕ → ℕ → Option (List ℕ)) (Since : Q → Q → Type 0) (policy : Policy) (n : Noted) (old new : Q)
+adds-told : {Q : Type 0} (Knows : Q → ℕ → Type 0) (drawn_of : Q → ℕ → ℕ → Option (List ℕ)) (Since : Q → Q
+    → Type 0) (policy : Policy) (n : Noted) (old new : Q)
     → LeavesTickets Knows drawn_of Since policy n old new → (tenant window : ℕ) → Knows old tenant → window < WINDOWS
     → Adds (told tenant window policy n) (drawn_of old tenant window) (drawn_of new tenant window)
 unfolding told
-adds-told Knows drawn_of Since policy notes.Nothing old new leaves tenant window known within = adds-none _ _ (ap (λ q. drawn_of q tenant window) (leaves.undrawn refl))
-adds-told Knows drawn_of Since policy (notes.Charged left) old new leaves tenant window known within = adds-none _ _ (ap (λ q. drawn_of q tenant window) (leaves.undrawn refl))
-adds-told Knows drawn_of Since policy notes.Counted old new leaves tenant window known within = adds-none _ _ (ap (λ q. drawn_of q tenant window) (leaves.undrawn refl))
+adds-told Knows drawn_of Since policy notes.Nothing old new leaves tenant window known within =
+    adds-none _ _ (ap (λ q. drawn_of q tenant window) (leaves.undrawn refl))
+adds-told Knows drawn_of Since policy (notes.Charged left) old new leaves tenant window known within =
+    adds-none _ _ (ap (λ q. drawn_of q tenant window) (leaves.undrawn refl))
+adds-told Knows drawn_of Since policy notes.Counted old new leaves tenant window known within =
+    adds-none _ _ (ap (λ q. drawn_of q tenant window) (leaves.undrawn refl))
 adds-told Knows drawn_of Since (Access p) (notes.Drawn at ticket) old new leaves tenant window known within =
-    subst (λ b. Adds (cond b (ticket ∷ []) []) (drawn_of old tenant window) (drawn_of new tenant window)) (sym (and_right (at == window) false refl))
+    subst (λ b. Adds (cond b (ticket ∷ []) []) (drawn_of old tenant window) (drawn_of new tenant window))
+    (sym (and_right (at == window) false refl))
     (adds-none _ _ (leaves.elsewhere tenant window known within tt))
 adds-told Knows drawn_of Since (Rate r) (notes.Drawn at ticket) old new leaves tenant window known within =
-    subst (λ b. Adds (cond b (ticket ∷ []) []) (drawn_of old tenant window) (drawn_of new tenant window)) (sym (and_right (at == window) false refl))
+    subst (λ b. Adds (cond b (ticket ∷ []) []) (drawn_of old tenant window) (drawn_of new tenant window))
+    (sym (and_right (at == window) false refl))
     (adds-none _ _ (leaves.elsewhere tenant window known within tt))
 adds-told Knows drawn_of Since Count (notes.Drawn at ticket) old new leaves tenant window known within =
-    subst (λ b. Adds (cond b (ticket ∷ []) []) (drawn_of old tenant window) (drawn_of new tenant window)) (sym (and_right (at == window) false refl))
+    subst (λ b. Adds (cond b (ticket ∷ []) []) (drawn_of old tenant window) (drawn_of new tenant window))
+    (sym (and_right (at == window) false refl))
     (adds-none _ _ (leaves.elsewhere tenant window known within tt))
 adds-told Knows drawn_of Since (Redact r) (notes.Drawn at ticket) old new leaves tenant window known within =
-    subst (λ b. Adds (cond b (ticket ∷ []) []) (drawn_of old tenant window) (drawn_of new tenant window)) (sym (and_right (at == window) false refl))
+    subst (λ b. Adds (cond b (ticket ∷ []) []) (drawn_of old tenant window) (drawn_of new tenant window))
+    (sym (and_right (at == window) false refl))
     (adds-none _ _ (leaves.elsewhere tenant window known within tt))
-adds-told Knows drawn_of Since (Quota owner per cap) (notes.Drawn at ticket) old new leaves tenant window known within = elim (cases_eq at window) [
-  | inr other ↦
-      subst (λ b. Adds (cond b (ticket ∷ []) []) (drawn_of old tenant window) (drawn_of new tenant window)) (sym (and_left (at == window) (owner == tenant) (ne_eqb at window other)))
-      (adds-none _ _ (leaves.elsewhere tenant window known within (inr (λ same. other (sym same)))))
-  | inl same ↦ elim (cases_eq owner tenant) [
-    | inr other ↦
-        subst (λ b. Adds (cond b (ticket ∷ []) []) (drawn_of old tenant window) (drawn_of new tenant window)) (sym (and_right (at == window) (owner == tenant) (ne_eqb owner tenant other)))
-        (adds-none _ _ (leaves.elsewhere tenant window known within (inl (λ same. other (sym same)))))
-    | inl own ↦
-        subst (λ b. Adds (cond b (ticket ∷ []) []) (drawn_of old tenant window) (drawn_of new tenant window))
-        (sym (and_from (at == window) (owner == tenant) (eq-eqb at window same) (eq-eqb owner tenant own)))
-        (subst (λ (w : ℕ). Adds (ticket ∷ []) (drawn_of old tenant w) (drawn_of new tenant w)) same
-        (subst (λ (t : ℕ). Adds (ticket ∷ []) (drawn_of old t at) (drawn_of new t at)) own leaves.drawn))
-  ]
-]
+adds-told Knows drawn_of Since (Quota owner per cap) (notes.Drawn at ticket) old new leaves tenant window known within =
+    elim (cases_eq at window) [
+      | inr other ↦
+          subst (λ b. Adds (cond b (ticket ∷ []) []) (drawn_of old tenant window) (drawn_of new tenant window))
+          (sym (and_left (at == window) (owner == tenant) (ne_eqb at window other)))
+          (adds-none _ _ (leaves.elsewhere tenant window known within (inr (λ same. other (sym same)))))
+      | inl same ↦ elim (cases_eq owner tenant) [
+        | inr other ↦
+            subst (λ b. Adds (cond b (ticket ∷ []) []) (drawn_of old tenant window) (drawn_of new tenant window))
+            (sym (and_right (at == window) (owner == tenant) (ne_eqb owner tenant other)))
+            (adds-none _ _ (leaves.elsewhere tenant window known within (inl (λ same. other (sym same)))))
+        | inl own ↦
+            subst (λ b. Adds (cond b (ticket ∷ []) []) (drawn_of old tenant window) (drawn_of new tenant window))
+            (sym (and_from (at == window) (owner == tenant) (eq-eqb at window same) (eq-eqb owner tenant own)))
+            (subst (λ (w : ℕ). Adds (ticket ∷ []) (drawn_of old tenant w) (drawn_of new tenant w)) same
+            (subst (λ (t : ℕ). Adds (ticket ∷ []) (drawn_of old t at) (drawn_of new t at)) own leaves.drawn))
+      ]
+    ]
 
-pub draws-turned : {Q : Type 0} (Knows : Q → ℕ → Type 0) (drawn_of : Q → ℕ → ℕ → Option (List ℕ)) (Since : Q → Q → Type 0) (e : Entry) (seq : ℕ) (outcome : Outcome) (c : Course)
-    (before after : Connection) (old new : Q) → behind before ≡ c.past → behind after ≡ (turned e seq outcome c).past → policy_of e.name c.past ≡ Some e.policy
-    → LeavesTickets Knows drawn_of Since e.policy (noted_in outcome) old new → DrawsTickets Knows drawn_of Since before after old new
+pub draws-turned : {Q : Type 0} (Knows : Q → ℕ → Type 0) (drawn_of : Q → ℕ → ℕ → Option (List ℕ)) (Since : Q → Q
+    → Type 0) (e : Entry) (seq : ℕ) (outcome : Outcome) (c : Course)
+    (before after : Connection) (old new : Q) → behind before ≡ c.past → behind after ≡ (turned e seq outcome c).past
+    → policy_of e.name c.past ≡ Some e.policy
+    → LeavesTickets Knows drawn_of Since e.policy (noted_in outcome) old new
+    → DrawsTickets Knows drawn_of Since before after old new
 draws-turned Knows drawn_of Since e seq outcome c before after old new before-is after-is policy leaves = record {
-  drawn = λ tenant window known within. draws-by tenant window before after (told tenant window e.policy (noted_in outcome)) (drawn_of old tenant window) (drawn_of new tenant window)
+  drawn = λ tenant window known within.
+      draws-by tenant window before after (told tenant window e.policy (noted_in outcome)) (drawn_of old tenant window)
+      (drawn_of new tenant window)
       (ap (tickets_behind tenant window) after-is ∙ turned-tickets tenant window e seq outcome c policy
-      ∙ ap (λ (p : Behind). tickets_behind tenant window p ++ told tenant window e.policy (noted_in outcome)) (sym before-is))
+      ∙ ap (λ (p : Behind). tickets_behind tenant window p ++ told tenant window e.policy (noted_in outcome))
+      (sym before-is))
       (adds-told Knows drawn_of Since e.policy (noted_in outcome) old new leaves tenant window known within);
   knows = leaves.knows;
   since = leaves.since;
 }
 
 -- nothing is drawn where nothing changes
-pub draws-none : {Q : Type 0} (Knows : Q → ℕ → Type 0) (drawn_of : Q → ℕ → ℕ → Option (List ℕ)) (Since : Q → Q → Type 0) (before after : Connection) (old new : Q)
+pub draws-none : {Q : Type 0} (Knows : Q → ℕ → Type 0) (drawn_of : Q → ℕ → ℕ → Option (List ℕ)) (Since : Q → Q
+    → Type 0) (before after : Connection) (old new : Q)
     → after ≡ before → new ≡ old → DrawsTickets Knows drawn_of Since before after old new
 draws-none Knows drawn_of Since before after old new same same-tickets = record {
-  drawn = λ tenant window known within. draws-by tenant window before after [] (drawn_of old tenant window) (drawn_of new tenant window)
-      (ap (λ (c : Connection). tickets_behind tenant window (behind c)) same ∙ sym (append-nil (tickets_behind tenant window (behind before))))
+  drawn = λ tenant window known within. draws-by tenant window before after [] (drawn_of old tenant window)
+      (drawn_of new tenant window)
+      (ap (λ (c : Connection). tickets_behind tenant window (behind c)) same ∙ sym
+      (append-nil (tickets_behind tenant window (behind before))))
       (adds-none _ _ (ap (λ q. drawn_of q tenant window) same-tickets));
   knows = λ tenant known. subst (λ q. Knows q tenant) (sym same-tickets) known;
   since = λ first h. subst (Since first) (sym same-tickets) h;

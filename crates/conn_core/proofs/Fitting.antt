@@ -16,18 +16,33 @@ pub record Fits (conn : ℕ) (past : Behind) (c : ChainParts) : Type 0 where
   pub same_chain : chain_of c ≡ chain past
   pub levels : All (λ e. e.level ≡ level e.entry.name past) c.engines
   pub moments : All (λ e. e.last ≡ moment past) c.engines
-  pub notes : All (λ s. All (λ e. past_of s.marks e.entry.attach ≡ noted e.entry.name s.call.seq past) c.engines) c.calls
+  pub notes : All (λ s. All (λ e. past_of s.marks e.entry.attach ≡ noted e.entry.name s.call.seq past) c.engines)
+      c.calls
   pub forms : All (λ s. form conn s.call.seq past ≡ Some s.call) c.calls
 
 pub fits-of : (c : Connection) → IsConnection c → Fits c.conn (behind c) c.chain
-fits-of c h = record { same_chain = h.same_chain; levels = h.levels; moments = h.moments; notes = h.notes; forms = h.forms }
+fits-of c h = record {
+  same_chain = h.same_chain;
+  levels = h.levels;
+  moments = h.moments;
+  notes = h.notes;
+  forms = h.forms;
+}
 
 -- a connection, by what is behind it
-pub connected : (c : Connection) (past : Behind) → behind c ≡ past → IsCourse (under c) (record { past = past; row = c.chain.row; ended = c.ended })
+pub connected : (c : Connection) (past : Behind) → behind c ≡ past → IsCourse (under c) (record {
+  past = past;
+  row = c.chain.row;
+  ended = c.ended;
+})
     → IsStandingChain c.chain → Fits c.conn past c.chain → length (taken past) < 2 ^ 32 → IsConnection c
 connected c past is held stands fits few =
     let fits' : Fits c.conn (behind c) c.chain = subst (λ (p : Behind). Fits c.conn p c.chain) (sym is) fits in record {
-      is_course = subst (λ (p : Behind). IsCourse (under c) (record { past = p; row = c.chain.row; ended = c.ended })) (sym is) held;
+      is_course = subst (λ (p : Behind). IsCourse (under c) (record {
+        past = p;
+        row = c.chain.row;
+        ended = c.ended;
+      })) (sym is) held;
       standing_chain = stands;
       same_chain = fits'.same_chain;
       levels = fits'.levels;

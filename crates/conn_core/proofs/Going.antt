@@ -22,67 +22,104 @@ use Rattle.conn_core.proofs.Told.{behind-one}
 
 -- ---- a call that is turned away
 
-pub fits-away : (conn method number addr : ℕ) (past : Behind) (c : ChainParts) → Fits conn past c → Fits conn (Away method number addr ∷ past) c
+pub fits-away : (conn method number addr : ℕ) (past : Behind) (c : ChainParts) → Fits conn past c
+    → Fits conn (Away method number addr ∷ past) c
 fits-away conn method number addr past c fits =
-    record { same_chain = fits.same_chain; levels = fits.levels; moments = fits.moments; notes = fits.notes; forms = fits.forms }
+    record {
+      same_chain = fits.same_chain;
+      levels = fits.levels;
+      moments = fits.moments;
+      notes = fits.notes;
+      forms = fits.forms;
+    }
 
 -- ---- a moment
 
-same-engines : (now : ℕ) (engines : List EngineParts) → map (λ e. e.entry) (map (λ e. clocked now e) engines) ≡ map (λ e. e.entry) engines
+same-engines : (now : ℕ) (engines : List EngineParts)
+    → map (λ e. e.entry) (map (λ e. clocked now e) engines) ≡ map (λ e. e.entry) engines
 same-engines now [] = refl
 same-engines now (e ∷ engines) = ap (λ es. e.entry ∷ es) (same-engines now engines)
 
 -- a level that time fills
-clocked-level : (now : ℕ) (past : Behind) (e : EngineParts) → e.level ≡ level e.entry.name past → e.last ≡ moment past → policy_of e.entry.name past ≡ Some e.entry.policy
+clocked-level : (now : ℕ) (past : Behind) (e : EngineParts) → e.level ≡ level e.entry.name past → e.last ≡ moment past
+    → policy_of e.entry.name past ≡ Some e.entry.policy
     → (clocked now e).level ≡ level e.entry.name (Moment now ∷ past)
 clocked-level now past e level-is last-is policy-is =
-    ap (λ l. level_at e.entry.policy l (now - e.last)) level-is ∙ ap (λ m. level_at e.entry.policy (level e.entry.name past) (now - m)) last-is
+    ap (λ l. level_at e.entry.policy l (now - e.last)) level-is ∙ ap (λ m.
+    level_at e.entry.policy (level e.entry.name past) (now - m)) last-is
     ∙ ap (λ p. filled p (now - moment past) (level e.entry.name past)) (sym policy-is)
 
-pub fits-clocked : (conn now : ℕ) (past : Behind) (c c' : ChainParts) → Fits conn past c → IsChain (chain past) → moment past < now
-    → c'.engines ≡ map (λ e. clocked now e) c.engines → c'.attached ≡ c.attached → c'.calls ≡ c.calls → Fits conn (Moment now ∷ past) c'
+pub fits-clocked : (conn now : ℕ) (past : Behind) (c c' : ChainParts) → Fits conn past c → IsChain (chain past)
+    → moment past < now
+    → c'.engines ≡ map (λ e. clocked now e) c.engines → c'.attached ≡ c.attached → c'.calls ≡ c.calls
+    → Fits conn (Moment now ∷ past) c'
 fits-clocked conn now past c c' fits is-chain later engines attached calls =
-    let entries : map (λ (e : EngineParts). e.entry) c'.engines ≡ map (λ (e : EngineParts). e.entry) c.engines = ap (map (λ (e : EngineParts). e.entry)) engines ∙ same-engines now c.engines in
-    let same : chain_of c' ≡ chain_of c = ap (λ es. record { entries = es; attached = c'.attached }) entries ∙ ap (λ n. record { entries = (chain_of c).entries; attached = n }) attached in
+    let entries : map (λ (e : EngineParts). e.entry) c'.engines ≡ map (λ (e : EngineParts). e.entry) c.engines =
+    ap (map (λ (e : EngineParts). e.entry)) engines ∙ same-engines now c.engines in
+    let same : chain_of c' ≡ chain_of c = ap (λ es. record {
+      entries = es;
+      attached = c'.attached;
+    }) entries ∙ ap (λ n. record {
+      entries = (chain_of c).entries;
+      attached = n;
+    }) attached in
     let policies : All (λ (e : EngineParts). policy_of e.entry.name past ≡ Some e.entry.policy) c.engines =
     all-of-map (λ (e : EngineParts). e.entry) (λ (y : Entry). policy_of y.name past ≡ Some y.policy) c.engines
-    (subst (λ (ch : Chain). All (λ (y : Entry). policy_of y.name past ≡ Some y.policy) ch.entries) (sym fits.same_chain) (all-policies past is-chain)) in
-    let over : (P : Entry → Type 0) → All (λ (e : EngineParts). P e.entry) c.engines → All (λ (e : EngineParts). P e.entry) c'.engines = λ P all.
-    all-of-map (λ (e : EngineParts). e.entry) P c'.engines (subst (All P) (sym entries) (All-map P (λ (e : EngineParts). e.entry) c.engines all)) in record {
+    (subst (λ (ch : Chain). All (λ (y : Entry). policy_of y.name past ≡ Some y.policy) ch.entries) (sym fits.same_chain)
+    (all-policies past is-chain)) in
+    let over : (P : Entry → Type 0) → All (λ (e : EngineParts). P e.entry) c.engines
+    → All (λ (e : EngineParts). P e.entry) c'.engines = λ P all.
+    all-of-map (λ (e : EngineParts). e.entry) P c'.engines
+    (subst (All P) (sym entries) (All-map P (λ (e : EngineParts). e.entry) c.engines all)) in record {
       same_chain = same ∙ fits.same_chain;
       levels = subst (All (λ (e : EngineParts). e.level ≡ level e.entry.name (Moment now ∷ past))) (sym engines)
-          (All-map (λ (e : EngineParts). e.level ≡ level e.entry.name (Moment now ∷ past)) (λ (e : EngineParts). clocked now e) c.engines
-          (all-both (λ (e : EngineParts). (e.level ≡ level e.entry.name past) × (e.last ≡ moment past)) (λ (e : EngineParts). policy_of e.entry.name past ≡ Some e.entry.policy)
-          (λ (e : EngineParts). (clocked now e).level ≡ level e.entry.name (Moment now ∷ past)) (λ e both policy. clocked-level now past e both.0 both.1 policy) c.engines
-          (all-both (λ (e : EngineParts). e.level ≡ level e.entry.name past) (λ (e : EngineParts). e.last ≡ moment past) (λ (e : EngineParts). (e.level ≡ level e.entry.name past) × (e.last ≡ moment past))
+          (All-map (λ (e : EngineParts). e.level ≡ level e.entry.name (Moment now ∷ past))
+          (λ (e : EngineParts). clocked now e) c.engines
+          (all-both (λ (e : EngineParts). (e.level ≡ level e.entry.name past)
+          × (e.last ≡ moment past)) (λ (e : EngineParts). policy_of e.entry.name past ≡ Some e.entry.policy)
+          (λ (e : EngineParts). (clocked now e).level ≡ level e.entry.name (Moment now ∷ past)) (λ e both policy.
+          clocked-level now past e both.0 both.1 policy) c.engines
+          (all-both (λ (e : EngineParts). e.level ≡ level e.entry.name past) (λ (e : EngineParts). e.last
+          ≡ moment past) (λ (e : EngineParts). (e.level ≡ level e.entry.name past) × (e.last ≡ moment past))
           (λ e a b. (a, b)) c.engines fits.levels fits.moments) policies));
       moments = subst (All (λ (e : EngineParts). e.last ≡ now)) (sym engines)
           (All-map (λ (e : EngineParts). e.last ≡ now) (λ (e : EngineParts). clocked now e) c.engines
           (λ k d within. let last = fits.moments k d within in omega (arith, last, later)));
-      notes = subst (All (λ (s : StandingCall). All (λ (e : EngineParts). past_of s.marks e.entry.attach ≡ noted e.entry.name s.call.seq past) c'.engines)) (sym calls)
-          (λ k d within. over (λ (y : Entry). past_of (get_or c.calls k d).marks y.attach ≡ noted y.name (get_or c.calls k d).call.seq past) (fits.notes k d within));
+      notes = subst (All (λ (s : StandingCall). All (λ (e : EngineParts). past_of s.marks e.entry.attach
+          ≡ noted e.entry.name s.call.seq past) c'.engines)) (sym calls)
+          (λ k d within. over (λ (y : Entry). past_of (get_or c.calls k d).marks y.attach
+          ≡ noted y.name (get_or c.calls k d).call.seq past) (fits.notes k d within));
       forms = subst (All (λ (s : StandingCall). form conn s.call.seq past ≡ Some s.call)) (sym calls) fits.forms;
     }
 
 -- ---- a sending
 
-pub fits-sent : (conn seq bytes : ℕ) (past : Behind) (c c' : ChainParts) (s : StandingCall) → Fits conn past c → c.calls ≡ s ∷ c'.calls → c'.engines ≡ c.engines
+pub fits-sent : (conn seq bytes : ℕ) (past : Behind) (c c' : ChainParts) (s : StandingCall) → Fits conn past c
+    → c.calls ≡ s ∷ c'.calls → c'.engines ≡ c.engines
     → c'.attached ≡ c.attached → Fits conn (Sent seq bytes ∷ past) c'
 fits-sent conn seq bytes past c c' s fits calls engines attached = record {
   same_chain = ap (λ es. record { entries = map (λ (e : EngineParts). e.entry) es; attached = c'.attached }) engines
-      ∙ ap (λ n. record { entries = map (λ (e : EngineParts). e.entry) c.engines; attached = n }) attached ∙ fits.same_chain;
+      ∙ ap (λ n. record {
+        entries = map (λ (e : EngineParts). e.entry) c.engines;
+        attached = n;
+      }) attached ∙ fits.same_chain;
   levels = subst (All (λ (e : EngineParts). e.level ≡ level e.entry.name past)) (sym engines) fits.levels;
   moments = subst (All (λ (e : EngineParts). e.last ≡ moment past)) (sym engines) fits.moments;
-  notes = subst (λ (es : List EngineParts). All (λ (t : StandingCall). All (λ (e : EngineParts). past_of t.marks e.entry.attach ≡ noted e.entry.name t.call.seq past) es) c'.calls) (sym engines)
-      (All-tail (λ (t : StandingCall). All (λ (e : EngineParts). past_of t.marks e.entry.attach ≡ noted e.entry.name t.call.seq past) c.engines) s c'.calls
-      (subst (All (λ (t : StandingCall). All (λ (e : EngineParts). past_of t.marks e.entry.attach ≡ noted e.entry.name t.call.seq past) c.engines)) calls fits.notes));
+  notes = subst (λ (es : List EngineParts). All
+      (λ (t : StandingCall). All (λ (e : EngineParts). past_of t.marks e.entry.attach
+      ≡ noted e.entry.name t.call.seq past) es) c'.calls) (sym engines)
+      (All-tail (λ (t : StandingCall). All (λ (e : EngineParts). past_of t.marks e.entry.attach
+      ≡ noted e.entry.name t.call.seq past) c.engines) s c'.calls
+      (subst (All (λ (t : StandingCall). All (λ (e : EngineParts). past_of t.marks e.entry.attach
+      ≡ noted e.entry.name t.call.seq past) c.engines)) calls fits.notes));
   forms = All-tail (λ (t : StandingCall). form conn t.call.seq past ≡ Some t.call) s c'.calls
       (subst (All (λ (t : StandingCall). form conn t.call.seq past ≡ Some t.call)) calls fits.forms);
 }
 
 -- ---- the end of a link
 
-pub failure-is : (calls : List StandingCall) (ts : List Taken) (h : List Happening) → numbers_of calls ≡ map (λ t. t.seq) ts
+pub failure-is : (calls : List StandingCall) (ts : List Taken) (h : List Happening)
+    → numbers_of calls ≡ map (λ t. t.seq) ts
     → reverse (h ++ told_failure calls) ≡ refused_for_link ts (reverse h)
 failure-is [] [] h same = ap reverse (append-nil h)
 failure-is [] (t ∷ ts) h same = absurd cc
@@ -92,9 +129,12 @@ failure-is (s ∷ calls) (t ∷ ts) h same =
     let rest : numbers_of calls ≡ map (λ (t : Taken). t.seq) ts = cc in
     ap reverse (sym (append_assoc h (Refused s.call.seq cause.Transport ∷ []) (told_failure calls)))
     ∙ failure-is calls ts (h ++ Refused s.call.seq cause.Transport ∷ []) rest
-    ∙ ap (refused_for_link ts) (behind-one h (Refused s.call.seq cause.Transport) ∙ ap (λ (n : ℕ). Refused n cause.Transport ∷ reverse h) number)
+    ∙ ap (refused_for_link ts)
+    (behind-one h (Refused s.call.seq cause.Transport) ∙ ap (λ (n : ℕ). Refused n cause.Transport
+    ∷ reverse h) number)
 
-pub level-failed : (name : List ℕ) (ts : List Taken) (past : Behind) → level name (refused_for_link ts past) ≡ level name past
+pub level-failed : (name : List ℕ) (ts : List Taken) (past : Behind)
+    → level name (refused_for_link ts past) ≡ level name past
 level-failed name [] past = refl
 level-failed name (t ∷ ts) past = level-failed name ts (Refused t.seq cause.Transport ∷ past)
 
@@ -110,20 +150,24 @@ pub taken-failed : (ts : List Taken) (past : Behind) → taken (refused_for_link
 taken-failed [] past = refl
 taken-failed (t ∷ ts) past = taken-failed ts (Refused t.seq cause.Transport ∷ past)
 
-pub fits-failed : (conn : ℕ) (ts : List Taken) (past : Behind) (c : ChainParts) → Fits conn past c → Fits conn (refused_for_link ts past) (record c { calls = []; row = [] })
+pub fits-failed : (conn : ℕ) (ts : List Taken) (past : Behind) (c : ChainParts) → Fits conn past c
+    → Fits conn (refused_for_link ts past) (record c { calls = []; row = [] })
 fits-failed conn ts past c fits = record {
   same_chain = fits.same_chain ∙ sym (chain-failed ts past);
   levels = λ k d within. fits.levels k d within ∙ sym (level-failed (get_or c.engines k d).entry.name ts past);
   moments = λ k d within. fits.moments k d within ∙ sym (moment-failed ts past);
-  notes = All-nil (λ (s : StandingCall). All (λ (e : EngineParts). past_of s.marks e.entry.attach ≡ noted e.entry.name s.call.seq (refused_for_link ts past)) c.engines);
+  notes = All-nil (λ (s : StandingCall). All (λ (e : EngineParts). past_of s.marks e.entry.attach
+      ≡ noted e.entry.name s.call.seq (refused_for_link ts past)) c.engines);
   forms = All-nil (λ (s : StandingCall). form conn s.call.seq (refused_for_link ts past) ≡ Some s.call);
 }
 
 failure-suc : (calls : List StandingCall) (i : ℕ) (s : StandingCall) → slice_get calls i ≡ Some s
     → told_failure (take (suc i) calls) ≡ told_failure (take i calls) ++ Refused s.call.seq cause.Transport ∷ []
 failure-suc [] i s is = absurd cc
-failure-suc (x ∷ calls) zero s is = let same : x ≡ s = cc in ap (λ (t : StandingCall). Refused t.call.seq cause.Transport ∷ []) same
-failure-suc (x ∷ calls) (suc i) s is = ap (λ (h : List Happening). Refused x.call.seq cause.Transport ∷ h) (failure-suc calls i s is)
+failure-suc (x ∷ calls) zero s is = let same : x ≡ s =
+    cc in ap (λ (t : StandingCall). Refused t.call.seq cause.Transport ∷ []) same
+failure-suc (x ∷ calls) (suc i) s is =
+    ap (λ (h : List Happening). Refused x.call.seq cause.Transport ∷ h) (failure-suc calls i s is)
 
 pub failure-more : (calls : List StandingCall) (i : ℕ) (s : StandingCall) → slice_get calls i ≡ Some s
     → told_failure (take (i + 1) calls) ≡ told_failure (take i calls) ++ Refused s.call.seq cause.Transport ∷ []

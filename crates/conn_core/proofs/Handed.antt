@@ -16,14 +16,18 @@ use Rattle.conn_core.specs.Steps.{Hands, Steps}
 -- a sending hands over the frame of the call's form
 pub frames-sent : (T : Table) (conn seq bytes : ℕ) (past : Behind) (call : Call) → form conn seq past ≡ Some call
     → frames_behind T conn (Sent seq bytes ∷ past) ≡ frames_behind T conn past ++ frame_of T call ∷ []
-frames-sent T conn seq bytes past call is = ap (λ f. frames_behind T conn past ++ unwrap_or (option_map (frame_of T) f) [] ∷ []) is
+frames-sent T conn seq bytes past call is =
+    ap (λ f. frames_behind T conn past ++ unwrap_or (option_map (frame_of T) f) [] ∷ []) is
 
 -- the end of a link hands over none
-frames-refused : (T : Table) (conn : ℕ) (ts : List Taken) (past : Behind) → frames_behind T conn (refused_for_link ts past) ≡ frames_behind T conn past
+frames-refused : (T : Table) (conn : ℕ) (ts : List Taken) (past : Behind)
+    → frames_behind T conn (refused_for_link ts past) ≡ frames_behind T conn past
 frames-refused T conn [] past = refl
-frames-refused T conn (t ∷ ts) past = frames-refused T conn ts (Refused t.seq cause.Transport ∷ past) ∙ append-nil (frames_behind T conn past)
+frames-refused T conn (t ∷ ts) past =
+    frames-refused T conn ts (Refused t.seq cause.Transport ∷ past) ∙ append-nil (frames_behind T conn past)
 
-past-failed : (old new : Connection) → Steps old fails new → behind new ≡ refused_for_link (standing (behind old)) (behind old)
+pub past-failed : (old new : Connection) → Steps old fails new
+    → behind new ≡ refused_for_link (standing (behind old)) (behind old)
 past-failed old new (takes call is running may new-is) = absurd cc
 past-failed old new (is_away method number addr is full new-is) = absurd cc
 past-failed old new (changes step is may new-is) = absurd cc
@@ -33,14 +37,19 @@ past-failed old new (has_turn position seq outcome e is has new-is) = absurd cc
 past-failed old new (is_sent seq bytes is running ready new-is) = absurd cc
 past-failed old new (link_failed is new-is) = ap (λ (c : Course). c.past) new-is
 
-pub frames-failed : (old new : Connection) → new.table ≡ old.table → new.conn ≡ old.conn → Steps old fails new → frames new ≡ frames old
+pub frames-failed : (old new : Connection) → new.table ≡ old.table → new.conn ≡ old.conn → Steps old fails new
+    → frames new ≡ frames old
 frames-failed old new table conn step =
     ap (λ T. frames_behind T new.conn (behind new)) table ∙ ap (λ (n : ℕ). frames_behind old.table n (behind new)) conn
-    ∙ ap (frames_behind old.table old.conn) (past-failed old new step) ∙ frames-refused old.table old.conn (standing (behind old)) (behind old)
+    ∙ ap (frames_behind old.table old.conn) (past-failed old new step) ∙ frames-refused old.table old.conn
+    (standing (behind old)) (behind old)
 
-pub hands-none : (before after : Connection) (handed handed' : List (List ℕ)) → frames after ≡ frames before → handed' ≡ handed → Hands before after handed handed'
-hands-none before after handed handed' frames-same same = ([], frames-same ∙ sym (append-nil (frames before)), same ∙ sym (append-nil handed))
+pub hands-none : (before after : Connection) (handed handed' : List (List ℕ)) → frames after ≡ frames before
+    → handed' ≡ handed → Hands before after handed handed'
+hands-none before after handed handed' frames-same same =
+    ([], frames-same ∙ sym (append-nil (frames before)), same ∙ sym (append-nil handed))
 
-pub hands-one : (before after : Connection) (handed handed' : List (List ℕ)) (frame : List ℕ) → frames after ≡ frames before ++ frame ∷ [] → handed' ≡ handed ++ frame ∷ []
+pub hands-one : (before after : Connection) (handed handed' : List (List ℕ)) (frame : List ℕ)
+    → frames after ≡ frames before ++ frame ∷ [] → handed' ≡ handed ++ frame ∷ []
     → Hands before after handed handed'
 hands-one before after handed handed' frame frames-more more = (frame ∷ [], frames-more, more)

@@ -32,35 +32,52 @@ joined-calls None chain = omega arith
 joined-calls (Some f) chain = omega (arith, length_push chain.calls (record { call = f; marks = [] }))
 
 joined-short : (T : Table) (form : Option Call) (chain : ChainParts) → IfSome form (λ f. length (payload T f) ≤ 262144)
-    → All (λ s. length (payload T s.call) ≤ 262144) chain.calls → All (λ s. length (payload T s.call) ≤ 262144) (joined form chain).calls
+    → All (λ s. length (payload T s.call) ≤ 262144) chain.calls
+    → All (λ s. length (payload T s.call) ≤ 262144) (joined form chain).calls
 joined-short T None chain here short = short
-joined-short T (Some f) chain here short = All-push (λ (s : StandingCall). length (payload T s.call) ≤ 262144) chain.calls (record { call = f; marks = [] }) short here
+joined-short T (Some f) chain here short =
+    All-push (λ (s : StandingCall). length (payload T s.call) ≤ 262144) chain.calls (record {
+      call = f;
+      marks = [];
+    }) short here
 
-greater-by : (conn : ℕ) (call : Taken) (form : Option Call) (n : ℕ) (calls : List StandingCall) → form ≡ copied conn call call.copy → call.seq ≡ n + 1
+greater-by : (conn : ℕ) (call : Taken) (form : Option Call) (n : ℕ) (calls : List StandingCall)
+    → form ≡ copied conn call call.copy → call.seq ≡ n + 1
     → All (λ s. s.call.seq ≤ n) calls → IfSome form (λ f. All (λ s. s.call.seq < f.seq) calls)
 greater-by conn call None n calls is number few = tt
 greater-by conn call (Some f) n calls is number few =
     let own : f.seq ≡ call.seq = form-number conn call call.copy f is in
-    All-weaker (λ (s : StandingCall). s.call.seq ≤ n) (λ (s : StandingCall). s.call.seq < f.seq) (λ s le. omega (arith, le, own, number)) calls few
+    All-weaker (λ (s : StandingCall). s.call.seq ≤ n) (λ (s : StandingCall). s.call.seq < f.seq) (λ s le.
+    omega (arith, le, own, number)) calls few
 
-pub greater-than-all : (c : Connection) (steps : List ℕ) (history : Kept) (accepted ms : ℕ) (call : Taken) (form : Option Call) → IsKept c steps history accepted ms
-    → form ≡ copied c.conn call call.copy → call.seq ≡ accepted + 1 → IfSome form (λ f. All (λ s. s.call.seq < f.seq) c.chain.calls)
+pub greater-than-all : (c : Connection) (steps : List ℕ) (history : Kept) (accepted ms : ℕ) (call : Taken)
+    (form : Option Call) → IsKept c steps history accepted ms
+    → form ≡ copied c.conn call call.copy → call.seq ≡ accepted + 1
+    → IfSome form (λ f. All (λ s. s.call.seq < f.seq) c.chain.calls)
 greater-than-all c steps history accepted ms call form kept is number =
     greater-by c.conn call form accepted c.chain.calls is number
     (subst (λ (n : ℕ). All (λ s. s.call.seq ≤ n) c.chain.calls) (sym kept.count) (few-numbers c kept.connection))
 
 -- as it is kept, and the event
-pub record Accepted (old new : Connection) (steps : List ℕ) (history : Kept) (accepted ms : ℕ) (call : Taken) : Type 0 where
+pub record Accepted (old new : Connection) (steps : List ℕ) (history : Kept) (accepted ms : ℕ)
+    (call : Taken) : Type 0 where
   pub kept : IsKept new steps history (accepted + 1) ms
   pub step : Steps old (accepts call) new
 
-pub accepted-kept : EventsKeep → (conn : ℕ) (T : Table) (limit : ℕ) (chain chain' : ChainParts) (history history' : Kept) (ended : Bool) (steps : List ℕ)
-    (accepted ms H : ℕ) (own : Loads) (call : Taken) (form : Option Call) → IsKept (seen conn T limit chain history ended) steps history accepted ms
-    → ended ≡ false → length chain.calls < 64 → call.seq ≡ accepted + 1 → IsTakenWell T H limit own call form → form ≡ copied conn call call.copy
+pub accepted-kept : EventsKeep
+    → (conn : ℕ) (T : Table) (limit : ℕ) (chain chain' : ChainParts) (history history' : Kept) (ended : Bool)
+    (steps : List ℕ)
+    (accepted ms H : ℕ) (own : Loads) (call : Taken) (form : Option Call)
+    → IsKept (seen conn T limit chain history ended) steps history accepted ms
+    → ended ≡ false → length chain.calls < 64 → call.seq ≡ accepted + 1 → IsTakenWell T H limit own call form
+    → form ≡ copied conn call call.copy
     → chain' ≡ joined form chain → IsStandingChain chain' → history'.steps ≡ history.steps
-    → history'.happenings ≡ history.happenings ++ told_acceptance call form → 9 * (length chain.calls + 1) ≤ history'.room → accepted + 1 < 2 ^ 32
-    → Accepted (seen conn T limit chain history ended) (seen conn T limit chain' history' ended) steps history' accepted ms call
-accepted-kept keeps conn T limit chain chain' history history' ended steps accepted ms H own call form kept running few number well is chain-is stands steps-same told room most =
+    → history'.happenings ≡ history.happenings ++ told_acceptance call form
+    → 9 * (length chain.calls + 1) ≤ history'.room → accepted + 1 < 2 ^ 32
+    → Accepted (seen conn T limit chain history ended) (seen conn T limit chain' history' ended) steps history' accepted
+    ms call
+accepted-kept keeps conn T limit chain chain' history history' ended steps accepted ms H own call form kept running few
+    number well is chain-is stands steps-same told room most =
     let old : Connection = seen conn T limit chain history ended in
     let new : Connection = seen conn T limit chain' history' ended in
     let count : accepted ≡ length (taken (behind old)) = kept.count in
@@ -70,12 +87,17 @@ accepted-kept keeps conn T limit chain chain' history history' ended steps accep
       loads = well.few;
       copy = well.sound;
     } in
-    let new-is : new ≡ record old { chain = joined form chain; happenings = history.happenings ++ told_acceptance call form } =
+    let new-is : new ≡ record old {
+      chain = joined form chain;
+      happenings = history.happenings ++ told_acceptance call form;
+    } =
     ap (λ (c : ChainParts). record old { chain = c; happenings = history'.happenings }) chain-is
     ∙ ap (λ h. record old { chain = joined form chain; happenings = h }) told in
-    let next = accepted-now keeps old new call form kept.connection running may is new-is stands (omega (arith, count, most)) in
+    let next = accepted-now keeps old new call form kept.connection running may is new-is stands
+    (omega (arith, count, most)) in
     let entries : chain_of chain' ≡ chain_of chain = ap chain_of chain-is ∙ joined-entries form chain in
-    let calls : length chain'.calls ≤ length chain.calls + 1 = omega (arith, ap (λ (c : ChainParts). length c.calls) chain-is, joined-calls form chain) in record {
+    let calls : length chain'.calls ≤ length chain.calls + 1 =
+    omega (arith, ap (λ (c : ChainParts). length c.calls) chain-is, joined-calls form chain) in record {
       kept = record {
         connection = next.1;
         valid = kept.valid;
@@ -85,14 +107,18 @@ accepted-kept keeps conn T limit chain chain' history history' ended steps accep
         latest = kept.latest ∙ sym (accepted-moment old new call form new-is);
         engine_steps = subst (λ c. AllZip (IsStepOf history'.steps) steps c.entries) (sym entries)
             (subst (λ s. AllZip (IsStepOf s) steps (chain_of chain).entries) (sym steps-same) kept.engine_steps);
-        short = subst (λ (c : ChainParts). All (λ s. length (payload T s.call) ≤ 262144) c.calls) (sym chain-is) (joined-short T form chain well.short kept.short);
-        room = has-room chain'.calls (chain_of chain').entries history'.room stands.stands.chain.few (omega (arith, calls, room));
+        short = subst (λ (c : ChainParts). All (λ s. length (payload T s.call) ≤ 262144) c.calls) (sym chain-is)
+            (joined-short T form chain well.short kept.short);
+        room = has-room chain'.calls (chain_of chain').entries history'.room stands.stands.chain.few
+            (omega (arith, calls, room));
       };
       step = next.0;
     }
 
-pub accepted-by : (H : ℕ) (ask : Ask) (seq : ℕ) (own : Loads) (before seen-before after : Connection) (call : Taken) → seen-before ≡ before → IsAsked seq ask call
-    → IsLoaded seen-before.table H seen-before.limit call own → Steps seen-before (accepts call) after → Accepts H ask seq own before after
+pub accepted-by : (H : ℕ) (ask : Ask) (seq : ℕ) (own : Loads) (before seen-before after : Connection) (call : Taken)
+    → seen-before ≡ before → IsAsked seq ask call
+    → IsLoaded seen-before.table H seen-before.limit call own → Steps seen-before (accepts call) after
+    → Accepts H ask seq own before after
 accepted-by H ask seq own before seen-before after call is asked loaded step =
     subst (λ (c : Connection). Accepts H ask seq own c after) is (record {
       call = call;

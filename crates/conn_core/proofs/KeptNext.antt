@@ -28,12 +28,14 @@ use Rattle.conn_core.proofs.Rooms.{has-room, room-first}
 use Rattle.conn_core.proofs.Told.{behind-one}
 
 -- a step was taken, and what is kept holds
-pub record Stepped (old new : Connection) (event : Event) (steps : List ℕ) (history : Kept) (accepted ms : ℕ) : Type 0 where
+pub record Stepped (old new : Connection) (event : Event) (steps : List ℕ) (history : Kept)
+    (accepted ms : ℕ) : Type 0 where
   pub kept : IsKept new steps history accepted ms
   pub step : Steps old event new
 
 -- what a step has to keep, besides the course
-pub record Keeps (conn : ℕ) (T : Table) (past : Behind) (c : ChainParts) (steps : List ℕ) (history : Kept) (accepted ms : ℕ) : Type 0 where
+pub record Keeps (conn : ℕ) (T : Table) (past : Behind) (c : ChainParts) (steps : List ℕ) (history : Kept)
+    (accepted ms : ℕ) : Type 0 where
   pub stands : IsStandingChain c
   pub fits : Fits conn past c
   pub count : accepted ≡ length (taken past)
@@ -42,17 +44,22 @@ pub record Keeps (conn : ℕ) (T : Table) (past : Behind) (c : ChainParts) (step
   pub short : All (λ s. length (payload T s.call) ≤ 262144) c.calls
   pub room : HasRoom c.calls (chain_of c).entries history.room
 
-pub stepped : EventsKeep → (conn : ℕ) (T : Table) (limit : ℕ) (c c' : ChainParts) (history history' : Kept) (ended ended' : Bool) (steps steps' : List ℕ) (accepted ms ms' : ℕ) (event : Event) (past : Behind)
+pub stepped : EventsKeep → (conn : ℕ) (T : Table) (limit : ℕ) (c c' : ChainParts) (history history' : Kept)
+    (ended ended' : Bool) (steps steps' : List ℕ) (accepted ms ms' : ℕ) (event : Event) (past : Behind)
     → IsKept (seen conn T limit c history ended) steps history accepted ms → reverse history'.happenings ≡ past
-    → Comes (under (seen conn T limit c history ended)) (course (seen conn T limit c history ended)) event (record { past = past; row = c'.row; ended = ended' })
+    → Comes (under (seen conn T limit c history ended)) (course (seen conn T limit c history ended)) event
+    (record { past = past; row = c'.row; ended = ended' })
     → Keeps conn T past c' steps' history' accepted ms'
-    → Stepped (seen conn T limit c history ended) (seen conn T limit c' history' ended') event steps' history' accepted ms'
-stepped keeps conn T limit c c' history history' ended ended' steps steps' accepted ms ms' event past kept is comes holds =
+    → Stepped (seen conn T limit c history ended) (seen conn T limit c' history' ended') event steps' history' accepted
+    ms'
+stepped keeps conn T limit c c' history history' ended ended' steps steps' accepted ms ms' event past kept is comes
+    holds =
     let old : Connection = seen conn T limit c history ended in
     let new : Connection = seen conn T limit c' history' ended' in
     let next : Course = record { past = past; row = c'.row; ended = ended' } in
     let held : IsCourse (under old) next = keeps (under old) (course old) next event kept.connection.is_course comes in
-    let few : length (taken past) < 2 ^ 32 = omega (arith, sym kept.count ∙ holds.count, kept.connection.few) in record {
+    let few : length (taken past) < 2 ^ 32 = omega (arith, sym kept.count ∙ holds.count, kept.connection.few) in
+    record {
       kept = record {
         connection = connected new past is held holds.stands holds.fits few;
         valid = kept.valid;
@@ -64,26 +71,38 @@ stepped keeps conn T limit c c' history history' ended ended' steps steps' accep
         short = holds.short;
         room = holds.room;
       };
-      step = subst (λ (p : Behind). Comes (under old) (course old) event (record { past = p; row = c'.row; ended = ended' })) (sym is) comes;
+      step = subst (λ (p : Behind). Comes (under old) (course old) event (record {
+        past = p;
+        row = c'.row;
+        ended = ended';
+      })) (sym is) comes;
     }
 
 few-entries : (c : ChainParts) → IsStandingChain c → length (chain_of c).entries ≤ 8
 few-entries c stands = stands.stands.chain.few
 
-pub steps-still : (history history' : Kept) (steps : List ℕ) (c c' : ChainParts) → history'.steps ≡ history.steps → (chain_of c').entries ≡ (chain_of c).entries
-    → AllZip (IsStepOf history.steps) steps (chain_of c).entries → AllZip (IsStepOf history'.steps) steps (chain_of c').entries
+pub steps-still : (history history' : Kept) (steps : List ℕ) (c c' : ChainParts) → history'.steps ≡ history.steps
+    → (chain_of c').entries ≡ (chain_of c).entries
+    → AllZip (IsStepOf history.steps) steps (chain_of c).entries
+    → AllZip (IsStepOf history'.steps) steps (chain_of c').entries
 steps-still history history' steps c c' same entries h =
-    subst (λ es. AllZip (IsStepOf history'.steps) steps es) (sym entries) (subst (λ s. AllZip (IsStepOf s) steps (chain_of c).entries) (sym same) h)
+    subst (λ es. AllZip (IsStepOf history'.steps) steps es) (sym entries)
+    (subst (λ s. AllZip (IsStepOf s) steps (chain_of c).entries) (sym same) h)
 
 -- ---- a call that is turned away
 
-pub kept-away : EventsKeep → (conn : ℕ) (T : Table) (limit : ℕ) (c : ChainParts) (history history' : Kept) (ended : Bool) (steps : List ℕ) (accepted ms method number addr : ℕ)
-    → IsKept (seen conn T limit c history ended) steps history accepted ms → length c.calls ≡ 64 → history'.steps ≡ history.steps
+pub kept-away : EventsKeep
+    → (conn : ℕ) (T : Table) (limit : ℕ) (c : ChainParts) (history history' : Kept) (ended : Bool) (steps : List ℕ)
+    (accepted ms method number addr : ℕ)
+    → IsKept (seen conn T limit c history ended) steps history accepted ms → length c.calls ≡ 64
+    → history'.steps ≡ history.steps
     → history'.happenings ≡ history.happenings ++ Away method number addr ∷ [] → 9 * length c.calls ≤ history'.room
-    → Stepped (seen conn T limit c history ended) (seen conn T limit c history' ended) (turns_away method number addr) steps history' accepted ms
+    → Stepped (seen conn T limit c history ended) (seen conn T limit c history' ended)
+    (turns_away method number addr) steps history' accepted ms
 kept-away keeps conn T limit c history history' ended steps accepted ms method number addr kept full same told room =
     let old : Connection = seen conn T limit c history ended in
-    stepped keeps conn T limit c c history history' ended ended steps steps accepted ms ms (turns_away method number addr) (Away method number addr ∷ behind old) kept
+    stepped keeps conn T limit c c history history' ended ended steps steps accepted ms ms
+    (turns_away method number addr) (Away method number addr ∷ behind old) kept
     (ap reverse told ∙ behind-one history.happenings (Away method number addr))
     (is_away method number addr refl (sym (as-many old kept.connection) ∙ full) refl) (record {
       stands = kept.connection.standing_chain;
@@ -97,18 +116,27 @@ kept-away keeps conn T limit c history history' ended steps accepted ms method n
 
 -- ---- a moment
 
-pub kept-clocked : EventsKeep → (conn : ℕ) (T : Table) (limit : ℕ) (c c' : ChainParts) (history history' : Kept) (ended : Bool) (steps : List ℕ) (accepted ms now : ℕ)
+pub kept-clocked : EventsKeep
+    → (conn : ℕ) (T : Table) (limit : ℕ) (c c' : ChainParts) (history history' : Kept) (ended : Bool) (steps : List ℕ)
+    (accepted ms now : ℕ)
     → IsKept (seen conn T limit c history ended) steps history accepted ms → ms < now → history'.steps ≡ history.steps
     → history'.happenings ≡ history.happenings ++ Moment now ∷ [] → 9 * length c.calls ≤ history'.room
-    → c'.engines ≡ map (λ e. clocked now e) c.engines → c'.attached ≡ c.attached → c'.calls ≡ c.calls → c'.row ≡ c.row → IsStandingChain c'
-    → Stepped (seen conn T limit c history ended) (seen conn T limit c' history' ended) (shows now) steps history' accepted now
-kept-clocked keeps conn T limit c c' history history' ended steps accepted ms now kept later same told room engines attached calls row stands =
+    → c'.engines ≡ map (λ e. clocked now e) c.engines → c'.attached ≡ c.attached → c'.calls ≡ c.calls → c'.row ≡ c.row
+    → IsStandingChain c'
+    → Stepped (seen conn T limit c history ended) (seen conn T limit c' history' ended)
+    (shows now) steps history' accepted now
+kept-clocked keeps conn T limit c c' history history' ended steps accepted ms now kept later same told room engines
+    attached calls row stands =
     let old : Connection = seen conn T limit c history ended in
     let above : moment (behind old) < now = omega (arith, later, kept.latest) in
-    let is-chain : IsChain (chain (behind old)) = subst IsChain kept.connection.same_chain kept.connection.standing_chain.stands.chain in
-    let fits : Fits conn (Moment now ∷ behind old) c' = fits-clocked conn now (behind old) c c' (fits-of old kept.connection) is-chain above engines attached calls in
-    let entries : (chain_of c').entries ≡ (chain_of c).entries = ap (λ (ch : Chain). ch.entries) (fits.same_chain ∙ sym kept.connection.same_chain) in
-    stepped keeps conn T limit c c' history history' ended ended steps steps accepted ms now (shows now) (Moment now ∷ behind old) kept
+    let is-chain : IsChain (chain (behind old)) =
+    subst IsChain kept.connection.same_chain kept.connection.standing_chain.stands.chain in
+    let fits : Fits conn (Moment now ∷ behind old) c' =
+    fits-clocked conn now (behind old) c c' (fits-of old kept.connection) is-chain above engines attached calls in
+    let entries : (chain_of c').entries ≡ (chain_of c).entries =
+    ap (λ (ch : Chain). ch.entries) (fits.same_chain ∙ sym kept.connection.same_chain) in
+    stepped keeps conn T limit c c' history history' ended ended steps steps accepted ms now (shows now)
+    (Moment now ∷ behind old) kept
     (ap reverse told ∙ behind-one history.happenings (Moment now))
     (rises now refl above (ap (λ r. record { past = Moment now ∷ behind old; row = r; ended = ended }) row)) (record {
       stands = stands;
@@ -116,13 +144,18 @@ kept-clocked keeps conn T limit c c' history history' ended steps accepted ms no
       count = kept.count;
       latest = refl;
       engine_steps = steps-still history history' steps c c' same entries kept.engine_steps;
-      short = subst (λ (cs : List StandingCall). All (λ s. length (payload T s.call) ≤ 262144) cs) (sym calls) kept.short;
-      room = has-room c'.calls (chain_of c').entries history'.room (few-entries c' stands) (omega (arith, ap length calls, room));
+      short = subst (λ (cs : List StandingCall). All (λ s. length (payload T s.call) ≤ 262144) cs)
+          (sym calls) kept.short;
+      room = has-room c'.calls (chain_of c').entries history'.room (few-entries c' stands)
+          (omega (arith, ap length calls, room));
     })
 
-pub shown-before : (conn : ℕ) (T : Table) (limit : ℕ) (c : ChainParts) (history : Kept) (ended : Bool) (steps : List ℕ) (accepted ms now : ℕ)
-    → IsKept (seen conn T limit c history ended) steps history accepted ms → now ≤ ms → Steps (seen conn T limit c history ended) (shows now) (seen conn T limit c history ended)
-shown-before conn T limit c history ended steps accepted ms now kept before = stays now refl (omega (arith, before, kept.latest)) refl
+pub shown-before : (conn : ℕ) (T : Table) (limit : ℕ) (c : ChainParts) (history : Kept) (ended : Bool) (steps : List ℕ)
+    (accepted ms now : ℕ)
+    → IsKept (seen conn T limit c history ended) steps history accepted ms → now ≤ ms
+    → Steps (seen conn T limit c history ended) (shows now) (seen conn T limit c history ended)
+shown-before conn T limit c history ended steps accepted ms now kept before =
+    stays now refl (omega (arith, before, kept.latest)) refl
 
 -- ---- a sending
 
@@ -131,33 +164,47 @@ others-stay : (seq : ℕ) (row : Row) → All (λ n. n ≢ seq) (map (λ call. c
 others-stay seq [] apart = refl
 others-stay seq (call ∷ row) apart =
     ap (λ b. if not b then call ∷ without_call seq row else without_call seq row)
-    (ne_eqb seq call.0 (λ same. All-head (λ (n : ℕ). n ≢ seq) call.0 (map (λ (call : ℕ × ℕ). call.0) row) apart (sym same)))
-    ∙ ap (λ (r : Row). call ∷ r) (others-stay seq row (All-tail (λ (n : ℕ). n ≢ seq) call.0 (map (λ (call : ℕ × ℕ). call.0) row) apart))
+    (ne_eqb seq call.0 (λ same. All-head (λ (n : ℕ). n ≢ seq) call.0 (map (λ (call : ℕ × ℕ). call.0) row) apart
+    (sym same)))
+    ∙ ap (λ (r : Row). call ∷ r)
+    (others-stay seq row (All-tail (λ (n : ℕ). n ≢ seq) call.0 (map (λ (call : ℕ × ℕ). call.0) row) apart))
 
-first-leaves : (c c' : ChainParts) (s : StandingCall) (place : ℕ) → IsStandingChain c → c.calls ≡ s ∷ c'.calls → c.row ≡ (s.call.seq, place) ∷ c'.row → c'.row ≡ without_call s.call.seq c.row
+first-leaves : (c c' : ChainParts) (s : StandingCall) (place : ℕ) → IsStandingChain c → c.calls ≡ s ∷ c'.calls
+    → c.row ≡ (s.call.seq, place) ∷ c'.row → c'.row ≡ without_call s.call.seq c.row
 first-leaves c c' s place stands calls row =
-    let ascend : IsAscending (numbers_of (s ∷ c'.calls)) = subst (λ (cs : List StandingCall). IsAscending (numbers_of cs)) calls stands.stands.ascend in
+    let ascend : IsAscending (numbers_of (s ∷ c'.calls)) =
+    subst (λ (cs : List StandingCall). IsAscending (numbers_of cs)) calls stands.stands.ascend in
     let apart : All (λ t. t.call.seq ≢ s.call.seq) c'.calls = (calls-apart [] s c'.calls ascend).1 in
     let numbers' : map (λ (call : ℕ × ℕ). call.0) ((s.call.seq, place) ∷ c'.row) ≡ numbers_of (s ∷ c'.calls) =
     sym (ap (map (λ (call : ℕ × ℕ). call.0)) row) ∙ stands.row ∙ ap numbers_of calls in
     let rest : map (λ (call : ℕ × ℕ). call.0) c'.row ≡ numbers_of c'.calls = cc in
     let others : All (λ n. n ≢ s.call.seq) (map (λ (call : ℕ × ℕ). call.0) c'.row) =
-    subst (All (λ (n : ℕ). n ≢ s.call.seq)) (sym rest) (All-map (λ (n : ℕ). n ≢ s.call.seq) (λ (t : StandingCall). t.call.seq) c'.calls apart) in
+    subst (All (λ (n : ℕ). n ≢ s.call.seq)) (sym rest)
+    (All-map (λ (n : ℕ). n ≢ s.call.seq) (λ (t : StandingCall). t.call.seq) c'.calls apart) in
     sym (ap (without_call s.call.seq) row
-    ∙ ap (λ b. if not b then (s.call.seq, place) ∷ without_call s.call.seq c'.row else without_call s.call.seq c'.row) (eq-eqb s.call.seq s.call.seq refl)
+    ∙ ap (λ b. if not b then (s.call.seq, place) ∷ without_call s.call.seq c'.row
+    else without_call s.call.seq c'.row) (eq-eqb s.call.seq s.call.seq refl)
     ∙ others-stay s.call.seq c'.row others)
 
-pub kept-sent : EventsKeep → (conn : ℕ) (T : Table) (limit : ℕ) (c c' : ChainParts) (history history' : Kept) (ended : Bool) (steps : List ℕ) (accepted ms bytes : ℕ) (s : StandingCall)
-    → IsKept (seen conn T limit c history ended) steps history accepted ms → ended ≡ false → history'.steps ≡ history.steps
-    → history'.happenings ≡ history.happenings ++ Sent s.call.seq bytes ∷ [] → history.room ≤ history'.room + 1 → bytes ≡ HEADER_LEN + length (payload T s.call)
+pub kept-sent : EventsKeep
+    → (conn : ℕ) (T : Table) (limit : ℕ) (c c' : ChainParts) (history history' : Kept) (ended : Bool) (steps : List ℕ)
+    (accepted ms bytes : ℕ) (s : StandingCall)
+    → IsKept (seen conn T limit c history ended) steps history accepted ms → ended ≡ false
+    → history'.steps ≡ history.steps
+    → history'.happenings ≡ history.happenings ++ Sent s.call.seq bytes ∷ [] → history.room ≤ history'.room + 1
+    → bytes ≡ HEADER_LEN + length (payload T s.call)
     → first_at (length c.engines) c.row ≡ Some (s.call.seq, length c.engines)
-    → c.calls ≡ s ∷ c'.calls → c.row ≡ (s.call.seq, length c.engines) ∷ c'.row → c'.engines ≡ c.engines → c'.attached ≡ c.attached → IsStandingChain c'
-    → Stepped (seen conn T limit c history ended) (seen conn T limit c' history' ended) (sends s.call.seq bytes) steps history' accepted ms
-kept-sent keeps conn T limit c c' history history' ended steps accepted ms bytes s kept running same told room long first calls row engines attached stands =
+    → c.calls ≡ s ∷ c'.calls → c.row ≡ (s.call.seq, length c.engines) ∷ c'.row → c'.engines ≡ c.engines
+    → c'.attached ≡ c.attached → IsStandingChain c'
+    → Stepped (seen conn T limit c history ended) (seen conn T limit c' history' ended)
+    (sends s.call.seq bytes) steps history' accepted ms
+kept-sent keeps conn T limit c c' history history' ended steps accepted ms bytes s kept running same told room long
+    first calls row engines attached stands =
     let old : Connection = seen conn T limit c history ended in
     let seq : ℕ = s.call.seq in
     let long-chain : length c.engines ≡ length (chain (behind old)).entries =
-    sym (length-map c.engines (λ (e : EngineParts). e.entry)) ∙ ap (λ (ch : Chain). length ch.entries) kept.connection.same_chain in
+    sym (length-map c.engines (λ (e : EngineParts). e.entry)) ∙ ap
+    (λ (ch : Chain). length ch.entries) kept.connection.same_chain in
     let form-is : form conn seq (behind old) ≡ Some s.call =
     All-head (λ (t : StandingCall). form conn t.call.seq (behind old) ≡ Some t.call) s c'.calls
     (subst (All (λ (t : StandingCall). form conn t.call.seq (behind old) ≡ Some t.call)) calls kept.connection.forms) in
@@ -168,51 +215,81 @@ kept-sent keeps conn T limit c c' history history' ended steps accepted ms bytes
       long = long;
     } in
     let entries : (chain_of c').entries ≡ (chain_of c).entries = ap (map (λ (e : EngineParts). e.entry)) engines in
-    let first-room = room-first s c'.calls (chain_of c).entries history.room history'.room (subst (λ (cs : List StandingCall). HasRoom cs (chain_of c).entries history.room) calls kept.room) room in
-    stepped keeps conn T limit c c' history history' ended ended steps steps accepted ms ms (sends seq bytes) (Sent seq bytes ∷ behind old) kept
+    let first-room = room-first s c'.calls (chain_of c).entries history.room history'.room
+    (subst (λ (cs : List StandingCall). HasRoom cs (chain_of c).entries history.room) calls kept.room) room in
+    stepped keeps conn T limit c c' history history' ended ended steps steps accepted ms ms (sends seq bytes)
+    (Sent seq bytes ∷ behind old) kept
     (ap reverse told ∙ behind-one history.happenings (Sent seq bytes))
     (is_sent seq bytes refl running ready
-    (ap (λ (r : Row). record { past = Sent seq bytes ∷ behind old; row = r; ended = ended }) (first-leaves c c' s (length c.engines) kept.connection.standing_chain calls row))) (record {
+    (ap (λ (r : Row). record {
+      past = Sent seq bytes ∷ behind old;
+      row = r;
+      ended = ended;
+    }) (first-leaves c c' s (length c.engines) kept.connection.standing_chain calls row))) (record {
       stands = stands;
       fits = fits-sent conn seq bytes (behind old) c c' s (fits-of old kept.connection) calls engines attached;
       count = kept.count;
       latest = kept.latest;
       engine_steps = steps-still history history' steps c c' same entries kept.engine_steps;
-      short = All-tail (λ (t : StandingCall). length (payload T t.call) ≤ 262144) s c'.calls (subst (All (λ (t : StandingCall). length (payload T t.call) ≤ 262144)) calls kept.short);
+      short = All-tail (λ (t : StandingCall). length (payload T t.call)
+          ≤ 262144) s c'.calls (subst (All (λ (t : StandingCall). length (payload T t.call)
+          ≤ 262144)) calls kept.short);
       room = subst (λ es. HasRoom c'.calls es history'.room) (sym entries) first-room.1;
     })
 
 -- ---- the end of a link
 
-pub kept-failed : EventsKeep → (conn : ℕ) (T : Table) (limit : ℕ) (c : ChainParts) (history history' : Kept) (ended : Bool) (steps : List ℕ) (accepted ms : ℕ)
-    → IsKept (seen conn T limit c history ended) steps history accepted ms → history'.steps ≡ history.steps → history'.happenings ≡ history.happenings ++ told_failure c.calls
+pub kept-failed : EventsKeep
+    → (conn : ℕ) (T : Table) (limit : ℕ) (c : ChainParts) (history history' : Kept) (ended : Bool) (steps : List ℕ)
+    (accepted ms : ℕ)
+    → IsKept (seen conn T limit c history ended) steps history accepted ms → history'.steps ≡ history.steps
+    → history'.happenings ≡ history.happenings ++ told_failure c.calls
     → IsStandingChain (record c { calls = []; row = [] })
-    → Stepped (seen conn T limit c history ended) (seen conn T limit (record c { calls = []; row = [] }) history' true) fails steps history' accepted ms
+    → Stepped (seen conn T limit c history ended) (seen conn T limit (record c {
+      calls = [];
+      row = [];
+    }) history' true) fails steps history' accepted ms
 kept-failed keeps conn T limit c history history' ended steps accepted ms kept same told stands =
     let old : Connection = seen conn T limit c history ended in
     let past : Behind = refused_for_link (standing (behind old)) (behind old) in
-    stepped keeps conn T limit c (record c { calls = []; row = [] }) history history' ended true steps steps accepted ms ms fails past kept
+    stepped keeps conn T limit c (record c {
+      calls = [];
+      row = [];
+    }) history history' ended true steps steps accepted ms ms fails past kept
     (ap reverse told ∙ failure-is c.calls (standing (behind old)) history.happenings (numbers old kept.connection))
     (link_failed refl refl) (record {
       stands = stands;
       fits = fits-failed conn (standing (behind old)) (behind old) c (fits-of old kept.connection);
       count = kept.count ∙ sym (ap length (taken-failed (standing (behind old)) (behind old)));
       latest = kept.latest ∙ sym (moment-failed (standing (behind old)) (behind old));
-      engine_steps = steps-still history history' steps c (record c { calls = []; row = [] }) same refl kept.engine_steps;
+      engine_steps = steps-still history history' steps c (record c {
+        calls = [];
+        row = [];
+      }) same refl kept.engine_steps;
       short = All-nil (λ (s : StandingCall). length (payload T s.call) ≤ 262144);
-      room = has-room [] (chain_of c).entries history'.room (few-entries c kept.connection.standing_chain) (omega arith);
+      room = has-room [] (chain_of c).entries history'.room (few-entries c kept.connection.standing_chain)
+          (omega arith);
     })
 
 -- ---- as it is told
 
-pub step-from : (before now after : Connection) (event : Event) (steps : List ℕ) (history : Kept) (accepted ms : ℕ) → now ≡ before
+pub step-from : (before now after : Connection) (event : Event) (steps : List ℕ) (history : Kept) (accepted ms : ℕ)
+    → now ≡ before
     → Stepped now after event steps history accepted ms → Steps before event after
-step-from before now after event steps history accepted ms is h = subst (λ (c : Connection). Steps c event after) is h.step
+step-from before now after event steps history accepted ms is h =
+    subst (λ (c : Connection). Steps c event after) is h.step
 
-pub kept-failed-as : EventsKeep → (conn : ℕ) (T : Table) (limit : ℕ) (c c' : ChainParts) (history history' : Kept) (ended : Bool) (steps : List ℕ) (accepted ms : ℕ)
-    → IsKept (seen conn T limit c history ended) steps history accepted ms → c' ≡ record c { calls = []; row = [] } → history'.steps ≡ history.steps
+pub kept-failed-as : EventsKeep
+    → (conn : ℕ) (T : Table) (limit : ℕ) (c c' : ChainParts) (history history' : Kept) (ended : Bool) (steps : List ℕ)
+    (accepted ms : ℕ)
+    → IsKept (seen conn T limit c history ended) steps history accepted ms → c' ≡ record c {
+      calls = [];
+      row = [];
+    } → history'.steps ≡ history.steps
     → history'.happenings ≡ history.happenings ++ told_failure c.calls → IsStandingChain c'
     → Stepped (seen conn T limit c history ended) (seen conn T limit c' history' true) fails steps history' accepted ms
 kept-failed-as keeps conn T limit c c' history history' ended steps accepted ms kept is same told stands =
-    subst (λ (x : ChainParts). Stepped (seen conn T limit c history ended) (seen conn T limit x history' true) fails steps history' accepted ms) (sym is)
-    (kept-failed keeps conn T limit c history history' ended steps accepted ms kept same told (subst IsStandingChain is stands))
+    subst (λ (x : ChainParts). Stepped (seen conn T limit c history ended)
+    (seen conn T limit x history' true) fails steps history' accepted ms) (sym is)
+    (kept-failed keeps conn T limit c history history' ended steps accepted ms kept same told
+    (subst IsStandingChain is stands))

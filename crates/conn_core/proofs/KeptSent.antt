@@ -28,64 +28,94 @@ use Rattle.conn_core.proofs.Told.{behind-one}
 none-in : (n : ℕ) (row : Row) (x : ℕ × ℕ) → row ≡ [] → first_at n row ≡ Some x → ⊥
 none-in n row x none is = let empty : first_at n row ≡ None = ap (first_at n) none in absurd cc
 
-runs-by : (c : Connection) → IsConnection c → (n : ℕ) (x : ℕ × ℕ) → first_at n c.chain.row ≡ Some x → (b : Bool) → c.ended ≡ b → c.ended ≡ false
+runs-by : (c : Connection) → IsConnection c → (n : ℕ) (x : ℕ × ℕ) → first_at n c.chain.row ≡ Some x → (b : Bool)
+    → c.ended ≡ b → c.ended ≡ false
 runs-by c h n x is true ended = absurd (none-in n c.chain.row x (h.is_course.none_left ended) is)
 runs-by c h n x is false ended = ended
 
 -- a link on which a call stands hasn't failed
-pub still-runs : (c : Connection) → IsConnection c → (n : ℕ) (x : ℕ × ℕ) → first_at n c.chain.row ≡ Some x → c.ended ≡ false
+pub still-runs : (c : Connection) → IsConnection c → (n : ℕ) (x : ℕ × ℕ) → first_at n c.chain.row ≡ Some x
+    → c.ended ≡ false
 still-runs c h n x is = runs-by c h n x is c.ended refl
 
 -- ---- the first call
 
-pub head-of-table : HaveForms → (conn : ℕ) (T : Table) (limit : ℕ) (c : ChainParts) (history : Kept) (ended : Bool) (steps : List ℕ) (accepted ms : ℕ) (s : StandingCall) (call : Call)
-    → IsKept (seen conn T limit c history ended) steps history accepted ms → slice_get c.calls 0 ≡ Some s → call ≡ s.call → IsCallOf T call
+pub head-of-table : HaveForms
+    → (conn : ℕ) (T : Table) (limit : ℕ) (c : ChainParts) (history : Kept) (ended : Bool) (steps : List ℕ)
+    (accepted ms : ℕ) (s : StandingCall) (call : Call)
+    → IsKept (seen conn T limit c history ended) steps history accepted ms → slice_get c.calls 0 ≡ Some s
+    → call ≡ s.call → IsCallOf T call
 head-of-table have conn T limit c history ended steps accepted ms s call kept is same =
-    subst (IsCallOf T) (sym same) (all-at (λ (s : StandingCall). IsCallOf T s.call) c.calls 0 s is (of-table have (seen conn T limit c history ended) kept.connection))
+    subst (IsCallOf T) (sym same) (all-at (λ (s : StandingCall). IsCallOf T s.call) c.calls 0 s is
+    (of-table have (seen conn T limit c history ended) kept.connection))
 
-pub head-is-short : (conn : ℕ) (T : Table) (limit : ℕ) (c : ChainParts) (history : Kept) (ended : Bool) (steps : List ℕ) (accepted ms : ℕ) (s : StandingCall) (call : Call)
-    → IsKept (seen conn T limit c history ended) steps history accepted ms → slice_get c.calls 0 ≡ Some s → call ≡ s.call → length (payload T call) ≤ 262144
+pub head-is-short : (conn : ℕ) (T : Table) (limit : ℕ) (c : ChainParts) (history : Kept) (ended : Bool) (steps : List ℕ)
+    (accepted ms : ℕ) (s : StandingCall) (call : Call)
+    → IsKept (seen conn T limit c history ended) steps history accepted ms → slice_get c.calls 0 ≡ Some s
+    → call ≡ s.call → length (payload T call) ≤ 262144
 head-is-short conn T limit c history ended steps accepted ms s call kept is same =
-    subst (λ (c : Call). length (payload T c) ≤ 262144) (sym same) (all-at (λ (s : StandingCall). length (payload T s.call) ≤ 262144) c.calls 0 s is kept.short)
+    subst (λ (c : Call). length (payload T c)
+    ≤ 262144) (sym same) (all-at (λ (s : StandingCall). length (payload T s.call)
+    ≤ 262144) c.calls 0 s is kept.short)
 
-pub head-has-room : (conn : ℕ) (T : Table) (limit : ℕ) (c : ChainParts) (history : Kept) (ended : Bool) (steps : List ℕ) (accepted ms : ℕ) (s : StandingCall)
-    → IsKept (seen conn T limit c history ended) steps history accepted ms → slice_get c.calls 0 ≡ Some s → 0 < history.room
+pub head-has-room : (conn : ℕ) (T : Table) (limit : ℕ) (c : ChainParts) (history : Kept) (ended : Bool) (steps : List ℕ)
+    (accepted ms : ℕ) (s : StandingCall)
+    → IsKept (seen conn T limit c history ended) steps history accepted ms → slice_get c.calls 0 ≡ Some s
+    → 0 < history.room
 head-has-room conn T limit c history ended steps accepted ms s kept is =
     omega (arith, room-fates c.calls _ history.room kept.room, within-at c.calls 0 s is)
 
 -- ---- it is sent
 
-same-head : (calls rest : List StandingCall) (s t : StandingCall) → calls ≡ t ∷ rest → slice_get calls 0 ≡ Some s → t ≡ s
-same-head calls rest s t is first = let here : slice_get calls 0 ≡ Some t = ap (λ (cs : List StandingCall). slice_get cs 0) is in cc
+same-head : (calls rest : List StandingCall) (s t : StandingCall) → calls ≡ t ∷ rest → slice_get calls 0 ≡ Some s
+    → t ≡ s
+same-head calls rest s t is first = let here : slice_get calls 0 ≡ Some t =
+    ap (λ (cs : List StandingCall). slice_get cs 0) is in cc
 
-pub left-kept : EventsKeep → (conn : ℕ) (T : Table) (limit : ℕ) (c c' : ChainParts) (history history' : Kept) (ended : Bool) (steps : List ℕ) (accepted ms seq bytes : ℕ) (s : StandingCall)
-    → IsKept (seen conn T limit c history ended) steps history accepted ms → Leaves seq bytes c c' history history' → slice_get c.calls 0 ≡ Some s
-    → first_at (length c.engines) c.row ≡ Some (s.call.seq, length c.engines) → bytes ≡ HEADER_LEN + length (payload T s.call) → IsStandingChain c'
-    → Stepped (seen conn T limit c history ended) (seen conn T limit c' history' ended) (sends seq bytes) steps history' accepted ms
-left-kept keeps conn T limit c c' history history' ended steps accepted ms seq bytes s kept leaves is first long stands =
+pub left-kept : EventsKeep
+    → (conn : ℕ) (T : Table) (limit : ℕ) (c c' : ChainParts) (history history' : Kept) (ended : Bool) (steps : List ℕ)
+    (accepted ms seq bytes : ℕ) (s : StandingCall)
+    → IsKept (seen conn T limit c history ended) steps history accepted ms → Leaves seq bytes c c' history history'
+    → slice_get c.calls 0 ≡ Some s
+    → first_at (length c.engines) c.row ≡ Some (s.call.seq, length c.engines)
+    → bytes ≡ HEADER_LEN + length (payload T s.call) → IsStandingChain c'
+    → Stepped (seen conn T limit c history ended) (seen conn T limit c' history' ended)
+    (sends seq bytes) steps history' accepted ms
+left-kept keeps conn T limit c c' history history' ended steps accepted ms seq bytes s kept leaves is first long stands
+    =
     let old : Connection = seen conn T limit c history ended in
     let head : leaves.call ≡ s = same-head c.calls c'.calls s leaves.call leaves.calls is in
     let number : s.call.seq ≡ seq = ap (λ (t : StandingCall). t.call.seq) (sym head) ∙ leaves.number in
-    subst (λ (n : ℕ). Stepped old (seen conn T limit c' history' ended) (sends n bytes) steps history' accepted ms) number
+    subst (λ (n : ℕ). Stepped old (seen conn T limit c' history' ended) (sends n bytes) steps history' accepted ms)
+    number
     (kept-sent keeps conn T limit c c' history history' ended steps accepted ms bytes s kept
     (still-runs old kept.connection (length c.engines) (s.call.seq, length c.engines) first) leaves.steps
     (leaves.told ∙ ap (λ (n : ℕ). history.happenings ++ Sent n bytes ∷ []) (sym number)) leaves.room long first
-    (leaves.calls ∙ ap (λ (t : StandingCall). t ∷ c'.calls) head) (leaves.row ∙ ap (λ (n : ℕ). (n, length c.engines) ∷ c'.row) (sym number)) leaves.engines leaves.attached stands)
+    (leaves.calls ∙ ap (λ (t : StandingCall). t ∷ c'.calls) head)
+    (leaves.row ∙ ap (λ (n : ℕ). (n, length c.engines) ∷ c'.row) (sym number)) leaves.engines leaves.attached
+    stands)
 
-pub left-frames : (conn : ℕ) (T : Table) (limit : ℕ) (c c' : ChainParts) (history history' : Kept) (ended : Bool) (steps : List ℕ) (accepted ms seq bytes : ℕ) (s : StandingCall)
-    → IsKept (seen conn T limit c history ended) steps history accepted ms → Leaves seq bytes c c' history history' → slice_get c.calls 0 ≡ Some s
-    → frames (seen conn T limit c' history' ended) ≡ frames (seen conn T limit c history ended) ++ frame_of T s.call ∷ []
+pub left-frames : (conn : ℕ) (T : Table) (limit : ℕ) (c c' : ChainParts) (history history' : Kept) (ended : Bool)
+    (steps : List ℕ) (accepted ms seq bytes : ℕ) (s : StandingCall)
+    → IsKept (seen conn T limit c history ended) steps history accepted ms → Leaves seq bytes c c' history history'
+    → slice_get c.calls 0 ≡ Some s
+    → frames (seen conn T limit c' history' ended) ≡ frames (seen conn T limit c history ended)
+    ++ frame_of T s.call ∷ []
 left-frames conn T limit c c' history history' ended steps accepted ms seq bytes s kept leaves is =
     let old : Connection = seen conn T limit c history ended in
     let head : leaves.call ≡ s = same-head c.calls c'.calls s leaves.call leaves.calls is in
     let number : s.call.seq ≡ seq = ap (λ (t : StandingCall). t.call.seq) (sym head) ∙ leaves.number in
     let form-is : form conn seq (behind old) ≡ Some s.call =
     subst (λ (n : ℕ). form conn n (behind old) ≡ Some s.call) number
-    (all-at (λ (t : StandingCall). form conn t.call.seq (behind old) ≡ Some t.call) c.calls 0 s is kept.connection.forms) in
-    ap (frames_behind T conn) (ap reverse leaves.told ∙ behind-one history.happenings (Sent seq bytes)) ∙ frames-sent T conn seq bytes (behind old) s.call form-is
+    (all-at (λ (t : StandingCall). form conn t.call.seq (behind old)
+    ≡ Some t.call) c.calls 0 s is kept.connection.forms) in
+    ap (frames_behind T conn) (ap reverse leaves.told ∙ behind-one history.happenings (Sent seq bytes)) ∙ frames-sent T
+    conn seq bytes (behind old) s.call form-is
 
-pub hands-left : (before now after : Connection) (handed handed' : List (List ℕ)) (T : Table) (call form : Call) → now ≡ before → frames after ≡ frames now ++ frame_of T form ∷ []
+pub hands-left : (before now after : Connection) (handed handed' : List (List ℕ)) (T : Table) (call form : Call)
+    → now ≡ before → frames after ≡ frames now ++ frame_of T form ∷ []
     → call ≡ form → handed' ≡ handed ++ frame_of T call ∷ [] → Hands before after handed handed'
 hands-left before now after handed handed' T call form is frames-is same handed-is =
     hands-one before after handed handed' (frame_of T call)
-    (frames-is ∙ ap (λ (f : Call). frames now ++ frame_of T f ∷ []) (sym same) ∙ ap (λ (c : Connection). frames c ++ frame_of T call ∷ []) is) handed-is
+    (frames-is ∙ ap (λ (f : Call). frames now ++ frame_of T f ∷ []) (sym same) ∙ ap (λ (c : Connection). frames c
+    ++ frame_of T call ∷ []) is) handed-is

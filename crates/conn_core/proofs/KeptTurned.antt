@@ -41,9 +41,11 @@ use Rattle.conn_core.proofs.Turning.{fits-turned, of-call, turn-behind}
 
 -- each call that stands has a form of the table
 abbrev pub HaveForms : Type 0
-HaveForms = (u : Under) (past : Behind) (call : Taken) → IsLegalBehind u past → Contains (standing past) call → HasForm u past call
+HaveForms = (u : Under) (past : Behind) (call : Taken) → IsLegalBehind u past → Contains (standing past) call
+    → HasForm u past call
 
-of-table-by : (u : Under) (past : Behind) (calls : List StandingCall) (ts : List Taken) → numbers_of calls ≡ map (λ t. t.seq) ts → All (HasForm u past) ts
+of-table-by : (u : Under) (past : Behind) (calls : List StandingCall) (ts : List Taken)
+    → numbers_of calls ≡ map (λ t. t.seq) ts → All (HasForm u past) ts
     → All (λ s. form u.conn s.call.seq past ≡ Some s.call) calls → All (λ s. IsCallOf u.table s.call) calls
 of-table-by u past [] ts same have forms = All-nil (λ (s : StandingCall). IsCallOf u.table s.call)
 of-table-by u past (s ∷ calls) [] same have forms = absurd cc
@@ -51,24 +53,31 @@ of-table-by u past (s ∷ calls) (t ∷ ts) same have forms =
     let here : HasForm u past t = All-head (HasForm u past) t ts have in
     let number : t.seq ≡ s.call.seq = cc in
     let rest : numbers_of calls ≡ map (λ (t : Taken). t.seq) ts = cc in
-    let form-is : form u.conn s.call.seq past ≡ Some here.now = subst (λ (n : ℕ). form u.conn n past ≡ Some here.now) number here.is_form in
-    let own : form u.conn s.call.seq past ≡ Some s.call = All-head (λ (s : StandingCall). form u.conn s.call.seq past ≡ Some s.call) s calls forms in
+    let form-is : form u.conn s.call.seq past ≡ Some here.now =
+    subst (λ (n : ℕ). form u.conn n past ≡ Some here.now) number here.is_form in
+    let own : form u.conn s.call.seq past ≡ Some s.call =
+    All-head (λ (s : StandingCall). form u.conn s.call.seq past ≡ Some s.call) s calls forms in
     let same-call : here.now ≡ s.call = cc in
     All-cons (λ (s : StandingCall). IsCallOf u.table s.call) s calls (subst (IsCallOf u.table) same-call here.of_table)
-    (of-table-by u past calls ts rest (All-tail (HasForm u past) t ts have) (All-tail (λ (s : StandingCall). form u.conn s.call.seq past ≡ Some s.call) s calls forms))
+    (of-table-by u past calls ts rest (All-tail (HasForm u past) t ts have)
+    (All-tail (λ (s : StandingCall). form u.conn s.call.seq past ≡ Some s.call) s calls forms))
 
 pub of-table : HaveForms → (c : Connection) → IsConnection c → All (λ s. IsCallOf c.table s.call) c.chain.calls
 of-table have c h =
     of-table-by (under c) (behind c) c.chain.calls (standing (behind c)) (numbers c h)
-    (All-weaker (Contains (standing (behind c))) (HasForm (under c) (behind c)) (λ t there. have (under c) (behind c) t h.is_course.legal there) (standing (behind c)) (All-contains_itself (standing (behind c)))) h.forms
+    (All-weaker (Contains (standing (behind c))) (HasForm (under c) (behind c)) (λ t there.
+    have (under c) (behind c) t h.is_course.legal there) (standing (behind c))
+    (All-contains_itself (standing (behind c)))) h.forms
 
 -- ---- the turn
 
 -- what is left of a call has no longer encoding
 abbrev pub ClearsShorten : Type 0
-ClearsShorten = (T : Table) (clears : List Clear) (call : Call) → IsValid T → IsCallOf T call → length (payload T (cleared_call clears call)) ≤ length (payload T call)
+ClearsShorten = (T : Table) (clears : List Clear) (call : Call) → IsValid T → IsCallOf T call
+    → length (payload T (cleared_call clears call)) ≤ length (payload T call)
 
-shorter : ClearsShorten → (T : Table) (outcome : Outcome) (policy : Policy) (call : Call) → IsValid T → IsCallOf T call → length (payload T (form_after outcome policy call)) ≤ length (payload T call)
+shorter : ClearsShorten → (T : Table) (outcome : Outcome) (policy : Policy) (call : Call) → IsValid T → IsCallOf T call
+    → length (payload T (form_after outcome policy call)) ≤ length (payload T call)
 shorter shorten T (Passed noted) policy call valid of-T = omega arith
 shorter shorten T (Held left cost) policy call valid of-T = omega arith
 shorter shorten T (Refused noted why) policy call valid of-T = omega arith
@@ -78,59 +87,89 @@ shorter shorten T Redacted (policies.Quota tenant per cap) call valid of-T = ome
 shorter shorten T Redacted policies.Count call valid of-T = omega arith
 shorter shorten T Redacted (policies.Redact clears) call valid of-T = shorten T clears call valid of-T
 
-worked : (before after : ChainParts) (position moment seq : ℕ) (outcome : Outcome) → IsStandingChain before → (has : HasTurn before position moment seq outcome after)
-    → Worked (chain_of before).entries position has.engine.level moment has.engine.entry outcome has.call has.met has.call'
+worked : (before after : ChainParts) (position moment seq : ℕ) (outcome : Outcome) → IsStandingChain before
+    → (has : HasTurn before position moment seq outcome after)
+    → Worked (chain_of before).entries position has.engine.level moment has.engine.entry outcome has.call has.met
+    has.call'
 worked before after position moment seq outcome stands has = record {
   at = map-at (λ (e : EngineParts). e.entry) before.engines position has.engine has.is_engine;
   names = stands.stands.chain.names;
   attachments = stands.stands.chain.attachments;
   comes = has.comes;
-  kept = All-map (λ (y : Entry). note_of has.met.marks y.attach ≡ note_of has.call.marks y.attach) (λ (e : EngineParts). e.entry) before.engines has.keeps.kept;
+  kept = All-map (λ (y : Entry). note_of has.met.marks y.attach ≡ note_of has.call.marks y.attach)
+      (λ (e : EngineParts). e.entry) before.engines has.keeps.kept;
   silent = (of-call (λ (s : StandingCall). IsTrueFor has.engine.entry s) before after position moment seq outcome has
-      (all-at (λ (e : EngineParts). All (λ (s : StandingCall). IsTrueFor e.entry s) before.calls) before.engines position has.engine has.is_engine stands.stands.true_for)).silent;
+      (all-at (λ (e : EngineParts). All (λ (s : StandingCall). IsTrueFor e.entry s) before.calls) before.engines
+      position has.engine has.is_engine stands.stands.true_for)).silent;
   call = has.leaves_call;
   marks = has.leaves_marks;
 }
 
 -- there is room for the records of a turn
-pub turn-fits : ClearLaws → (before after : ChainParts) (position moment seq : ℕ) (outcome : Outcome) (room : ℕ) → IsStandingChain before → HasRoom before.calls (chain_of before).entries room
+pub turn-fits : ClearLaws → (before after : ChainParts) (position moment seq : ℕ) (outcome : Outcome) (room : ℕ)
+    → IsStandingChain before → HasRoom before.calls (chain_of before).entries room
     → HasTurn before position moment seq outcome after → records_in outcome ≤ room
 turn-fits laws before after position moment seq outcome room stands h has =
     let w = worked before after position moment seq outcome stands has in
     room-fits (chain_of before).entries position has.engine.entry outcome has.front has.call has.call' has.back room
     (subst (λ (cs : List StandingCall). HasRoom cs (chain_of before).entries room) has.stood h) w.at
-    (recording laws (chain_of before).entries position has.engine.level moment has.engine.entry outcome has.call has.met has.call' w)
+    (recording laws (chain_of before).entries position has.engine.level moment has.engine.entry outcome has.call has.met
+    has.call' w)
 
-same-entries : (before after : ChainParts) (position moment seq : ℕ) (outcome : Outcome) → HasTurn before position moment seq outcome after → (chain_of after).entries ≡ (chain_of before).entries
+same-entries : (before after : ChainParts) (position moment seq : ℕ) (outcome : Outcome)
+    → HasTurn before position moment seq outcome after → (chain_of after).entries ≡ (chain_of before).entries
 same-entries before after position moment seq outcome has =
-    ap (map (λ (e : EngineParts). e.entry)) has.engines ∙ map-set-same (λ (e : EngineParts). e.entry) before.engines position has.engine has.engine' has.is_engine has.leaves_engine.entry
+    ap (map (λ (e : EngineParts). e.entry)) has.engines ∙ map-set-same
+    (λ (e : EngineParts). e.entry) before.engines position has.engine has.engine' has.is_engine
+    has.leaves_engine.entry
 
-kept-turned-by : EventsKeep → ClearLaws → ClearsShorten → (conn : ℕ) (T : Table) (limit : ℕ) (c c' : ChainParts) (history history' : Kept) (ended : Bool) (steps : List ℕ) (accepted ms at seq : ℕ) (outcome : Outcome)
+kept-turned-by : EventsKeep → ClearLaws → ClearsShorten
+    → (conn : ℕ) (T : Table) (limit : ℕ) (c c' : ChainParts) (history history' : Kept) (ended : Bool) (steps : List ℕ)
+    (accepted ms at seq : ℕ) (outcome : Outcome)
     → IsKept (seen conn T limit c history ended) steps history accepted ms
-    → HasTurn c at (moment (behind (seen conn T limit c history ended))) seq outcome c' → first_at at c.row ≡ Some (seq, at) → c'.row ≡ row_after seq outcome c.row → c'.attached ≡ c.attached
+    → HasTurn c at (moment (behind (seen conn T limit c history ended))) seq outcome c'
+    → first_at at c.row ≡ Some (seq, at) → c'.row ≡ row_after seq outcome c.row → c'.attached ≡ c.attached
     → IsStandingChain c' → All (λ s. IsCallOf T s.call) c.calls → history'.steps ≡ history.steps
-    → ((e : Entry) → slice_get (chain_of c).entries at ≡ Some e → history'.happenings ≡ history.happenings ++ told_turn e seq outcome)
+    → ((e : Entry) → slice_get (chain_of c).entries at ≡ Some e
+    → history'.happenings ≡ history.happenings ++ told_turn e seq outcome)
     → history.room ≤ history'.room + records_in outcome
-    → Stepped (seen conn T limit c history ended) (seen conn T limit c' history' ended) (turns at seq outcome) steps history' accepted ms
-kept-turned-by keeps clear shorten conn T limit c c' history history' ended steps accepted ms at seq outcome kept has first row attached stands of-T same told room =
+    → Stepped (seen conn T limit c history ended) (seen conn T limit c' history' ended)
+    (turns at seq outcome) steps history' accepted ms
+kept-turned-by keeps clear shorten conn T limit c c' history history' ended steps accepted ms at seq outcome kept has
+    first row attached stands of-T same told room =
     let old : Connection = seen conn T limit c history ended in
     let now : ℕ = moment (behind old) in
     let e : Entry = has.engine.entry in
     let before : IsStandingChain c = kept.connection.standing_chain in
     let w = worked c c' at now seq outcome before has in
     let past : Behind = (turned e seq outcome (course old)).past in
-    let next : HasTurnBehind (under old) (course old) at seq outcome e = turn-behind (under old) (course old) c c' at seq outcome (fits-of old kept.connection) has first in
+    let next : HasTurnBehind (under old) (course old) at seq outcome e =
+    turn-behind (under old) (course old) c c' at seq outcome (fits-of old kept.connection) has first in
     let entries : (chain_of c').entries ≡ (chain_of c).entries = same-entries c c' at now seq outcome has in
     let course-is : record { past = past; row = c'.row; ended = ended } ≡ turned e seq outcome (course old) =
     ap (λ (r : Row). record { past = past; row = r; ended = ended }) (row ∙ sym (row-turned e seq outcome (course old)))
-    ∙ ap (λ (b : Bool). record { past = past; row = (turned e seq outcome (course old)).row; ended = b }) (sym (ended-turned e seq outcome (course old))) in
+    ∙ ap (λ (b : Bool). record {
+      past = past;
+      row = (turned e seq outcome (course old)).row;
+      ended = b;
+    }) (sym (ended-turned e seq outcome (course old))) in
     let old-short = subst (All (λ (s : StandingCall). length (payload T s.call) ≤ 262144)) has.stood kept.short in
     let here-short : length (payload T has.call.call) ≤ 262144 =
-    All-head (λ (s : StandingCall). length (payload T s.call) ≤ 262144) has.call has.back (all-back (λ (s : StandingCall). length (payload T s.call) ≤ 262144) has.front (has.call ∷ has.back) old-short) in
-    let of-T-here : IsCallOf T has.call.call = of-call (λ (s : StandingCall). IsCallOf T s.call) c c' at now seq outcome has of-T in
+    All-head (λ (s : StandingCall). length (payload T s.call)
+    ≤ 262144) has.call has.back (all-back (λ (s : StandingCall). length (payload T s.call)
+    ≤ 262144) has.front (has.call ∷ has.back) old-short) in
+    let of-T-here : IsCallOf T has.call.call =
+    of-call (λ (s : StandingCall). IsCallOf T s.call) c c' at now seq outcome has of-T in
     let short' : length (payload T has.call'.call) ≤ 262144 =
-    omega (arith, here-short, shorter shorten T outcome e.policy has.call.call kept.valid of-T-here, ap (λ (call : Call). length (payload T call)) has.leaves_call.form) in
-    stepped keeps conn T limit c c' history history' ended ended steps steps accepted ms ms (turns at seq outcome) past kept
+    omega (
+      arith,
+      here-short,
+      shorter shorten T outcome e.policy has.call.call kept.valid of-T-here,
+      ap
+          (λ (call : Call). length (payload T call)) has.leaves_call.form,
+    ) in
+    stepped keeps conn T limit c c' history history' ended ended steps steps accepted ms ms
+    (turns at seq outcome) past kept
     (ap reverse (told e w.at) ∙ turn-is e seq outcome history.happenings (course old) refl)
     (has_turn at seq outcome e refl next course-is) (record {
       stands = stands;
@@ -140,23 +179,32 @@ kept-turned-by keeps clear shorten conn T limit c c' history history' ended step
       engine_steps = steps-still history history' steps c c' same entries kept.engine_steps;
       short = subst (All (λ (s : StandingCall). length (payload T s.call) ≤ 262144)) (sym has.calls)
           (all-after (λ (s : StandingCall). length (payload T s.call) ≤ 262144) outcome has.front has.call' has.back
-          (all-front (λ (s : StandingCall). length (payload T s.call) ≤ 262144) has.front (has.call ∷ has.back) old-short) short'
+          (all-front (λ (s : StandingCall). length (payload T s.call)
+          ≤ 262144) has.front (has.call ∷ has.back) old-short) short'
           (All-tail (λ (s : StandingCall). length (payload T s.call) ≤ 262144) has.call has.back
-          (all-back (λ (s : StandingCall). length (payload T s.call) ≤ 262144) has.front (has.call ∷ has.back) old-short)));
+          (all-back (λ (s : StandingCall). length (payload T s.call)
+          ≤ 262144) has.front (has.call ∷ has.back) old-short)));
       room = subst (λ (cs : List StandingCall). HasRoom cs (chain_of c').entries history'.room) (sym has.calls)
           (subst (λ es. HasRoom (calls_after outcome has.front has.call' has.back) es history'.room) (sym entries)
-          (room-turned (chain_of c).entries at e outcome has.front has.call has.call' has.back history.room history'.room
+          (room-turned (chain_of c).entries at e outcome has.front has.call has.call' has.back history.room
+          history'.room
           (subst (λ (cs : List StandingCall). HasRoom cs (chain_of c).entries history.room) has.stood kept.room) w.at
           (recording clear (chain_of c).entries at has.engine.level now e outcome has.call has.met has.call' w) room));
     })
 
-pub kept-turned : EventsKeep → ClearLaws → ClearsShorten → (conn : ℕ) (T : Table) (limit : ℕ) (c c' : ChainParts) (history history' : Kept) (ended : Bool) (steps : List ℕ) (accepted ms at seq : ℕ) (outcome : Outcome)
+pub kept-turned : EventsKeep → ClearLaws → ClearsShorten
+    → (conn : ℕ) (T : Table) (limit : ℕ) (c c' : ChainParts) (history history' : Kept) (ended : Bool) (steps : List ℕ)
+    (accepted ms at seq : ℕ) (outcome : Outcome)
     → IsKept (seen conn T limit c history ended) steps history accepted ms
-    → HasTurn c at ms seq outcome c' → first_at at c.row ≡ Some (seq, at) → c'.row ≡ row_after seq outcome c.row → c'.attached ≡ c.attached
+    → HasTurn c at ms seq outcome c' → first_at at c.row ≡ Some (seq, at) → c'.row ≡ row_after seq outcome c.row
+    → c'.attached ≡ c.attached
     → IsStandingChain c' → All (λ s. IsCallOf T s.call) c.calls → history'.steps ≡ history.steps
-    → ((e : Entry) → slice_get (chain_of c).entries at ≡ Some e → history'.happenings ≡ history.happenings ++ told_turn e seq outcome)
+    → ((e : Entry) → slice_get (chain_of c).entries at ≡ Some e
+    → history'.happenings ≡ history.happenings ++ told_turn e seq outcome)
     → history.room ≤ history'.room + records_in outcome
-    → Stepped (seen conn T limit c history ended) (seen conn T limit c' history' ended) (turns at seq outcome) steps history' accepted ms
-kept-turned keeps clear shorten conn T limit c c' history history' ended steps accepted ms at seq outcome kept has first row attached stands of-T same told room =
+    → Stepped (seen conn T limit c history ended) (seen conn T limit c' history' ended)
+    (turns at seq outcome) steps history' accepted ms
+kept-turned keeps clear shorten conn T limit c c' history history' ended steps accepted ms at seq outcome kept has first
+    row attached stands of-T same told room =
     kept-turned-by keeps clear shorten conn T limit c c' history history' ended steps accepted ms at seq outcome kept
     (subst (λ (m : ℕ). HasTurn c at m seq outcome c') kept.latest has) first row attached stands of-T same told room

@@ -12,13 +12,17 @@ mod KeptSent
 mod KeptTurned
 mod Lists
 mod Numbers
+mod Passing
 mod Placing
 mod Recorded
 mod Records
 mod Rooms
+mod SentAll
 mod Spending
 mod Taken
 mod Told
+mod TurnByTurn
 mod TurnTold
 mod Turned
 mod Turning
+mod Whole

@@ -25,23 +25,29 @@ numbered u (Took call ∷ past) prefix =
     let next : call.seq ≡ length (taken past) + 1 = prefix.1.numbered.number in
     let long : length (taken past ++ call ∷ []) ≡ length (taken past) + 1 = length-append (taken past) (call ∷ []) in
     All-push (λ (t : Taken). t.seq ≤ length (taken past ++ call ∷ [])) (taken past) call
-    (All-weaker (λ (t : Taken). t.seq ≤ length (taken past)) (λ (t : Taken). t.seq ≤ length (taken past ++ call ∷ [])) (λ t few. omega (arith, few, long)) (taken past) (numbered u past prefix.0))
+    (All-weaker (λ (t : Taken). t.seq ≤ length (taken past)) (λ (t : Taken). t.seq ≤ length (taken past ++ call ∷ []))
+    (λ t few. omega (arith, few, long)) (taken past) (numbered u past prefix.0))
     (omega (arith, next, long))
 numbered u (x ∷ past) prefix = numbered u past prefix.0
 
-pub stand-numbered : (u : Under) (past : Behind) → IsPrefix u past → All (λ seq. seq ≤ length (taken past)) (map (λ call. call.seq) (standing past))
+pub stand-numbered : (u : Under) (past : Behind) → IsPrefix u past
+    → All (λ seq. seq ≤ length (taken past)) (map (λ call. call.seq) (standing past))
 stand-numbered u past prefix =
     All-map (λ (seq : ℕ). seq ≤ length (taken past)) (λ (call : Taken). call.seq) (standing past)
     (All-filter (stands past) (λ (call : Taken). call.seq ≤ length (taken past)) (taken past) (numbered u past prefix))
 
-stood : (u : Under) (past : Behind) (seq : ℕ) → IsPrefix u past → Contains (map (λ call. call.seq) (standing past)) seq → seq ≤ length (taken past)
+stood : (u : Under) (past : Behind) (seq : ℕ) → IsPrefix u past → Contains (map (λ call. call.seq) (standing past)) seq
+    → seq ≤ length (taken past)
 stood u past seq prefix there =
-    All-contains (λ (n : ℕ). n ≤ length (taken past)) (map (λ (call : Taken). call.seq) (standing past)) seq (stand-numbered u past prefix) there
+    All-contains (λ (n : ℕ). n ≤ length (taken past)) (map (λ (call : Taken). call.seq) (standing past)) seq
+    (stand-numbered u past prefix) there
 
 -- nothing is noted of a call to come
-pub untold : (u : Under) (past : Behind) (name : List ℕ) (seq : ℕ) → IsPrefix u past → length (taken past) < seq → noted name seq past ≡ nothing
+pub untold : (u : Under) (past : Behind) (name : List ℕ) (seq : ℕ) → IsPrefix u past → length (taken past) < seq
+    → noted name seq past ≡ nothing
 untold u [] name seq prefix above = refl
-untold u (Took call ∷ past) name seq prefix above = untold u past name seq prefix.0 (omega (arith, above, length-append (taken past) (call ∷ [])))
+untold u (Took call ∷ past) name seq prefix above =
+    untold u past name seq prefix.0 (omega (arith, above, length-append (taken past) (call ∷ [])))
 untold u (Op (Attach at other label policy) ∷ past) name seq prefix above =
     elim (bytes_eq other name) as (λ b. cond b nothing (noted name seq past) ≡ nothing) [
       | true ↦ refl
@@ -49,30 +55,41 @@ untold u (Op (Attach at other label policy) ∷ past) name seq prefix above =
     ]
 untold u (Charged call other left ∷ past) name seq prefix above =
     let few : call ≤ length (taken past) = stood u past call prefix.0 prefix.1.notes_due.meets.at.call_stands in
-    ap (λ b. cond b charged (noted name seq past)) (isnt-call call seq other name (λ same. omega (arith, few, same, above))) ∙ untold u past name seq prefix.0 above
+    ap (λ b. cond b charged (noted name seq past))
+    (isnt-call call seq other name (λ same. omega (arith, few, same, above))) ∙ untold u past name seq prefix.0
+    above
 untold u (Drawn call other window ticket ∷ past) name seq prefix above =
     let few : call ≤ length (taken past) = stood u past call prefix.0 prefix.1.notes_due.meets.at.call_stands in
-    ap (λ b. cond b (drawn ticket) (noted name seq past)) (isnt-call call seq other name (λ same. omega (arith, few, same, above))) ∙ untold u past name seq prefix.0 above
+    ap (λ b. cond b (drawn ticket) (noted name seq past))
+    (isnt-call call seq other name (λ same. omega (arith, few, same, above))) ∙ untold u past name seq prefix.0
+    above
 untold u (Counted call other ∷ past) name seq prefix above =
     let few : call ≤ length (taken past) = stood u past call prefix.0 prefix.1.notes_due.meets.at.call_stands in
-    ap (λ b. cond b counted (noted name seq past)) (isnt-call call seq other name (λ same. omega (arith, few, same, above))) ∙ untold u past name seq prefix.0 above
+    ap (λ b. cond b counted (noted name seq past))
+    (isnt-call call seq other name (λ same. omega (arith, few, same, above))) ∙ untold u past name seq prefix.0
+    above
 untold u (x ∷ past) name seq prefix above = untold u past name seq prefix.0 above
 
 -- ---- the calls of a chain are those that stand
 
-pub same-numbers : (u : Under) (c : Course) (chain : ChainParts) → IsCourse u c → c.row ≡ chain.row → IsStandingChain chain
+pub same-numbers : (u : Under) (c : Course) (chain : ChainParts) → IsCourse u c → c.row ≡ chain.row
+    → IsStandingChain chain
     → numbers_of chain.calls ≡ map (λ call. call.seq) (standing c.past)
-same-numbers u c chain held row stands = sym stands.row ∙ sym (ap (λ (r : List (ℕ × ℕ)). map (λ call. call.0) r) row) ∙ held.calls
+same-numbers u c chain held row stands =
+    sym stands.row ∙ sym (ap (λ (r : List (ℕ × ℕ)). map (λ call. call.0) r) row) ∙ held.calls
 
-pub numbers : (c : Connection) → IsConnection c → numbers_of c.chain.calls ≡ map (λ call. call.seq) (standing (behind c))
+pub numbers : (c : Connection) → IsConnection c
+    → numbers_of c.chain.calls ≡ map (λ call. call.seq) (standing (behind c))
 numbers c h = sym h.standing_chain.row ∙ h.is_course.calls
 
 pub as-many : (c : Connection) → IsConnection c → length c.chain.calls ≡ length (standing (behind c))
 as-many c h =
-    sym (length-map c.chain.calls (λ (s : StandingCall). s.call.seq)) ∙ ap length (numbers c h) ∙ length-map (standing (behind c)) (λ (call : Taken). call.seq)
+    sym (length-map c.chain.calls (λ (s : StandingCall). s.call.seq)) ∙ ap length (numbers c h) ∙ length-map
+    (standing (behind c)) (λ (call : Taken). call.seq)
 
 pub few-numbers : (c : Connection) → IsConnection c → All (λ s. s.call.seq ≤ length (taken (behind c))) c.chain.calls
 few-numbers c h =
     all-of-map (λ (s : StandingCall). s.call.seq) (λ (seq : ℕ). seq ≤ length (taken (behind c))) c.chain.calls
-    (All-same (λ (seq : ℕ). seq ≤ length (taken (behind c))) (numbers_of c.chain.calls) (map (λ (call : Taken). call.seq) (standing (behind c))) (numbers c h)
+    (All-same (λ (seq : ℕ). seq ≤ length (taken (behind c))) (numbers_of c.chain.calls)
+    (map (λ (call : Taken). call.seq) (standing (behind c))) (numbers c h)
     (stand-numbered (record { conn = c.conn; table = c.table; limit = c.limit }) (behind c) h.is_course.legal.prefix))

@@ -23,44 +23,64 @@ drop-at (y ∷ xs) (suc i) x is = drop-at xs i x is
 
 -- the name is of none of the first so many entries
 abbrev pub IsBehind : List ℕ → List EngineParts → ℕ → Type 0
-IsBehind name engines at = place_of name (map (λ e. e.entry) engines) ≡ at + place_of name (drop at (map (λ e. e.entry) engines))
+IsBehind name engines at =
+    place_of name (map (λ e. e.entry) engines) ≡ at + place_of name (drop at (map (λ e. e.entry) engines))
 
 rest-at : (name : List ℕ) (engines : List EngineParts) (at : ℕ) (e : EngineParts) → slice_get engines at ≡ Some e
-    → place_of name (drop at (map (λ e. e.entry) engines)) ≡ cond (bytes_eq e.entry.name name) 0 (place_of name (drop (suc at) (map (λ e. e.entry) engines)) + 1)
-rest-at name engines at e is = ap (place_of name) (drop-at (map (λ (e : EngineParts). e.entry) engines) at e.entry (map-at (λ (e : EngineParts). e.entry) engines at e is))
+    → place_of name (drop at (map (λ e. e.entry) engines))
+    ≡ cond (bytes_eq e.entry.name name) 0 (place_of name (drop (suc at) (map (λ e. e.entry) engines)) + 1)
+rest-at name engines at e is =
+    ap (place_of name) (drop-at (map (λ (e : EngineParts). e.entry) engines) at e.entry
+    (map-at (λ (e : EngineParts). e.entry) engines at e is))
 
-pub here-placed : (name : List ℕ) (engines : List EngineParts) (at : ℕ) (e : EngineParts) → slice_get engines at ≡ Some e → bytes_eq e.entry.name name ≡ true → IsBehind name engines at
+pub here-placed : (name : List ℕ) (engines : List EngineParts) (at : ℕ) (e : EngineParts)
+    → slice_get engines at ≡ Some e → bytes_eq e.entry.name name ≡ true → IsBehind name engines at
     → at ≡ place_of name (map (λ e. e.entry) engines)
 here-placed name engines at e is named behind =
     let none : place_of name (drop at (map (λ (e : EngineParts). e.entry) engines)) ≡ 0 =
-    rest-at name engines at e is ∙ ap (λ b. cond b 0 (place_of name (drop (suc at) (map (λ (e : EngineParts). e.entry) engines)) + 1)) named in
+    rest-at name engines at e is ∙ ap (λ b.
+    cond b 0 (place_of name (drop (suc at) (map (λ (e : EngineParts). e.entry) engines)) + 1)) named in
     omega (arith, behind, none)
 
-pub behind-more : (name : List ℕ) (engines : List EngineParts) (at : ℕ) (e : EngineParts) → slice_get engines at ≡ Some e → bytes_eq e.entry.name name ≡ false → IsBehind name engines at
+pub behind-more : (name : List ℕ) (engines : List EngineParts) (at : ℕ) (e : EngineParts)
+    → slice_get engines at ≡ Some e → bytes_eq e.entry.name name ≡ false → IsBehind name engines at
     → IsBehind name engines (at + 1)
 behind-more name engines at e is other behind =
-    let rest : place_of name (drop at (map (λ (e : EngineParts). e.entry) engines)) ≡ place_of name (drop (suc at) (map (λ (e : EngineParts). e.entry) engines)) + 1 =
-    rest-at name engines at e is ∙ ap (λ b. cond b 0 (place_of name (drop (suc at) (map (λ (e : EngineParts). e.entry) engines)) + 1)) other in
-    let next : place_of name (drop (at + 1) (map (λ (e : EngineParts). e.entry) engines)) ≡ place_of name (drop (suc at) (map (λ (e : EngineParts). e.entry) engines)) =
-    (let one : at + 1 ≡ suc at = omega arith in ap (λ n. place_of name (drop n (map (λ (e : EngineParts). e.entry) engines))) one) in
+    let rest : place_of name (drop at (map (λ (e : EngineParts). e.entry) engines))
+    ≡ place_of name (drop (suc at) (map (λ (e : EngineParts). e.entry) engines)) + 1 =
+    rest-at name engines at e is ∙ ap (λ b.
+    cond b 0 (place_of name (drop (suc at) (map (λ (e : EngineParts). e.entry) engines)) + 1)) other in
+    let next : place_of name (drop (at + 1) (map (λ (e : EngineParts). e.entry) engines))
+    ≡ place_of name (drop (suc at) (map (λ (e : EngineParts). e.entry) engines)) =
+    (let one : at + 1 ≡ suc at = omega arith in
+    ap (λ n. place_of name (drop n (map (λ (e : EngineParts). e.entry) engines))) one) in
     omega (arith, behind, rest, next)
 
-pub none-placed : (name : List ℕ) (engines : List EngineParts) (at : ℕ) → length engines ≤ at → IsBehind name engines at → at ≡ place_of name (map (λ e. e.entry) engines)
+pub none-placed : (name : List ℕ) (engines : List EngineParts) (at : ℕ) → length engines ≤ at → IsBehind name engines at
+    → at ≡ place_of name (map (λ e. e.entry) engines)
 none-placed name engines at past behind =
     let none : place_of name (drop at (map (λ (e : EngineParts). e.entry) engines)) ≡ 0 =
-    ap (place_of name) (drop_all at (map (λ (e : EngineParts). e.entry) engines) (omega (arith, past, length-map engines (λ (e : EngineParts). e.entry)))) in
+    ap (place_of name) (drop_all at (map (λ (e : EngineParts). e.entry) engines)
+    (omega (arith, past, length-map engines (λ (e : EngineParts). e.entry)))) in
     omega (arith, behind, none)
 
 -- ---- an attachment
 
-pub attach-within : (c : ChainParts) (at : ℕ) (name label : List ℕ) (policy : Policy) (after : Chain) → Changes (chain_of c) (Attach at name label policy) after → at ≤ length c.engines
+pub attach-within : (c : ChainParts) (at : ℕ) (name label : List ℕ) (policy : Policy) (after : Chain)
+    → Changes (chain_of c) (Attach at name label policy) after → at ≤ length c.engines
 attach-within c at name label policy after h =
-    let no : length (chain_of c).entries < at → ⊥ = λ past. h.free (no_place at) (is_past at name label policy refl past refl) in
+    let no : length (chain_of c).entries < at → ⊥ =
+    λ past. h.free (no_place at) (is_past at name label policy refl past refl) in
     omega (arith, no, length-map c.engines (λ (e : EngineParts). e.entry))
 
-pub attach-changed : (c c' : ChainParts) (at now : ℕ) (name name' label : List ℕ) (policy policy' : Policy) → name' ≡ name → policy' ≡ policy
+pub attach-changed : (c c' : ChainParts) (at now : ℕ) (name name' label : List ℕ) (policy policy' : Policy)
+    → name' ≡ name → policy' ≡ policy
     → Changes (chain_of c) (Attach at name' label policy') (chain_of c')
-    → c'.engines ≡ insert c.engines at (record { entry = new_entry name' (c.attached + 1) policy'; level = first_level policy'; last = now })
+    → c'.engines ≡ insert c.engines at (record {
+      entry = new_entry name' (c.attached + 1) policy';
+      level = first_level policy';
+      last = now;
+    })
     → c'.calls ≡ c.calls → c'.row ≡ back_to at c.row → IsChanged (Attach at name label policy) now c c'
 attach-changed c c' at now name name' label policy policy' same-name same-policy changes engines calls row =
     subst (λ (n : List ℕ). IsChanged (Attach at n label policy) now c c') same-name
@@ -69,22 +89,34 @@ attach-changed c c' at now name name' label policy policy' same-name same-policy
 
 -- ---- a detachment
 
-pub detach-within : (c : ChainParts) (name : List ℕ) (after : Chain) → Changes (chain_of c) (Detach name) after → place_of name (chain_of c).entries < length c.engines
-detach-within c name after h = let n = has-named name c.engines (detach-has name c after h.makes) in within-at c.engines (place_of name (chain_of c).entries) n.engine n.at
+pub detach-within : (c : ChainParts) (name : List ℕ) (after : Chain) → Changes (chain_of c) (Detach name) after
+    → place_of name (chain_of c).entries < length c.engines
+detach-within c name after h = let n = has-named name c.engines (detach-has name c after h.makes) in
+    within-at c.engines (place_of name (chain_of c).entries) n.engine n.at
 
-pub detach-changed : (c c' : ChainParts) (now : ℕ) (name name' : List ℕ) → name' ≡ name → Changes (chain_of c) (Detach name') (chain_of c')
-    → c'.engines ≡ remove c.engines (place_of name' (chain_of c).entries) → c'.calls ≡ c.calls → c'.row ≡ moved_up (place_of name' (chain_of c).entries) c.row
+pub detach-changed : (c c' : ChainParts) (now : ℕ) (name name' : List ℕ) → name' ≡ name
+    → Changes (chain_of c) (Detach name') (chain_of c')
+    → c'.engines ≡ remove c.engines (place_of name' (chain_of c).entries) → c'.calls ≡ c.calls
+    → c'.row ≡ moved_up (place_of name' (chain_of c).entries) c.row
     → IsChanged (Detach name) now c c'
 detach-changed c c' now name name' same changes engines calls row =
-    subst (λ (n : List ℕ). IsChanged (Detach n) now c c') same (record { changes = changes; engines = engines; calls = calls; row = row })
+    subst (λ (n : List ℕ). IsChanged (Detach n) now c c') same (record {
+      changes = changes;
+      engines = engines;
+      calls = calls;
+      row = row;
+    })
 
 -- ---- an upgrade
 
-pub upgrade-within : (c : ChainParts) (name label : List ℕ) (policy : Policy) (after : Chain) → Changes (chain_of c) (Upgrade name label policy) after
+pub upgrade-within : (c : ChainParts) (name label : List ℕ) (policy : Policy) (after : Chain)
+    → Changes (chain_of c) (Upgrade name label policy) after
     → place_of name (chain_of c).entries < length c.engines
-upgrade-within c name label policy after h = let n = upgraded-engine name label policy c after h in within-at c.engines (place_of name (chain_of c).entries) n.engine n.at
+upgrade-within c name label policy after h = let n = upgraded-engine name label policy c after h in
+    within-at c.engines (place_of name (chain_of c).entries) n.engine n.at
 
-pub upgrade-changed : (c c' : ChainParts) (now : ℕ) (name name' label : List ℕ) (policy policy' : Policy) → name' ≡ name → policy' ≡ policy
+pub upgrade-changed : (c c' : ChainParts) (now : ℕ) (name name' label : List ℕ) (policy policy' : Policy) → name' ≡ name
+    → policy' ≡ policy
     → Changes (chain_of c) (Upgrade name' label policy') (chain_of c')
     → ((e : EngineParts) → slice_get c.engines (place_of name' (chain_of c).entries) ≡ Some e
     → c'.engines ≡ set c.engines (place_of name' (chain_of c).entries) (record {
@@ -92,7 +124,8 @@ pub upgrade-changed : (c c' : ChainParts) (now : ℕ) (name name' label : List �
       level = level_under e.entry.policy policy' e.level;
       last = e.last;
     }))
-    → c'.calls ≡ c.calls → c'.row ≡ back_to (place_of name' (chain_of c).entries) c.row → IsChanged (Upgrade name label policy) now c c'
+    → c'.calls ≡ c.calls → c'.row ≡ back_to (place_of name' (chain_of c).entries) c.row
+    → IsChanged (Upgrade name label policy) now c c'
 upgrade-changed c c' now name name' label policy policy' same-name same-policy changes engines calls row =
     subst (λ (n : List ℕ). IsChanged (Upgrade n label policy) now c c') same-name
     (subst (λ (p : Policy). IsChanged (Upgrade name' label p) now c c') same-policy

@@ -21,7 +21,8 @@ use Rattle.conn_core.proofs.Records.{ClearLaws, Clearing, may-before, may-still,
 use Rattle.conn_core.proofs.Spending.{Recording}
 
 -- what a turn finds and leaves
-pub record Worked (entries : List Entry) (position level moment : ℕ) (e : Entry) (outcome : Outcome) (s met s' : StandingCall) : Type 0 where
+pub record Worked (entries : List Entry) (position level moment : ℕ) (e : Entry) (outcome : Outcome)
+    (s met s' : StandingCall) : Type 0 where
   pub at : slice_get entries position ≡ Some e
   pub names : AreDistinct (names_of entries)
   pub attachments : AreDistinct (attachments_of entries)
@@ -32,26 +33,32 @@ pub record Worked (entries : List Entry) (position level moment : ℕ) (e : Entr
   pub marks : LeavesMarks e outcome met s'
 
 -- what is noted behind it
-own-past : (entries : List Entry) (position level moment : ℕ) (e : Entry) (outcome : Outcome) (s met s' : StandingCall) → Worked entries position level moment e outcome s met s'
+own-past : (entries : List Entry) (position level moment : ℕ) (e : Entry) (outcome : Outcome) (s met s' : StandingCall)
+    → Worked entries position level moment e outcome s met s'
     → past_of s'.marks e.attach ≡ past_after (noted_in outcome) (past_of s.marks e.attach)
 own-past entries position level moment e outcome s met s' w =
     let same : past_of met.marks e.attach ≡ past_of s.marks e.attach =
-    ap past_by (all-at (λ (y : Entry). note_of met.marks y.attach ≡ note_of s.marks y.attach) entries position e w.at w.kept) in
+    ap past_by (all-at (λ (y : Entry). note_of met.marks y.attach
+    ≡ note_of s.marks y.attach) entries position e w.at w.kept) in
     w.marks.noted (subst (IsSilent e.policy) (sym same) w.silent) ∙ ap (past_after (noted_in outcome)) same
 
 -- a call that isn't redacted stays as it is
-same-form : (outcome : Outcome) (policy : Policy) (call : Call) → outcome ≢ Redacted → form_after outcome policy call ≡ call
+same-form : (outcome : Outcome) (policy : Policy) (call : Call) → outcome ≢ Redacted
+    → form_after outcome policy call ≡ call
 same-form (Passed noted) policy call other = refl
 same-form (Held left cost) policy call other = refl
 same-form (Refused noted why) policy call other = refl
 same-form Redacted policy call other = absurd (other refl)
 
 -- all but the entry of the turn may record no more than before, and it may neither
-others-still : (entries : List Entry) (position level moment : ℕ) (e : Entry) (outcome : Outcome) (s met s' : StandingCall) → Worked entries position level moment e outcome s met s'
-    → ((y : Entry) → past_of s'.marks y.attach ≡ past_of s.marks y.attach → MayRecord s' y → MayRecord s y) → (MayRecord s' e → MayRecord s e)
+others-still : (entries : List Entry) (position level moment : ℕ) (e : Entry) (outcome : Outcome)
+    (s met s' : StandingCall) → Worked entries position level moment e outcome s met s'
+    → ((y : Entry) → past_of s'.marks y.attach ≡ past_of s.marks y.attach → MayRecord s' y → MayRecord s y)
+    → (MayRecord s' e → MayRecord s e)
     → All (λ y. MayRecord s' y → MayRecord s y) entries
 others-still entries position level moment e outcome s met s' w other own =
-    all-keyed (λ (y : Entry). note_of met.marks y.attach ≡ note_of s.marks y.attach) (λ (y : Entry). MayRecord s' y → MayRecord s y) entries position e w.at w.names w.attachments
+    all-keyed (λ (y : Entry). note_of met.marks y.attach ≡ note_of s.marks y.attach) (λ (y : Entry). MayRecord s' y
+    → MayRecord s y) entries position e w.at w.names w.attachments
     (λ y name attach kept. other y (w.marks.others y.attach attach ∙ ap past_by kept)) (λ kept. own) w.kept
 
 some-or-none : (n : ℕ) → (1 ≤ n) ⊎ (n ≤ 0)
@@ -65,47 +72,67 @@ nothing-noted (notes.Drawn window ticket) none = absurd (omega (arith, none))
 nothing-noted notes.Counted none = absurd (omega (arith, none))
 
 -- the entry of a turn that redacts nothing
-own-still : (entries : List Entry) (position level moment : ℕ) (e : Entry) (outcome : Outcome) (s met s' : StandingCall) → Worked entries position level moment e outcome s met s' → outcome ≢ Redacted
+own-still : (entries : List Entry) (position level moment : ℕ) (e : Entry) (outcome : Outcome) (s met s' : StandingCall)
+    → Worked entries position level moment e outcome s met s' → outcome ≢ Redacted
     → MayRecord s' e → MayRecord s e
-own-still entries position level moment e outcome s met s' w other may = elim (some-or-none (records_of (noted_in outcome))) [
-  | inl some ↦ may_note level moment (noted_in outcome) (noted-of e.policy level moment s.call (past_of s.marks e.attach) outcome w.comes some) some
-  | inr none ↦
-      let nothing-is : noted_in outcome ≡ notes.Nothing = nothing-noted (noted_in outcome) none in
-      may-still s s' e (w.call.form ∙ same-form outcome e.policy s.call other)
-      (own-past entries position level moment e outcome s met s' w ∙ ap (λ (n : Noted). past_after n (past_of s.marks e.attach)) nothing-is) may
-]
+own-still entries position level moment e outcome s met s' w other may =
+    elim (some-or-none (records_of (noted_in outcome))) [
+      | inl some ↦ may_note level moment (noted_in outcome)
+          (noted-of e.policy level moment s.call (past_of s.marks e.attach) outcome w.comes some) some
+      | inr none ↦
+          let nothing-is : noted_in outcome ≡ notes.Nothing = nothing-noted (noted_in outcome) none in
+          may-still s s' e (w.call.form ∙ same-form outcome e.policy s.call other)
+          (own-past entries position level moment e outcome s met s' w ∙ ap
+          (λ (n : Noted). past_after n (past_of s.marks e.attach)) nothing-is) may
+    ]
 
-cleared-by : (entries : List Entry) (position level moment : ℕ) (e : Entry) (s met s' : StandingCall) → (w : Worked entries position level moment e Redacted s met s')
+cleared-by : (entries : List Entry) (position level moment : ℕ) (e : Entry) (s met s' : StandingCall)
+    → (w : Worked entries position level moment e Redacted s met s')
     → (c : Clearing e.policy s.call) → s'.call ≡ cleared_call c.list s.call
-cleared-by entries position level moment e s met s' w c = w.call.form ∙ ap (λ (p : Policy). form_after Redacted p s.call) c.policy_is
+cleared-by entries position level moment e s met s' w c =
+    w.call.form ∙ ap (λ (p : Policy). form_after Redacted p s.call) c.policy_is
 
-recording-redacted : ClearLaws → (entries : List Entry) (position level moment : ℕ) (e : Entry) (s met s' : StandingCall) → Worked entries position level moment e Redacted s met s' → Recording entries e Redacted s s'
+recording-redacted : ClearLaws
+    → (entries : List Entry) (position level moment : ℕ) (e : Entry) (s met s' : StandingCall)
+    → Worked entries position level moment e Redacted s met s' → Recording entries e Redacted s s'
 recording-redacted laws entries position level moment e s met s' w =
     let c = redacted-of e.policy level moment s.call (past_of s.marks e.attach) w.comes in
     let call-is : s'.call ≡ cleared_call c.list s.call = cleared-by entries position level moment e s met s' w c in
-    let own : past_of s'.marks e.attach ≡ past_of s.marks e.attach = own-past entries position level moment e Redacted s met s' w in record {
+    let own : past_of s'.marks e.attach ≡ past_of s.marks e.attach =
+    own-past entries position level moment e Redacted s met s' w in record {
       noted = λ some. absurd (omega (arith, some));
       redacted = λ is. may_clear c.list c.policy_is c.changed;
       noted_no_more = λ some. absurd (omega (arith, some));
       redacted_no_more = λ is may. none-again laws c.list s s' e call-is c.policy_is may;
-      still = others-still entries position level moment e Redacted s met s' w (λ y past may. may-before laws c.list s s' y call-is past may) (λ may. may-before laws c.list s s' e call-is own may);
+      still = others-still entries position level moment e Redacted s met s' w (λ y past may.
+          may-before laws c.list s s' y call-is past may) (λ may. may-before laws c.list s s' e call-is own may);
     }
 
-recording-other : (entries : List Entry) (position level moment : ℕ) (e : Entry) (outcome : Outcome) (s met s' : StandingCall) → outcome ≢ Redacted
+recording-other : (entries : List Entry) (position level moment : ℕ) (e : Entry) (outcome : Outcome)
+    (s met s' : StandingCall) → outcome ≢ Redacted
     → Worked entries position level moment e outcome s met s' → Recording entries e outcome s s'
 recording-other entries position level moment e outcome s met s' other w =
     let call-is : s'.call ≡ s.call = w.call.form ∙ same-form outcome e.policy s.call other in record {
-      noted = λ some. may_note level moment (noted_in outcome) (noted-of e.policy level moment s.call (past_of s.marks e.attach) outcome w.comes some) some;
+      noted = λ some. may_note level moment (noted_in outcome)
+          (noted-of e.policy level moment s.call (past_of s.marks e.attach) outcome w.comes some) some;
       redacted = λ is. absurd (other is);
       noted_no_more = λ some may. none-noted s s' e level moment s.call (past_of s.marks e.attach) (noted_in outcome)
-          (noted-of e.policy level moment s.call (past_of s.marks e.attach) outcome w.comes some) (own-past entries position level moment e outcome s met s' w) may;
+          (noted-of e.policy level moment s.call (past_of s.marks e.attach) outcome w.comes some)
+          (own-past entries position level moment e outcome s met s' w) may;
       redacted_no_more = λ is. absurd (other is);
-      still = others-still entries position level moment e outcome s met s' w (λ y past may. may-still s s' y call-is past may) (own-still entries position level moment e outcome s met s' w other);
+      still = others-still entries position level moment e outcome s met s' w (λ y past may.
+          may-still s s' y call-is past may) (own-still entries position level moment e outcome s met s' w other);
     }
 
-pub recording : ClearLaws → (entries : List Entry) (position level moment : ℕ) (e : Entry) (outcome : Outcome) (s met s' : StandingCall) → Worked entries position level moment e outcome s met s'
+pub recording : ClearLaws
+    → (entries : List Entry) (position level moment : ℕ) (e : Entry) (outcome : Outcome) (s met s' : StandingCall)
+    → Worked entries position level moment e outcome s met s'
     → Recording entries e outcome s s'
-recording laws entries position level moment e (Passed noted) s met s' w = recording-other entries position level moment e (Passed noted) s met s' (λ is. absurd cc) w
-recording laws entries position level moment e (Held left cost) s met s' w = recording-other entries position level moment e (Held left cost) s met s' (λ is. absurd cc) w
-recording laws entries position level moment e (Refused noted why) s met s' w = recording-other entries position level moment e (Refused noted why) s met s' (λ is. absurd cc) w
-recording laws entries position level moment e Redacted s met s' w = recording-redacted laws entries position level moment e s met s' w
+recording laws entries position level moment e (Passed noted) s met s' w =
+    recording-other entries position level moment e (Passed noted) s met s' (λ is. absurd cc) w
+recording laws entries position level moment e (Held left cost) s met s' w =
+    recording-other entries position level moment e (Held left cost) s met s' (λ is. absurd cc) w
+recording laws entries position level moment e (Refused noted why) s met s' w =
+    recording-other entries position level moment e (Refused noted why) s met s' (λ is. absurd cc) w
+recording laws entries position level moment e Redacted s met s' w =
+    recording-redacted laws entries position level moment e s met s' w

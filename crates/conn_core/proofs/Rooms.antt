@@ -31,7 +31,8 @@ unfolding full
 full-each entries [] = tt
 full-each entries (s ∷ calls) = (all-due entries s, full-each entries calls)
 
-full-enough : (entries : List Entry) (calls : List StandingCall) → length entries ≤ 8 → sum_by due_of (full entries calls) ≤ 9 * length calls
+full-enough : (entries : List Entry) (calls : List StandingCall) → length entries ≤ 8
+    → sum_by due_of (full entries calls) ≤ 9 * length calls
 unfolding full
 full-enough entries [] few = omega arith
 full-enough entries (s ∷ calls) few =
@@ -39,29 +40,35 @@ full-enough entries (s ∷ calls) few =
     omega (arith, sum_by-cons due_of (ones entries) (full entries calls), sum-ones entries, rest, few)
 
 -- nine records for each call are enough
-pub has-room : (calls : List StandingCall) (entries : List Entry) (room : ℕ) → length entries ≤ 8 → 9 * length calls ≤ room → HasRoom calls entries room
+pub has-room : (calls : List StandingCall) (entries : List Entry) (room : ℕ) → length entries ≤ 8
+    → 9 * length calls ≤ room → HasRoom calls entries room
 has-room calls entries room few enough = record {
   dues = full entries calls;
   each = full-each entries calls;
   enough = omega (arith, full-enough entries calls few, enough);
 }
 
-pub more-room : (calls : List StandingCall) (entries : List Entry) (room more : ℕ) → HasRoom calls entries room → room ≤ more → HasRoom calls entries more
+pub more-room : (calls : List StandingCall) (entries : List Entry) (room more : ℕ) → HasRoom calls entries room
+    → room ≤ more → HasRoom calls entries more
 more-room calls entries room more h le = record { dues = h.dues; each = h.each; enough = omega (arith, h.enough, le) }
 
-room-first-by : (s : StandingCall) (calls : List StandingCall) (entries : List Entry) (room left : ℕ) (dues : List (List ℕ))
-    → AllZip (AreDue entries) (s ∷ calls) dues → sum_by due_of dues ≤ room → room ≤ left + 1 → (1 ≤ room) × HasRoom calls entries left
+room-first-by : (s : StandingCall) (calls : List StandingCall) (entries : List Entry) (room left : ℕ)
+    (dues : List (List ℕ))
+    → AllZip (AreDue entries) (s ∷ calls) dues → sum_by due_of dues ≤ room → room ≤ left + 1
+    → (1 ≤ room) × HasRoom calls entries left
 room-first-by s calls entries room left [] each enough le = absurd each
 room-first-by s calls entries room left (due ∷ dues) each enough le =
     let total = sum_by-cons due_of due dues in
     (omega (arith, total, enough), record { dues = dues; each = each.1; enough = omega (arith, total, enough, le) })
 
 -- the first call leaves, and its fate is recorded
-pub room-first : (s : StandingCall) (calls : List StandingCall) (entries : List Entry) (room left : ℕ) → HasRoom (s ∷ calls) entries room → room ≤ left + 1
+pub room-first : (s : StandingCall) (calls : List StandingCall) (entries : List Entry) (room left : ℕ)
+    → HasRoom (s ∷ calls) entries room → room ≤ left + 1
     → (1 ≤ room) × HasRoom calls entries left
 room-first s calls entries room left h le = room-first-by s calls entries room left h.dues h.each h.enough le
 
-room-fates-by : (calls : List StandingCall) (entries : List Entry) (dues : List (List ℕ)) → AllZip (AreDue entries) calls dues
+room-fates-by : (calls : List StandingCall) (entries : List Entry) (dues : List (List ℕ))
+    → AllZip (AreDue entries) calls dues
     → (room : ℕ) → sum_by due_of dues ≤ room → length calls ≤ room
 room-fates-by [] entries [] each room enough = omega arith
 room-fates-by [] entries (due ∷ dues) each room enough = absurd each
@@ -72,5 +79,6 @@ room-fates-by (s ∷ calls) entries (due ∷ dues) each room enough =
     omega (arith, total, rest, enough)
 
 -- there is room for a fate of each call
-pub room-fates : (calls : List StandingCall) (entries : List Entry) (room : ℕ) → HasRoom calls entries room → length calls ≤ room
+pub room-fates : (calls : List StandingCall) (entries : List Entry) (room : ℕ) → HasRoom calls entries room
+    → length calls ≤ room
 room-fates calls entries room h = room-fates-by calls entries h.dues h.each room h.enough

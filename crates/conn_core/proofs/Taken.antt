@@ -37,13 +37,15 @@ pub record GraphLaws : Type 0 where
   pub reason : (T : Table) (H msg address limit : ℕ) (xs : List (ℕ × ℕ)) (reason : Reason) (place value : ℕ)
       → IsMalformed T H msg address limit xs reason place value → reason ≢ NoMethod
 
-by-copy : GraphLaws → (T : Table) (H limit conn : ℕ) (own : List (ℕ × ℕ)) (answer : CopyResult) (call : Taken) (form : Option Call) → IsValid T
+by-copy : GraphLaws → (T : Table) (H limit conn : ℕ) (own : List (ℕ × ℕ)) (answer : CopyResult) (call : Taken)
+    (form : Option Call) → IsValid T
     → call.method < length T.methods → limit ≤ 16384 → length own ≤ limit
     → IfCopied (IsCopied T H (message_at T call.method call.number) call.addr own) answer
     → IfMalformed (IsMalformed T H (message_at T call.method call.number) call.addr limit own) answer
     → call.copy ≡ copy_of answer → call.count ≡ length own → form ≡ copied conn call call.copy
     → IsTakenWell T H limit own call form
-by-copy laws T H limit conn own (Copied tree count) call form valid known most few came malformed copy-is counted form-is =
+by-copy laws T H limit conn own (Copied tree count) call form valid known most few came malformed copy-is counted
+    form-is =
     let msg : ℕ = message_at T call.method call.number in
     let P : Placed = came.placed in
     let same : tree_of T msg P ≡ tree = sym came.tree_is in
@@ -57,11 +59,13 @@ by-copy laws T H limit conn own (Copied tree count) call form valid known most f
         counted = counted;
       };
       few = omega (arith, counted, few);
-      sound = subst (IsTakenBy T call) (sym copy-is) (known, subst (IsNormal T msg) same (laws.normal T H msg call.addr P valid came.sound));
+      sound = subst (IsTakenBy T call) (sym copy-is)
+          (known, subst (IsNormal T msg) same (laws.normal T H msg call.addr P valid came.sound));
       short = subst (λ (f : Option Call). IfSome f (λ g. length (payload T g) ≤ 262144)) (sym whole)
           (subst (λ (t : Node). length (encoding T msg t) ≤ 262144) same short);
     }
-by-copy laws T H limit conn own (Malformed reason place value count) call form valid known most few came malformed copy-is counted form-is =
+by-copy laws T H limit conn own (Malformed reason place value count) call form valid known most few came malformed
+    copy-is counted form-is =
     let whole : form ≡ None = form-is ∙ ap (copied conn call) copy-is in
     record {
       loaded = record {
@@ -69,32 +73,43 @@ by-copy laws T H limit conn own (Malformed reason place value count) call form v
         counted = counted;
       };
       few = omega (arith, counted, few);
-      sound = subst (IsTakenBy T call) (sym copy-is)
-          ((λ none. absurd (laws.reason T H (message_at T call.method call.number) call.addr limit own reason place value malformed none)), (λ past. absurd (omega (arith, past, known))));
+      sound = subst (IsTakenBy T call) (sym copy-is) (
+        (λ none. absurd (laws.reason T H (message_at T call.method call.number) call.addr limit own reason place
+            value malformed none)),
+        (λ past. absurd (omega (arith, past, known))),
+      );
       short = subst (λ (f : Option Call). IfSome f (λ g. length (payload T g) ≤ 262144)) (sym whole) tt;
     }
 
 three : (P : ℕ → ℕ → ℕ → Type 0) (a b c a' b' c' : ℕ) → a' ≡ a → b' ≡ b → c' ≡ c → P a b c → P a' b' c'
-three P a b c a' b' c' x y z h = subst (λ n. P n b' c') (sym x) (subst (λ n. P a n c') (sym y) (subst (λ n. P a b n) (sym z) h))
+three P a b c a' b' c' x y z h =
+    subst (λ n. P n b' c') (sym x) (subst (λ n. P a n c') (sym y) (subst (λ n. P a b n) (sym z) h))
 
-pub taken-well : GraphLaws → (T : Table) (H limit conn seq : ℕ) (own : List (ℕ × ℕ)) (method number addr after : ℕ) (answer : CopyResult) (call : Taken) (form : Option Call) → IsValid T
+pub taken-well : GraphLaws
+    → (T : Table) (H limit conn seq : ℕ) (own : List (ℕ × ℕ)) (method number addr after : ℕ) (answer : CopyResult)
+    (call : Taken) (form : Option Call) → IsValid T
     → method < length T.methods → limit ≤ 16384 → length own ≤ limit
     → IfCopied (IsCopied T H (message_at T method number) addr own) answer
     → IfMalformed (IsMalformed T H (message_at T method number) addr limit own) answer → loads_of answer ≡ length own
     → IsOfAnswer conn seq (record { method = method; number = number; addr = addr; after = after }) answer call form
     → IsTakenWell T H limit own call form
-taken-well laws T H limit conn seq own method number addr after answer call form valid known most few came malformed counted is =
+taken-well laws T H limit conn seq own method number addr after answer call form valid known most few came malformed
+    counted is =
     by-copy laws T H limit conn own answer call form valid (omega (arith, known, is.asked.method)) most few
-    (three (λ m n a. IfCopied (IsCopied T H (message_at T m n) a own) answer) method number addr call.method call.number call.addr is.asked.method is.asked.request is.asked.address came)
-    (three (λ m n a. IfMalformed (IsMalformed T H (message_at T m n) a limit own) answer) method number addr call.method call.number call.addr is.asked.method is.asked.request is.asked.address malformed)
+    (three (λ m n a. IfCopied (IsCopied T H (message_at T m n) a own) answer) method number addr call.method call.number
+    call.addr is.asked.method is.asked.request is.asked.address came)
+    (three (λ m n a. IfMalformed (IsMalformed T H (message_at T m n) a limit own) answer) method number addr call.method
+    call.number call.addr is.asked.method is.asked.request is.asked.address malformed)
     is.copy (is.count ∙ counted) is.form_is
 
 -- the table lacks the method, and nothing is loaded
-pub taken-lacking : (T : Table) (H limit : ℕ) (own : List (ℕ × ℕ)) (method : ℕ) (call : Taken) → length T.methods ≤ method → own ≡ [] → call.method ≡ method
+pub taken-lacking : (T : Table) (H limit : ℕ) (own : List (ℕ × ℕ)) (method : ℕ) (call : Taken)
+    → length T.methods ≤ method → own ≡ [] → call.method ≡ method
     → call.copy ≡ took.Malformed NoMethod 0 method → call.count ≡ 0 → IsTakenWell T H limit own call None
 taken-lacking T H limit own method call past none method-is copy-is counted = record {
   loaded = record {
-    taken = no_method (omega (arith, past, method-is)) none (copy-is ∙ ap (λ (n : ℕ). took.Malformed NoMethod 0 n) (sym method-is));
+    taken = no_method (omega (arith, past, method-is)) none
+        (copy-is ∙ ap (λ (n : ℕ). took.Malformed NoMethod 0 n) (sym method-is));
     counted = counted ∙ sym (ap length none);
   };
   few = omega (arith, counted);
@@ -106,14 +121,26 @@ pub ok-weaker : {X E : Type 0} (P Q : X → Type 0) → ((x : X) → P x → Q x
 ok-weaker P Q weak (Ok x) h = weak x h
 ok-weaker P Q weak (Err e) h = tt
 
-pub all-well : GraphLaws → (T : Table) (H limit conn seq : ℕ) (own : List (ℕ × ℕ)) (method number addr after : ℕ) (answer : CopyResult) → IsValid T
+pub all-well : GraphLaws → (T : Table) (H limit conn seq : ℕ) (own : List (ℕ × ℕ)) (method number addr after : ℕ)
+    (answer : CopyResult) → IsValid T
     → method < length T.methods → limit ≤ 16384 → length own ≤ limit
     → IfCopied (IsCopied T H (message_at T method number) addr own) answer
     → IfMalformed (IsMalformed T H (message_at T method number) addr limit own) answer → loads_of answer ≡ length own
     → (r : Result Submission Memory)
-    → IfOk r (λ s. IsOfAnswer conn seq (record { method = method; number = number; addr = addr; after = after }) answer s.call s.form)
+    → IfOk r (λ s. IsOfAnswer conn seq (record {
+      method = method;
+      number = number;
+      addr = addr;
+      after = after;
+    }) answer s.call s.form)
     → IfOk r (λ s. IsTakenWell T H limit own s.call s.form)
 all-well laws T H limit conn seq own method number addr after answer valid known most few came malformed counted r is =
-    ok-weaker (λ (s : Submission). IsOfAnswer conn seq (record { method = method; number = number; addr = addr; after = after }) answer s.call s.form)
+    ok-weaker (λ (s : Submission). IsOfAnswer conn seq (record {
+      method = method;
+      number = number;
+      addr = addr;
+      after = after;
+    }) answer s.call s.form)
     (λ (s : Submission). IsTakenWell T H limit own s.call s.form)
-    (λ s of. taken-well laws T H limit conn seq own method number addr after answer s.call s.form valid known most few came malformed counted of) r is
+    (λ s of. taken-well laws T H limit conn seq own method number addr after answer s.call s.form valid known most few
+    came malformed counted of) r is

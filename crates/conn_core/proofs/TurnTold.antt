@@ -1,5 +1,5 @@
 -- What came of a turn, as it is told: for each answer of a chain.
-use Rattle.std.proofs.Common.{◌≡◌, ℕ, ◌+◌, ◌≤◌, Bool, List, ◌++◌, length, get_or, reverse, slice_get, refl, ap, sym, ◌∙◌, subst}
+use Rattle.std.proofs.Common.{◌≡◌, ℕ, ◌+◌, ◌≤◌, Bool, List, ◌++◌, length, get_or, reverse, slice_get, refl, ap, sym, ◌∙◌, subst, arith}
 use Rattle.std.specs.Prelude.{Option, Some}
 use Rattle.std.proofs.lemmas.List.{length-map}
 use Rattle.mrpc_table.specs.declared.table.Table.{Table}
@@ -18,25 +18,28 @@ use Rattle.call_history.specs.Events.{turns}
 use Rattle.call_history.specs.Records.{Kept, step_at}
 use Rattle.conn_core.specs.Connections.{Connection, behind, course}
 use Rattle.conn_core.specs.Kept.{IsKept, IsStepOf, PutsIn, records_in, seen, told_turn}
-use Rattle.conn_core.specs.Steps.{DrawsTickets, Steps}
+use Rattle.conn_core.specs.Steps.{DrawsTickets, Steps, parts, redactions}
 use Rattle.conn_core.proofs.Apart.{policy-at}
 use Rattle.conn_core.proofs.Drawing.{draws-none, draws-turned}
 use Rattle.conn_core.proofs.Fitting.{EventsKeep}
 use Rattle.conn_core.proofs.KeptNext.{Stepped}
 use Rattle.conn_core.proofs.KeptTurned.{ClearsShorten, HaveForms, kept-turned, of-table, turn-fits}
 use Rattle.conn_core.proofs.Lists.{map-at, zip-at, zip-length}
+use Rattle.conn_core.proofs.Passing.{parts-fall}
 use Rattle.conn_core.proofs.Records.{ClearLaws}
 use Rattle.conn_core.proofs.Turned.{turn-is}
 
 -- where there was a call, one fact follows from others
-pub on-turn : (P Q : ℕ → Outcome → Type 0) → ((seq : ℕ) (outcome : Outcome) → P seq outcome → Q seq outcome) → (t : Turned) → OnTurn t P → OnTurn t Q
+pub on-turn : (P Q : ℕ → Outcome → Type 0) → ((seq : ℕ) (outcome : Outcome) → P seq outcome → Q seq outcome)
+    → (t : Turned) → OnTurn t P → OnTurn t Q
 on-turn P Q weak Idle h = tt
 on-turn P Q weak (Moved seq noted) h = weak seq (outcomes.Passed noted) h
 on-turn P Q weak (Held seq level cost) h = weak seq (outcomes.Held level cost) h
 on-turn P Q weak (Refused seq noted why) h = weak seq (outcomes.Refused noted why) h
 on-turn P Q weak (Redacted seq) h = weak seq outcomes.Redacted h
 
-pub on-both : (P Q : ℕ → Outcome → Type 0) (t : Turned) → OnTurn t P → OnTurn t Q → OnTurn t (λ seq outcome. P seq outcome × Q seq outcome)
+pub on-both : (P Q : ℕ → Outcome → Type 0) (t : Turned) → OnTurn t P → OnTurn t Q
+    → OnTurn t (λ seq outcome. P seq outcome × Q seq outcome)
 on-both P Q Idle p q = tt
 on-both P Q (Moved seq noted) p q = (p, q)
 on-both P Q (Held seq level cost) p q = (p, q)
@@ -44,7 +47,8 @@ on-both P Q (Refused seq noted why) p q = (p, q)
 on-both P Q (Redacted seq) p q = (p, q)
 
 -- what holds where there was no call, and where there was one
-pub at-turn : (A : Type 0) (P : ℕ → Outcome → Type 0) (t : Turned) → (t ≡ Idle → A) → ((seq : ℕ) (outcome : Outcome) → P seq outcome → A) → OnTurn t P → A
+pub at-turn : (A : Type 0) (P : ℕ → Outcome → Type 0) (t : Turned) → (t ≡ Idle → A)
+    → ((seq : ℕ) (outcome : Outcome) → P seq outcome → A) → OnTurn t P → A
 at-turn A P Idle idle some h = idle refl
 at-turn A P (Moved seq noted) idle some h = some seq (outcomes.Passed noted) h
 at-turn A P (Held seq level cost) idle some h = some seq (outcomes.Held level cost) h
@@ -53,96 +57,151 @@ at-turn A P (Redacted seq) idle some h = some seq outcomes.Redacted h
 
 -- ---- the engine of the turn
 
-same-entry : (c : ChainParts) (at : ℕ) (engine : EngineParts) (e : Entry) → slice_get c.engines at ≡ Some engine → slice_get (chain_of c).entries at ≡ Some e → e.version ≡ engine.entry.version
+same-entry : (c : ChainParts) (at : ℕ) (engine : EngineParts) (e : Entry) → slice_get c.engines at ≡ Some engine
+    → slice_get (chain_of c).entries at ≡ Some e → e.version ≡ engine.entry.version
 same-entry c at engine e is-engine is =
-    let there : slice_get (chain_of c).entries at ≡ Some engine.entry = map-at (λ (x : EngineParts). x.entry) c.engines at engine is-engine in
+    let there : slice_get (chain_of c).entries at ≡ Some engine.entry =
+    map-at (λ (x : EngineParts). x.entry) c.engines at engine is-engine in
     let same : e ≡ engine.entry = cc in
     ap (λ (x : Entry). x.version) same
 
 -- the step that put its policy there
-pub step-put : (c : Connection) (steps : List ℕ) (history : Kept) (accepted ms at place : ℕ) (e : Entry) → IsKept c steps history accepted ms → slice_get (chain_of c.chain).entries at ≡ Some e
+pub step-put : (c : Connection) (steps : List ℕ) (history : Kept) (accepted ms at place : ℕ) (e : Entry)
+    → IsKept c steps history accepted ms → slice_get (chain_of c.chain).entries at ≡ Some e
     → place ≡ get_or steps at place → IsStepOf history.steps place e
 step-put c steps history accepted ms at place e kept is place-is =
-    subst (λ (p : ℕ). IsStepOf history.steps p e) (sym place-is) (zip-at (IsStepOf history.steps) steps (chain_of c.chain).entries at e place kept.engine_steps is)
+    subst (λ (p : ℕ). IsStepOf history.steps p e) (sym place-is)
+    (zip-at (IsStepOf history.steps) steps (chain_of c.chain).entries at e place kept.engine_steps is)
 
-pub aligned : (c : Connection) (steps : List ℕ) (history : Kept) (accepted ms : ℕ) → IsKept c steps history accepted ms → length steps ≡ length c.chain.engines
+pub aligned : (c : Connection) (steps : List ℕ) (history : Kept) (accepted ms : ℕ) → IsKept c steps history accepted ms
+    → length steps ≡ length c.chain.engines
 aligned c steps history accepted ms kept =
-    zip-length (IsStepOf history.steps) steps (chain_of c.chain).entries kept.engine_steps ∙ length-map c.chain.engines (λ (e : EngineParts). e.entry)
+    zip-length (IsStepOf history.steps) steps (chain_of c.chain).entries kept.engine_steps ∙ length-map c.chain.engines
+    (λ (e : EngineParts). e.entry)
 
 -- ---- the turn
 
-pub turned-kept : EventsKeep → HaveForms → ClearLaws → ClearsShorten → (conn : ℕ) (T : Table) (limit : ℕ) (c c' : ChainParts) (history history' : Kept) (ended : Bool) (steps : List ℕ)
+pub turned-kept : EventsKeep → HaveForms → ClearLaws → ClearsShorten
+    → (conn : ℕ) (T : Table) (limit : ℕ) (c c' : ChainParts) (history history' : Kept) (ended : Bool) (steps : List ℕ)
     (accepted ms at place version : ℕ) (engine : EngineParts) (t : Turned)
-    → IsKept (seen conn T limit c history ended) steps history accepted ms → slice_get c.engines at ≡ Some engine → version ≡ engine.entry.version → place ≡ get_or steps at place
-    → OnTurn t (λ seq outcome. first_at at c.row ≡ Some (seq, at)) → OnTurn t (λ seq outcome. HasTurn c at ms seq outcome c') → OnTurn t (λ seq outcome. c'.row ≡ row_after seq outcome c.row)
+    → IsKept (seen conn T limit c history ended) steps history accepted ms → slice_get c.engines at ≡ Some engine
+    → version ≡ engine.entry.version → place ≡ get_or steps at place
+    → OnTurn t (λ seq outcome. first_at at c.row ≡ Some (seq, at))
+    → OnTurn t (λ seq outcome. HasTurn c at ms seq outcome c')
+    → OnTurn t (λ seq outcome. c'.row ≡ row_after seq outcome c.row)
     → c'.attached ≡ c.attached → IsStandingChain c' → history'.steps ≡ history.steps
-    → OnTurn t (λ seq outcome. (e : Entry) → PutsIn (step_at history.steps place) e → e.version ≡ version → history'.happenings ≡ history.happenings ++ told_turn e seq outcome)
+    → OnTurn t (λ seq outcome. (e : Entry) → PutsIn (step_at history.steps place) e → e.version ≡ version
+    → history'.happenings ≡ history.happenings ++ told_turn e seq outcome)
     → OnTurn t (λ seq outcome. history.room ≤ history'.room + records_in outcome)
-    → OnTurn t (λ seq outcome. Stepped (seen conn T limit c history ended) (seen conn T limit c' history' ended) (turns at seq outcome) steps history' accepted ms)
-turned-kept keeps have clear shorten conn T limit c c' history history' ended steps accepted ms at place version engine t kept is-engine version-is place-is first has row attached stands same told room =
+    → OnTurn t (λ seq outcome. Stepped (seen conn T limit c history ended) (seen conn T limit c' history' ended)
+    (turns at seq outcome) steps history' accepted ms)
+turned-kept keeps have clear shorten conn T limit c c' history history' ended steps accepted ms at place version engine
+    t kept is-engine version-is place-is first has row attached stands same told room =
     let old : Connection = seen conn T limit c history ended in
     let First : ℕ → Outcome → Type 0 = λ seq outcome. first_at at c.row ≡ Some (seq, at) in
     let Has : ℕ → Outcome → Type 0 = λ seq outcome. HasTurn c at ms seq outcome c' in
     let Rows : ℕ → Outcome → Type 0 = λ seq outcome. c'.row ≡ row_after seq outcome c.row in
-    let Told : ℕ → Outcome → Type 0 = λ seq outcome. (e : Entry) → PutsIn (step_at history.steps place) e → e.version ≡ version → history'.happenings ≡ history.happenings ++ told_turn e seq outcome in
+    let Told : ℕ → Outcome → Type 0 = λ seq outcome. (e : Entry) → PutsIn (step_at history.steps place) e
+    → e.version ≡ version → history'.happenings ≡ history.happenings ++ told_turn e seq outcome in
     let Room : ℕ → Outcome → Type 0 = λ seq outcome. history.room ≤ history'.room + records_in outcome in
-    let all-facts = on-both (λ seq outcome. First seq outcome × Has seq outcome) (λ seq outcome. Rows seq outcome × (Told seq outcome × Room seq outcome)) t (on-both First Has t first has)
+    let all-facts = on-both (λ seq outcome. First seq outcome × Has seq outcome) (λ seq outcome. Rows seq outcome
+    × (Told seq outcome × Room seq outcome)) t (on-both First Has t first has)
     (on-both Rows (λ seq outcome. Told seq outcome × Room seq outcome) t row (on-both Told Room t told room)) in
-    on-turn (λ seq outcome. (First seq outcome × Has seq outcome) × (Rows seq outcome × (Told seq outcome × Room seq outcome)))
+    on-turn (λ seq outcome. (First seq outcome × Has seq outcome)
+    × (Rows seq outcome × (Told seq outcome × Room seq outcome)))
     (λ seq outcome. Stepped old (seen conn T limit c' history' ended) (turns at seq outcome) steps history' accepted ms)
-    (λ seq outcome f. kept-turned keeps clear shorten conn T limit c c' history history' ended steps accepted ms at seq outcome kept f.0.1 f.0.0 f.1.0 attached stands
+    (λ seq outcome f. kept-turned keeps clear shorten conn T limit c c' history history' ended steps accepted ms at seq
+    outcome kept f.0.1 f.0.0 f.1.0 attached stands
     (of-table have old kept.connection) same
     (λ e is. f.1.1.0 e (step-put old steps history accepted ms at place e kept is place-is).put
     (same-entry c at engine e is-engine is ∙ sym version-is)) f.1.1.1) t all-facts
 
-pub turn-has-room : ClearLaws → (conn : ℕ) (T : Table) (limit : ℕ) (c c' : ChainParts) (history : Kept) (ended : Bool) (steps : List ℕ) (accepted ms at : ℕ) (t : Turned)
-    → IsKept (seen conn T limit c history ended) steps history accepted ms → OnTurn t (λ seq outcome. HasTurn c at ms seq outcome c') → OnTurn t (λ seq outcome. records_in outcome ≤ history.room)
+pub turn-has-room : ClearLaws
+    → (conn : ℕ) (T : Table) (limit : ℕ) (c c' : ChainParts) (history : Kept) (ended : Bool) (steps : List ℕ)
+    (accepted ms at : ℕ) (t : Turned)
+    → IsKept (seen conn T limit c history ended) steps history accepted ms
+    → OnTurn t (λ seq outcome. HasTurn c at ms seq outcome c')
+    → OnTurn t (λ seq outcome. records_in outcome ≤ history.room)
 turn-has-room laws conn T limit c c' history ended steps accepted ms at t kept has =
     on-turn (λ seq outcome. HasTurn c at ms seq outcome c') (λ seq outcome. records_in outcome ≤ history.room)
-    (λ seq outcome h. turn-fits laws c c' at ms seq outcome history.room kept.connection.standing_chain kept.room h) t has
+    (λ seq outcome h. turn-fits laws c c' at ms seq outcome history.room kept.connection.standing_chain kept.room h) t
+    has
 
 -- what is kept, also where no call stood there
-pub kept-behind : (conn : ℕ) (T : Table) (limit : ℕ) (c c' : ChainParts) (history history' : Kept) (ended : Bool) (steps : List ℕ) (accepted ms at : ℕ) (t : Turned)
-    → IsKept (seen conn T limit c history ended) steps history accepted ms → (t ≡ Idle → c' ≡ c) → (t ≡ Idle → history' ≡ history)
-    → OnTurn t (λ seq outcome. Stepped (seen conn T limit c history ended) (seen conn T limit c' history' ended) (turns at seq outcome) steps history' accepted ms)
+pub kept-behind : (conn : ℕ) (T : Table) (limit : ℕ) (c c' : ChainParts) (history history' : Kept) (ended : Bool)
+    (steps : List ℕ) (accepted ms at : ℕ) (t : Turned)
+    → IsKept (seen conn T limit c history ended) steps history accepted ms → (t ≡ Idle → c' ≡ c)
+    → (t ≡ Idle → history' ≡ history)
+    → OnTurn t (λ seq outcome. Stepped (seen conn T limit c history ended) (seen conn T limit c' history' ended)
+    (turns at seq outcome) steps history' accepted ms)
     → IsKept (seen conn T limit c' history' ended) steps history' accepted ms
 kept-behind conn T limit c c' history history' ended steps accepted ms at t kept same-chain same-history steps-taken =
     at-turn (IsKept (seen conn T limit c' history' ended) steps history' accepted ms)
-    (λ seq outcome. Stepped (seen conn T limit c history ended) (seen conn T limit c' history' ended) (turns at seq outcome) steps history' accepted ms) t
+    (λ seq outcome. Stepped (seen conn T limit c history ended) (seen conn T limit c' history' ended)
+    (turns at seq outcome) steps history' accepted ms) t
     (λ idle. subst (λ (h : Kept). IsKept (seen conn T limit c' h ended) steps h accepted ms) (sym (same-history idle))
-    (subst (λ (x : ChainParts). IsKept (seen conn T limit x history ended) steps history accepted ms) (sym (same-chain idle)) kept))
+    (subst (λ (x : ChainParts). IsKept (seen conn T limit x history ended) steps history accepted ms)
+    (sym (same-chain idle)) kept))
     (λ seq outcome h. h.kept) steps-taken
 
-pub steps-behind : (before now after : Connection) (steps : List ℕ) (history : Kept) (accepted ms at : ℕ) (t : Turned) → now ≡ before
-    → OnTurn t (λ seq outcome. Stepped now after (turns at seq outcome) steps history accepted ms) → OnTurn t (λ seq outcome. Steps before (turns at seq outcome) after)
+pub steps-behind : (before now after : Connection) (steps : List ℕ) (history : Kept) (accepted ms at : ℕ) (t : Turned)
+    → now ≡ before
+    → OnTurn t (λ seq outcome. Stepped now after (turns at seq outcome) steps history accepted ms)
+    → OnTurn t (λ seq outcome. Steps before (turns at seq outcome) after)
 steps-behind before now after steps history accepted ms at t is h =
-    on-turn (λ seq outcome. Stepped now after (turns at seq outcome) steps history accepted ms) (λ seq outcome. Steps before (turns at seq outcome) after)
+    on-turn (λ seq outcome. Stepped now after (turns at seq outcome) steps history accepted ms) (λ seq outcome.
+    Steps before (turns at seq outcome) after)
     (λ seq outcome s. subst (λ (c : Connection). Steps c (turns at seq outcome) after) is s.step) t h
 
 -- ---- tickets
 
-pub draws-behind : {Q : Type 0} (Knows : Q → ℕ → Type 0) (drawn_of : Q → ℕ → ℕ → Option (List ℕ)) (Since : Q → Q → Type 0) (before : Connection) (conn : ℕ) (T : Table) (limit : ℕ)
-    (c c' : ChainParts) (history history' : Kept) (ended : Bool) (steps : List ℕ) (accepted ms at place version : ℕ) (engine : EngineParts) (t : Turned) (old new : Q)
+pub draws-behind : {Q : Type 0} (Knows : Q → ℕ → Type 0) (drawn_of : Q → ℕ → ℕ → Option (List ℕ)) (Since : Q → Q
+    → Type 0) (before : Connection) (conn : ℕ) (T : Table) (limit : ℕ)
+    (c c' : ChainParts) (history history' : Kept) (ended : Bool) (steps : List ℕ) (accepted ms at place version : ℕ)
+    (engine : EngineParts) (t : Turned) (old new : Q)
     → seen conn T limit c history ended ≡ before
-    → IsKept (seen conn T limit c history ended) steps history accepted ms → slice_get c.engines at ≡ Some engine → version ≡ engine.entry.version → place ≡ get_or steps at place
+    → IsKept (seen conn T limit c history ended) steps history accepted ms → slice_get c.engines at ≡ Some engine
+    → version ≡ engine.entry.version → place ≡ get_or steps at place
     → (t ≡ Idle → c' ≡ c) → (t ≡ Idle → history' ≡ history) → (t ≡ Idle → new ≡ old)
-    → OnTurn t (λ seq outcome. (e : Entry) → PutsIn (step_at history.steps place) e → e.version ≡ version → history'.happenings ≡ history.happenings ++ told_turn e seq outcome)
-    → OnTurn t (λ seq outcome. (e : EngineParts) → slice_get c.engines at ≡ Some e → LeavesTickets Knows drawn_of Since e.entry.policy (noted_in outcome) old new)
+    → OnTurn t (λ seq outcome. (e : Entry) → PutsIn (step_at history.steps place) e → e.version ≡ version
+    → history'.happenings ≡ history.happenings ++ told_turn e seq outcome)
+    → OnTurn t (λ seq outcome. (e : EngineParts) → slice_get c.engines at ≡ Some e
+    → LeavesTickets Knows drawn_of Since e.entry.policy (noted_in outcome) old new)
     → DrawsTickets Knows drawn_of Since before (seen conn T limit c' history' ended) old new
-draws-behind Knows drawn_of Since before conn T limit c c' history history' ended steps accepted ms at place version engine t old new is kept is-engine version-is place-is same-chain same-history same-tickets told tickets =
+draws-behind Knows drawn_of Since before conn T limit c c' history history' ended steps accepted ms at place version
+    engine t old new is kept is-engine version-is place-is same-chain same-history same-tickets told tickets =
     let now : Connection = seen conn T limit c history ended in
     let after : Connection = seen conn T limit c' history' ended in
     let e : Entry = engine.entry in
-    let at-entry : slice_get (chain_of c).entries at ≡ Some e = map-at (λ (x : EngineParts). x.entry) c.engines at engine is-engine in
-    let Told : ℕ → Outcome → Type 0 = λ seq outcome. (e : Entry) → PutsIn (step_at history.steps place) e → e.version ≡ version → history'.happenings ≡ history.happenings ++ told_turn e seq outcome in
-    let Leaves : ℕ → Outcome → Type 0 = λ seq outcome. (e : EngineParts) → slice_get c.engines at ≡ Some e → LeavesTickets Knows drawn_of Since e.entry.policy (noted_in outcome) old new in
+    let at-entry : slice_get (chain_of c).entries at ≡ Some e =
+    map-at (λ (x : EngineParts). x.entry) c.engines at engine is-engine in
+    let Told : ℕ → Outcome → Type 0 = λ seq outcome. (e : Entry) → PutsIn (step_at history.steps place) e
+    → e.version ≡ version → history'.happenings ≡ history.happenings ++ told_turn e seq outcome in
+    let Leaves : ℕ → Outcome → Type 0 = λ seq outcome. (e : EngineParts) → slice_get c.engines at ≡ Some e
+    → LeavesTickets Knows drawn_of Since e.entry.policy (noted_in outcome) old new in
     let policy : policy_of e.name (behind now) ≡ Some e.policy =
     policy-at (behind now) at e (subst IsChain kept.connection.same_chain kept.connection.standing_chain.stands.chain)
     (subst (λ (ch : Chain). slice_get ch.entries at ≡ Some e) kept.connection.same_chain at-entry) in
-    at-turn (DrawsTickets Knows drawn_of Since before after old new) (λ seq outcome. Told seq outcome × Leaves seq outcome) t
+    at-turn (DrawsTickets Knows drawn_of Since before after old new) (λ seq outcome. Told seq outcome
+    × Leaves seq outcome) t
     (λ idle. draws-none Knows drawn_of Since before after old new
-    (ap (λ (h : Kept). seen conn T limit c' h ended) (same-history idle) ∙ ap (λ (x : ChainParts). seen conn T limit x history ended) (same-chain idle) ∙ is) (same-tickets idle))
-    (λ seq outcome both. draws-turned Knows drawn_of Since e seq outcome (course now) before after old new (ap behind (sym is))
-    (ap reverse (both.0 e (step-put now steps history accepted ms at place e kept at-entry place-is).put (sym version-is)) ∙ turn-is e seq outcome history.happenings (course now) refl)
+    (ap (λ (h : Kept). seen conn T limit c' h ended) (same-history idle) ∙ ap
+    (λ (x : ChainParts). seen conn T limit x history ended) (same-chain idle) ∙ is) (same-tickets idle))
+    (λ seq outcome both. draws-turned Knows drawn_of Since e seq outcome (course now) before after old new
+    (ap behind (sym is))
+    (ap reverse (both.0 e (step-put now steps history accepted ms at place e kept at-entry place-is).put
+    (sym version-is)) ∙ turn-is e seq outcome history.happenings (course now) refl)
     policy (both.1 engine is-engine))
     (on-both Told Leaves t told tickets)
+
+-- ---- parts
+
+pub parts-behind : (before : Connection) (conn : ℕ) (T : Table) (limit : ℕ) (c c' : ChainParts)
+    (history history' : Kept)
+    (ended : Bool) (at ms : ℕ) (t : Turned) → seen conn T limit c history ended ≡ before
+    → OnTurn t (λ seq outcome. HasTurn c at ms seq outcome c')
+    → OnTurn t (λ seq outcome. parts (seen conn T limit c' history' ended) + redactions outcome ≤ parts before)
+parts-behind before conn T limit c c' history history' ended at ms t is has =
+    on-turn (λ seq outcome. HasTurn c at ms seq outcome c')
+    (λ seq outcome. parts (seen conn T limit c' history' ended) + redactions outcome ≤ parts before)
+    (λ seq outcome h. omega (arith, parts-fall c c' at ms seq outcome h, ap parts is)) t has

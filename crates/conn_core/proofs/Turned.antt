@@ -22,22 +22,28 @@ use Rattle.conn_core.proofs.Told.{behind-one, form-cleared, form-cleared_another
 
 -- ---- what is told
 
-note-is : (name : List ℕ) (seq : ℕ) (n : Noted) (h : List Happening) → reverse (h ++ told_note name seq n) ≡ note_behind name seq n (reverse h)
+note-is : (name : List ℕ) (seq : ℕ) (n : Noted) (h : List Happening)
+    → reverse (h ++ told_note name seq n) ≡ note_behind name seq n (reverse h)
 note-is name seq notes.Nothing h = ap reverse (append-nil h)
 note-is name seq (notes.Charged left) h = behind-one h (what.Charged seq name left)
 note-is name seq (notes.Drawn window ticket) h = behind-one h (what.Drawn seq name window ticket)
 note-is name seq notes.Counted h = behind-one h (what.Counted seq name)
 
-pub turn-is : (e : Entry) (seq : ℕ) (outcome : Outcome) (h : List Happening) (c : Course) → c.past ≡ reverse h → reverse (h ++ told_turn e seq outcome) ≡ (turned e seq outcome c).past
+pub turn-is : (e : Entry) (seq : ℕ) (outcome : Outcome) (h : List Happening) (c : Course) → c.past ≡ reverse h
+    → reverse (h ++ told_turn e seq outcome) ≡ (turned e seq outcome c).past
 turn-is e seq (Passed n) h c is = note-is e.name seq n h ∙ ap (note_behind e.name seq n) (sym is)
 turn-is e seq (Held left cost) h c is = ap reverse (append-nil h) ∙ sym is
 turn-is e seq (Refused n why) h c is =
     ap reverse (sym (append_assoc h (told_note e.name seq n) (what.Refused seq (cause_of e why) ∷ [])))
     ∙ behind-one (h ++ told_note e.name seq n) (what.Refused seq (cause_of e why))
-    ∙ ap (λ (past : Behind). what.Refused seq (cause_of e why) ∷ past) (note-is e.name seq n h ∙ ap (note_behind e.name seq n) (sym is))
-turn-is e seq Redacted h c is = behind-one h (what.Redacted seq e.name e.version) ∙ ap (λ (past : Behind). what.Redacted seq e.name e.version ∷ past) (sym is)
+    ∙ ap (λ (past : Behind). what.Refused seq (cause_of e why) ∷ past)
+    (note-is e.name seq n h ∙ ap (note_behind e.name seq n) (sym is))
+turn-is e seq Redacted h c is =
+    behind-one h (what.Redacted seq e.name e.version) ∙ ap (λ (past : Behind). what.Redacted seq e.name e.version
+    ∷ past) (sym is)
 
-pub row-turned : (e : Entry) (seq : ℕ) (outcome : Outcome) (c : Course) → (turned e seq outcome c).row ≡ row_after seq outcome c.row
+pub row-turned : (e : Entry) (seq : ℕ) (outcome : Outcome) (c : Course)
+    → (turned e seq outcome c).row ≡ row_after seq outcome c.row
 row-turned e seq (Passed n) c = refl
 row-turned e seq (Held left cost) c = refl
 row-turned e seq (Refused n why) c = refl
@@ -57,7 +63,8 @@ chain-noted name seq (notes.Charged left) past = refl
 chain-noted name seq (notes.Drawn window ticket) past = refl
 chain-noted name seq notes.Counted past = refl
 
-moment-noted : (name : List ℕ) (seq : ℕ) (n : Noted) (past : Behind) → moment (note_behind name seq n past) ≡ moment past
+moment-noted : (name : List ℕ) (seq : ℕ) (n : Noted) (past : Behind)
+    → moment (note_behind name seq n past) ≡ moment past
 moment-noted name seq notes.Nothing past = refl
 moment-noted name seq (notes.Charged left) past = refl
 moment-noted name seq (notes.Drawn window ticket) past = refl
@@ -69,19 +76,22 @@ taken-noted name seq (notes.Charged left) past = refl
 taken-noted name seq (notes.Drawn window ticket) past = refl
 taken-noted name seq notes.Counted past = refl
 
-pub chain-turned : (e : Entry) (seq : ℕ) (outcome : Outcome) (c : Course) → chain (turned e seq outcome c).past ≡ chain c.past
+pub chain-turned : (e : Entry) (seq : ℕ) (outcome : Outcome) (c : Course)
+    → chain (turned e seq outcome c).past ≡ chain c.past
 chain-turned e seq (Passed n) c = chain-noted e.name seq n c.past
 chain-turned e seq (Held left cost) c = refl
 chain-turned e seq (Refused n why) c = chain-noted e.name seq n c.past
 chain-turned e seq Redacted c = refl
 
-pub moment-turned : (e : Entry) (seq : ℕ) (outcome : Outcome) (c : Course) → moment (turned e seq outcome c).past ≡ moment c.past
+pub moment-turned : (e : Entry) (seq : ℕ) (outcome : Outcome) (c : Course)
+    → moment (turned e seq outcome c).past ≡ moment c.past
 moment-turned e seq (Passed n) c = moment-noted e.name seq n c.past
 moment-turned e seq (Held left cost) c = refl
 moment-turned e seq (Refused n why) c = moment-noted e.name seq n c.past
 moment-turned e seq Redacted c = refl
 
-pub taken-turned : (e : Entry) (seq : ℕ) (outcome : Outcome) (c : Course) → taken (turned e seq outcome c).past ≡ taken c.past
+pub taken-turned : (e : Entry) (seq : ℕ) (outcome : Outcome) (c : Course)
+    → taken (turned e seq outcome c).past ≡ taken c.past
 taken-turned e seq (Passed n) c = taken-noted e.name seq n c.past
 taken-turned e seq (Held left cost) c = refl
 taken-turned e seq (Refused n why) c = taken-noted e.name seq n c.past
@@ -89,7 +99,8 @@ taken-turned e seq Redacted c = refl
 
 -- ---- levels and notes
 
-pub level-turned : (e : Entry) (seq : ℕ) (outcome : Outcome) (c : Course) → level e.name (turned e seq outcome c).past ≡ level_left (noted_in outcome) (level e.name c.past)
+pub level-turned : (e : Entry) (seq : ℕ) (outcome : Outcome) (c : Course)
+    → level e.name (turned e seq outcome c).past ≡ level_left (noted_in outcome) (level e.name c.past)
 level-turned e seq (Passed n) c = level-noted e.name seq n c.past
 level-turned e seq (Held left cost) c = refl
 level-turned e seq (Refused n why) c = level-noted e.name seq n c.past
@@ -102,7 +113,8 @@ level-turned_other e other seq (Held left cost) c apart = refl
 level-turned_other e other seq (Refused n why) c apart = level-noted_other e.name other seq n c.past apart
 level-turned_other e other seq Redacted c apart = refl
 
-pub noted-turned : (e : Entry) (seq : ℕ) (outcome : Outcome) (c : Course) → noted e.name seq (turned e seq outcome c).past ≡ past_after (noted_in outcome) (noted e.name seq c.past)
+pub noted-turned : (e : Entry) (seq : ℕ) (outcome : Outcome) (c : Course)
+    → noted e.name seq (turned e seq outcome c).past ≡ past_after (noted_in outcome) (noted e.name seq c.past)
 noted-turned e seq (Passed n) c = noted-noted e.name seq n c.past
 noted-turned e seq (Held left cost) c = refl
 noted-turned e seq (Refused n why) c = noted-noted e.name seq n c.past
@@ -124,7 +136,8 @@ noted-turned_elsewhere e other seq s Redacted c apart = refl
 
 -- ---- forms
 
-pub form-turned_another : (conn : ℕ) (e : Entry) (seq s : ℕ) (outcome : Outcome) (c : Course) → seq ≢ s → form conn s (turned e seq outcome c).past ≡ form conn s c.past
+pub form-turned_another : (conn : ℕ) (e : Entry) (seq s : ℕ) (outcome : Outcome) (c : Course) → seq ≢ s
+    → form conn s (turned e seq outcome c).past ≡ form conn s c.past
 form-turned_another conn e seq s (Passed n) c apart = form-noted conn s e.name seq n c.past
 form-turned_another conn e seq s (Held left cost) c apart = refl
 form-turned_another conn e seq s (Refused n why) c apart = form-noted conn s e.name seq n c.past
@@ -137,8 +150,10 @@ redacted-is (policies.Quota tenant per cap) call = refl
 redacted-is policies.Count call = refl
 redacted-is (policies.Redact clears) call = refl
 
-pub form-turned : (conn : ℕ) (e : Entry) (seq : ℕ) (outcome : Outcome) (c : Course) (call : Call) → form conn seq c.past ≡ Some call
-    → policy_of e.name c.past ≡ Some e.policy → form conn seq (turned e seq outcome c).past ≡ Some (form_after outcome e.policy call)
+pub form-turned : (conn : ℕ) (e : Entry) (seq : ℕ) (outcome : Outcome) (c : Course) (call : Call)
+    → form conn seq c.past ≡ Some call
+    → policy_of e.name c.past ≡ Some e.policy
+    → form conn seq (turned e seq outcome c).past ≡ Some (form_after outcome e.policy call)
 form-turned conn e seq (Passed n) c call is policy = form-noted conn seq e.name seq n c.past ∙ is
 form-turned conn e seq (Held left cost) c call is policy = is
 form-turned conn e seq (Refused n why) c call is policy = form-noted conn seq e.name seq n c.past ∙ is

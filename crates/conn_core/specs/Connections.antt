@@ -41,8 +41,8 @@ pub record IsSame (before after : Connection) : Type 0 where
   pub table : after.table ≡ before.table
   pub limit : after.limit ≡ before.limit
 
--- What holds of each connection. Its history is legal and its calls stand at places; the chain that its history makes is
--- the chain with which its calls are judged, and levels and marks are what the history says.
+-- What holds of each connection. Its history is legal and its calls stand at places; the chain that its history makes
+-- is the chain with which its calls are judged, and levels and marks are what the history says.
 pub record IsConnection (c : Connection) : Type 0 where
   pub is_course : IsCourse (under c) (course c)
   pub standing_chain : IsStandingChain c.chain

@@ -25,11 +25,12 @@ use Rattle.graph_copy.specs.Answers.{loads_of}
 use Rattle.graph_copy.specs.declared.copying.CopyResult.{CopyResult}
 use Rattle.graph_copy.specs.declared.copying.CopyResult.TheVariants as results
 use Rattle.chain_upgrade.specs.Chains.{ChainParts, chain_of}
-use Rattle.call_history.specs.Behind.{copied, moment, taken}
-use Rattle.call_history.specs.Events.{cause_of}
+use Rattle.call_history.specs.Behind.{chain, copied, moment, taken}
+use Rattle.call_history.specs.Draining.{SendsSome}
+use Rattle.call_history.specs.Events.{Comes, Course, cause_of, fails}
 use Rattle.call_history.specs.Records.{Kept, step_at}
 use Rattle.call_history.specs.Loads.{IsLoaded, Loads}
-use Rattle.call_history.specs.Rules.{IsTakenBy, payload}
+use Rattle.call_history.specs.Rules.{IsTakenBy, Under, payload}
 use Rattle.call_history.specs.declared.happening.Cause.TheVariants as cause
 use Rattle.call_history.specs.declared.happening.Happening.{Happening}
 use Rattle.call_history.specs.declared.happening.Happening.TheVariants as what
@@ -37,7 +38,8 @@ use Rattle.call_history.specs.declared.happening.Taken.{Taken}
 use Rattle.call_history.specs.declared.happening.TookCopy.{TookCopy}
 use Rattle.call_history.specs.declared.happening.TookCopy.TheVariants.{Copy, Malformed}
 use Rattle.conn_core.specs.declared.answers.Ask.{Ask}
-use Rattle.conn_core.specs.Connections.{Connection, IsConnection, behind}
+use Rattle.conn_core.specs.Connections.{Connection, IsConnection, IsSame, behind, frames}
+use Rattle.conn_core.specs.Steps.{DrawsTickets, parts}
 
 -- ---- which step put its policy into an entry
 
@@ -68,7 +70,8 @@ copy_of (results.Copied tree loads) = Copy tree
 copy_of (results.Malformed reason place value loads) = Malformed reason place value
 
 -- a call and its form are those of an ask, by a copy's answer
-pub record IsOfAnswer (conn seq : ℕ) (ask : Ask) (answer : CopyResult) (call : Taken) (form : Option Call) : Type 0 where
+pub record IsOfAnswer (conn seq : ℕ) (ask : Ask) (answer : CopyResult) (call : Taken)
+    (form : Option Call) : Type 0 where
   pub asked : IsAsked seq ask call
   pub copy : call.copy ≡ copy_of answer
   pub count : call.count ≡ loads_of answer
@@ -177,7 +180,8 @@ told_failure (s ∷ calls) = what.Refused s.call.seq cause.Transport ∷ told_fa
 
 -- ---- room for records
 
--- An entry may still record something of a call: at some level and moment it calls for a note, or it would clear fields.
+-- An entry may still record something of a call: at some level and moment it calls for a note, or it would clear
+-- fields.
 pub data MayRecord (s : StandingCall) (e : Entry) : Type 0 where
   may_note : (level moment : ℕ) (n : Noted) → Answers e.policy level moment s.call (past_of s.marks e.attach) (note n)
       → 1 ≤ records_of n → MayRecord s e
@@ -220,3 +224,21 @@ pub record IsKept (c : Connection) (steps : List ℕ) (history : Kept) (accepted
   pub engine_steps : AllZip (IsStepOf history.steps) steps (chain_of c.chain).entries
   pub short : All (λ s. length (payload c.table s.call) ≤ MAX_PAYLOAD) c.chain.calls
   pub room : HasRoom c.chain.calls (chain_of c.chain).entries history.room
+
+-- ---- drains
+
+-- A connection went on by turns alone: it is the same, with the same chain; nothing was handed over, those tickets were
+-- drawn that its history tells, and the trees of its calls have no more parts.
+pub record Went {Q : Type 0} (Knows : Q → ℕ → Type 0) (drawn_of : Q → ℕ → ℕ → Option (List ℕ)) (Since : Q → Q → Type 0)
+    (before after : Connection) (old new : Q) : Type 0 where
+  pub same : IsSame before after
+  pub same_chain : chain (behind after) ≡ chain (behind before)
+  pub same_frames : frames after ≡ frames before
+  pub draws : DrawsTickets Knows drawn_of Since before after old new
+  pub fewer : parts after ≤ parts before
+
+-- some calls were sent, and then the link failed
+pub record FailsBehind (u : Under) (old new : Course) : Type 0 where
+  pub between : Course
+  pub sent : SendsSome u old between
+  pub failed : Comes u between fails new

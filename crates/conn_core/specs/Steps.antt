@@ -1,8 +1,13 @@
 -- What the answers of a connection's calls say of the step that was taken (this project's own).
 use Rattle.std.specs.Prelude.{◌≡◌, ℕ, ◌<◌, ◌⊎◌, List, [], ◌++◌, Option, IfSome, IsSomeAnd}
+use Rattle.std.specs.List.{sum_by}
 use Rattle.mrpc_base.specs.declared.tickets.TheConstants.{WINDOWS}
+use Rattle.mrpc_table.specs.Weight.{weight}
+use Rattle.engine_core.specs.Marks.{StandingCall}
 use Rattle.engine_core.specs.declared.op.Op.{Op}
 use Rattle.engine_core.specs.declared.op.Op.TheVariants.{Attach, Detach, Upgrade}
+use Rattle.engine_core.specs.declared.outcome.Outcome.{Outcome}
+use Rattle.engine_core.specs.declared.outcome.Outcome.TheVariants.{Passed, Held, Refused, Redacted}
 use Rattle.engine_core.specs.declared.policy.Policy.{Policy}
 use Rattle.graph_copy.specs.Copies.{OnlyLoads}
 use Rattle.call_history.specs.Events.{Comes, Event, accepts, sends}
@@ -59,7 +64,8 @@ Hands before after handed handed' =
 -- of the tickets of a tenant's window, where they are told, those were drawn that the history tells, and no others
 abbrev pub Draws : ℕ → ℕ → Connection → Connection → Option (List ℕ) → Option (List ℕ) → Type 0
 Draws tenant window before after drawn drawn' = IfSome drawn' (λ now. IsSomeAnd drawn (λ earlier.
-    (more : List ℕ) × (tickets_behind tenant window (behind after) ≡ tickets_behind tenant window (behind before) ++ more)
+    (more : List ℕ) × (tickets_behind tenant window (behind after) ≡ tickets_behind tenant window (behind before)
+    ++ more)
     × (now ≡ earlier ++ more)))
 
 -- what a step makes of the tickets: those are drawn that the history tells, in windows of known tenants. `Knows` says
@@ -70,3 +76,17 @@ pub record DrawsTickets {Q : Type 0} (Knows : Q → ℕ → Type 0) (drawn_of : 
       → Draws tenant window before after (drawn_of old tenant window) (drawn_of new tenant window)
   pub knows : (tenant : ℕ) → Knows old tenant → Knows new tenant
   pub since : (first : Q) → Since first old → Since first new
+
+-- how many parts the trees of calls have, and those of the calls that stand
+abbrev pub parts_of : List StandingCall → ℕ
+parts_of calls = sum_by (λ s. weight s.call.tree) calls
+
+abbrev pub parts : Connection → ℕ
+parts c = parts_of c.chain.calls
+
+-- how often a turn cleared fields
+abbrev pub redactions : Outcome → ℕ
+redactions (Passed noted) = 0
+redactions (Held level cost) = 0
+redactions (Refused noted why) = 0
+redactions Redacted = 1

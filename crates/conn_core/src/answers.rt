@@ -50,3 +50,14 @@ pub enum Sending {
     /// No memory was found, and the call stands where it stood.
     Memory,
 }
+
+/// What a drain comes to.
+#[derive(Clone, Copy, PartialEq, Eq)]
+pub enum Drained {
+    /// No call can go on.
+    Done,
+    /// The link failed.
+    Failed,
+    /// No memory was found for a frame. The turns and the sendings before it stand.
+    Memory,
+}

@@ -1,16 +1,19 @@
 //! A connection.
 
-ghost use Rattle.std.specs.Prelude.{◌≡◌, ◌≢◌, ◌↔◌, ◌+◌, ◌<◌, ◌≤◌, ◌^◌, ◌++◌, ◌⊎◌, [], All, Err, IfErr, IfOk, IsSomeAnd, IsTrue, None, OnErr, OnOk, false, length, true};
+ghost use Rattle.std.specs.Prelude.{◌≡◌, ◌≢◌, ◌↔◌, ◌+◌, ◌<◌, ◌≤◌, ◌^◌, ◌++◌, ◌⊎◌, [], All, Err, IfErr, IfOk, IsSomeAnd, IsTrue, None, OnErr, OnOk, false, length, map, true};
 ghost use Rattle.mrpc_base.specs.Faults.{HasCause};
 ghost use Rattle.mrpc_table.specs.Valid.{IsValid};
 ghost use Rattle.mrpc_table.specs.declared.limits.TheConstants.{MAX_HEAP, MAX_LOADS, MIN_HEAP};
 
-use crate::answers::{AcceptFault, Ask, Sending};
+use crate::answers::{AcceptFault, Ask, Drained, Sending};
 use crate::changing::{change, reserve};
+use crate::draining::{pass_all, send_all};
 use crate::handing::{hand, leave};
 use crate::noting::{record_turn, refuse_all};
 use crate::taking::{stand, take};
-use call_history::{History, Record, clears_shorten, events_keep, standing_calls_have_forms};
+use call_history::{
+    History, Record, clears_shorten, drains_settle, events_keep, standing_calls_have_forms,
+};
 use chain_upgrade::{Chain, ChainFault, Turned};
 use engine_core::{MAX_CALLS, MAX_ENGINES, Op, change_is_changed, stays_chain};
 use frame_transport::HEADER_LEN;
@@ -65,9 +68,11 @@ impl<'t> Conn<'t> {
     ghost use Rattle.chain_upgrade.specs.Chains.{OnTurn, chain_of, refusal_in};
     ghost use Rattle.graph_copy.specs.Copies.{since};
     ghost use Rattle.call_history.specs.Behind.{taken};
+    ghost use Rattle.call_history.specs.Draining.{BeginsToDrain, Drains, FailsToDrain};
     ghost use Rattle.call_history.specs.Events.{fails, operates, shows, turns, turns_away};
-    ghost use Rattle.conn_core.specs.Connections.{IsConnection, IsSame, behind};
-    ghost use Rattle.conn_core.specs.Steps.{Accepts, DrawsTickets, Hands, IfPolicy, OnSent, Reads, Sends, Steps};
+    ghost use Rattle.call_history.specs.Places.{IsSettled};
+    ghost use Rattle.conn_core.specs.Connections.{IsConnection, IsSame, behind, course, under};
+    ghost use Rattle.conn_core.specs.Steps.{Accepts, DrawsTickets, Hands, IfPolicy, OnSent, Reads, Sends, Steps, parts, redactions};
 
     /// A connection without a call, of a number from 1 to 16, whose moment is 0 and whose chain is empty. All its calls
     /// are judged and encoded by this table, and each is taken by at most `limit` loads, 1 to 16384.
@@ -136,7 +141,8 @@ impl<'t> Conn<'t> {
         ensures adds { W.loads words.new ≡ W.loads words.old ++ since (W.loads words.old) (W.loads words.new) }
         ensures reads { Reads W.after_room W.after_load words.old (since (W.loads words.old) (W.loads words.new))
             words.new }
-        ensures unread { (result ≡ Err AcceptFault.Standing) ⊎ (result ≡ Err AcceptFault.Ended) → words.new ≡ words.old }
+        ensures unread { (result ≡ Err AcceptFault.Standing) ⊎ (result ≡ Err AcceptFault.Ended)
+            → words.new ≡ words.old }
     {
         if self.chain.calls().len() == MAX_CALLS {
             return Err(AcceptFault::Standing);
@@ -236,6 +242,7 @@ impl<'t> Conn<'t> {
         ensures idle { (result ≡ Turned.Idle) ↔ (first_at at self.old.chain.row ≡ None) }
         ensures as_before { result ≡ Turned.Idle → (self.new ≡ self.old) × (tickets.new ≡ tickets.old) }
         ensures turned { OnTurn result (λ seq outcome. Steps self.old (turns at seq outcome) self.new) }
+        ensures smaller { OnTurn result (λ seq outcome. parts self.new + redactions outcome ≤ parts self.old) }
         ensures draws { DrawsTickets Q.knows Q.drawn Q.since self.old self.new tickets.old tickets.new }
         ensures same { IsSame self.old self.new }
     {
@@ -288,6 +295,41 @@ impl<'t> Conn<'t> {
             }
             Handed::Memory => Sending::Memory,
         }
+    }
+
+    /// Has the engines take turns, from the first on, until no call can go on, and then sends all calls that are ready.
+    /// Behind a turn that cleared fields from a call it begins again at the first engine. After `Memory` and `Failed`
+    /// the turns and sendings before it stand.
+    pub fn drain<Q: Tickets, L: Link>(
+        &mut self,
+        alloc: Global,
+        tickets: &mut Q,
+        link: &mut L,
+    ) -> Drained
+        requires known { All (λ e. KnowsTenantOf (Q.knows tickets.old) e.entry.policy) self.old.chain.engines }
+        ensures done { result ≡ Drained.Done → Drains (under self.old) (course self.old) (course self.new) }
+        ensures settled { result ≡ Drained.Done
+            → IsSettled (under self.new) (behind self.new) (map (λ call. call.1) self.new.chain.row) }
+        ensures failed { result ≡ Drained.Failed
+            → FailsToDrain (under self.old) (course self.old) (course self.new) }
+        ensures memory { result ≡ Drained.Memory
+            → BeginsToDrain (under self.old) (course self.old) (course self.new) }
+        ensures same { IsSame self.old self.new }
+
+        ensures draws { DrawsTickets Q.knows Q.drawn Q.since self.old self.new tickets.old tickets.new }
+        ensures handed { Hands self.old self.new (L.handed link.old) (L.handed link.new) }
+        ensures given { L.given link.new ≡ L.given link.old }
+        ensures link_ended { L.ended link.new ≡ L.ended link.old }
+        ensures same_link { (first : L) → L.since first link.old → L.since first link.new }
+        ensures cause { HasCause (result ≡ Drained.Failed) (L.faults link.old) (L.faults link.new) }
+    {
+        drains_settle();
+        self.is_connection();
+        pass_all(self, tickets);
+        self.is_connection();
+        let drained = send_all(alloc, self, link);
+        self.is_connection();
+        drained
     }
 
     /// Ends the connection since its link failed: the calls that stand are refused, in order. It takes no memory.

@@ -13,9 +13,10 @@
 mod answers;
 mod changing;
 mod conn;
+mod draining;
 mod handing;
 mod noting;
 mod taking;
 
-pub use answers::{AcceptFault, Ask, Sending};
+pub use answers::{AcceptFault, Ask, Drained, Sending};
 pub use conn::Conn;

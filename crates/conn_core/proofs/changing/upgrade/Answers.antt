@@ -14,5 +14,8 @@ index_mut-requires c = omega (
 )
 
 pub returns-clause-changed : goal.returns-clause-changed
-returns-clause-changed c = λ label. upgrade-changed c.args.chain.now c.upgrade.new.self c.args.now c.args.name.now c.in-Ok-Ok.name label c.args.policy.now c.in-Ok-Ok.policy
-    c.in-Ok-Ok.ensures c.in-Ok-Ok.ensures' (c.in_ok-upgrade.ensures.changes label) c.in_ok-upgrade.ensures.engines c.in_ok-upgrade.ensures.calls c.in_ok-upgrade.ensures.row
+returns-clause-changed c =
+    λ label. upgrade-changed c.args.chain.now c.upgrade.new.self c.args.now c.args.name.now c.in-Ok-Ok.name label
+    c.args.policy.now c.in-Ok-Ok.policy
+    c.in-Ok-Ok.ensures c.in-Ok-Ok.ensures' (c.in_ok-upgrade.ensures.changes label) c.in_ok-upgrade.ensures.engines
+    c.in_ok-upgrade.ensures.calls c.in_ok-upgrade.ensures.row

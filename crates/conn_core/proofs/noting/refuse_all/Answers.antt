@@ -14,7 +14,9 @@ loop-place-preserved c = (
   c.push.ensures.happenings
       ∙ ap (λ (call : Call). c.loop-place.history.happenings ++ Refused call.seq cause.Transport ∷ []) c.call.ensures
       ∙ ap (λ (h : List Happening). h ++ Refused c.at.result.now.call.seq cause.Transport ∷ []) c.loop-place.invariant.1
-      ∙ append_assoc c.args.history.now.happenings (told_failure (take c.loop-place.place c.args.calls.now)) (Refused c.at.result.now.call.seq cause.Transport ∷ [])
-      ∙ sym (ap (λ (h : List Happening). c.args.history.now.happenings ++ h) (failure-more c.args.calls.now c.loop-place.place c.at.result.now c.at.ensures)),
+      ∙ append_assoc c.args.history.now.happenings (told_failure (take c.loop-place.place c.args.calls.now))
+      (Refused c.at.result.now.call.seq cause.Transport ∷ [])
+      ∙ sym (ap (λ (h : List Happening). c.args.history.now.happenings ++ h)
+      (failure-more c.args.calls.now c.loop-place.place c.at.result.now c.at.ensures)),
   omega (arith, c.push.ensures.room, c.loop-place.invariant.2),
 )

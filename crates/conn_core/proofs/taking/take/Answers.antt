@@ -12,10 +12,18 @@ returns-clause-well g c =
     let H = g.W.Words.size c.args.words.now in
     let xs = since (g.W.Words.loads c.args.words.now) (g.W.Words.loads c.copy.new.words) in
     let known : c.args.ask.method < length T.methods = omega arith in
-    let message : c.message_at-message.result ≡ message_at T c.args.ask.method c.args.ask.number = c.message_at-message.ensures.place in
-    all-well (record { normal = c.sound_tree_is_normal.ensures; short = c.copies_are_short.ensures; reason = c.malformed_graphs_keep_the_limit.ensures.reason })
-    T H c.args.limit c.args.conn c.args.seq xs c.args.ask.method c.args.ask.number c.args.ask.addr c.args.ask.after c.in_ok-answer.answer c.requires.valid known
+    let message : c.message_at-message.result ≡ message_at T c.args.ask.method c.args.ask.number =
+    c.message_at-message.ensures.place in
+    all-well (record {
+      normal = c.sound_tree_is_normal.ensures;
+      short = c.copies_are_short.ensures;
+      reason = c.malformed_graphs_keep_the_limit.ensures.reason;
+    })
+    T H c.args.limit c.args.conn c.args.seq xs c.args.ask.method c.args.ask.number c.args.ask.addr c.args.ask.after
+    c.in_ok-answer.answer c.requires.valid known
     c.requires.greatest_limit c.in_ok-answer.ensures.few
-    (subst (λ (m : ℕ). IfCopied (IsCopied T H m c.args.ask.addr xs) c.in_ok-answer.answer) message c.in_ok-answer.ensures.copied)
-    (subst (λ (m : ℕ). IfMalformed (IsMalformed T H m c.args.ask.addr c.args.limit xs) c.in_ok-answer.answer) message c.in_ok-answer.ensures.malformed)
+    (subst (λ (m : ℕ). IfCopied (IsCopied T H m c.args.ask.addr xs) c.in_ok-answer.answer) message
+    c.in_ok-answer.ensures.copied)
+    (subst (λ (m : ℕ). IfMalformed (IsMalformed T H m c.args.ask.addr c.args.limit xs) c.in_ok-answer.answer) message
+    c.in_ok-answer.ensures.malformed)
     c.in_ok-answer.ensures.counted c.taken_by.result c.taken_by.ensures

@@ -4,9 +4,9 @@ use Rattle.call_history.proofs.Naming.{named-operated, operated}
 use Rattle.call_history.proofs.history.History.operate.Goals as goal
 
 pub returns-clause-happenings : goal.returns-clause-happenings
-returns-clause-happenings c = operated c.self.inside.steps.items c.push.new.self.items c.args.step c.len-place.result c.self.inside.records.items c.push_reserved.new.self.items
-    c.args.self.now.happenings c.self.invariant c.in_ok-push.ensures.items c.push_reserved.ensures.items (search rules) (ap (λ (k : Kept). k.happenings) (sym c.self.view_is))
+returns-clause-happenings c = operated c.self.inside.steps.items c.push_reserved.new.self.items c.args.step c.len-place.result c.self.inside.records.items c.push_reserved-2.new.self.items
+    c.args.self.now.happenings c.self.invariant c.push_reserved.ensures.items c.push_reserved-2.ensures.items (search rules) (ap (λ (k : Kept). k.happenings) (sym c.self.view_is))
 
-pub invariant_of-self-2 : goal.invariant_of-self-2
-invariant_of-self-2 c = named-operated c.self.inside.steps.items c.push.new.self.items c.args.step c.len-place.result c.self.inside.records.items c.push_reserved.new.self.items
-    c.self.invariant c.in_ok-push.ensures.items c.push_reserved.ensures.items (search rules)
+pub invariant_of-self : goal.invariant_of-self
+invariant_of-self c = named-operated c.self.inside.steps.items c.push_reserved.new.self.items c.args.step c.len-place.result c.self.inside.records.items c.push_reserved-2.new.self.items
+    c.self.invariant c.push_reserved.ensures.items c.push_reserved-2.ensures.items (search rules)

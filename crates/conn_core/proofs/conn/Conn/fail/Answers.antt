@@ -6,15 +6,21 @@ use Rattle.conn_core.proofs.Rooms.{room-fates}
 use Rattle.conn_core.proofs.conn.Conn.fail.Goals as goal
 
 pub refuse_all-requires : goal.refuse_all-requires
-refuse_all-requires c = record { room = omega (arith, ap length c.calls.ensures, room-fates _ _ _ c.self.invariant.room) }
+refuse_all-requires c = record {
+  room = omega (arith, ap length c.calls.ensures, room-fates _ _ _ c.self.invariant.room);
+}
 
 pub invariant_of-self : goal.invariant_of-self
-invariant_of-self c = (kept-failed-as c.events_keep.ensures.event _ _ _ c.self.inside.chain c.drop_all.new.self _ c.refuse_all.new.history _ _ _ _ c.self.invariant c.drop_all.ensures
+invariant_of-self c = (kept-failed-as c.events_keep.ensures.event _ _ _ c.self.inside.chain c.drop_all.new.self _
+    c.refuse_all.new.history _ _ _ _ c.self.invariant c.drop_all.ensures
     c.refuse_all.ensures.steps
-    (c.refuse_all.ensures.told ∙ ap (λ (calls : List StandingCall). c.self.inside.history.happenings ++ told_failure calls) c.calls.ensures) c.is_chain.ensures).kept
+    (c.refuse_all.ensures.told ∙ ap (λ (calls : List StandingCall). c.self.inside.history.happenings
+    ++ told_failure calls) c.calls.ensures) c.is_chain.ensures).kept
 
 pub returns-clause-failed : goal.returns-clause-failed
 returns-clause-failed c = step-from c.args.self.now _ _ _ _ _ _ _ c.self.view_is
-    (kept-failed-as c.events_keep.ensures.event _ _ _ c.self.inside.chain c.drop_all.new.self _ c.refuse_all.new.history _ _ _ _ c.self.invariant c.drop_all.ensures
+    (kept-failed-as c.events_keep.ensures.event _ _ _ c.self.inside.chain c.drop_all.new.self _ c.refuse_all.new.history
+    _ _ _ _ c.self.invariant c.drop_all.ensures
     c.refuse_all.ensures.steps
-    (c.refuse_all.ensures.told ∙ ap (λ (calls : List StandingCall). c.self.inside.history.happenings ++ told_failure calls) c.calls.ensures) c.is_chain.ensures)
+    (c.refuse_all.ensures.told ∙ ap (λ (calls : List StandingCall). c.self.inside.history.happenings
+    ++ told_failure calls) c.calls.ensures) c.is_chain.ensures)

@@ -16,21 +16,28 @@ pub invariant_of-self-2 : goal.invariant_of-self-2
 invariant_of-self-2 c =
     let room : 9 * length c.self.inside.chain.calls ≤ c.operate.new.self.room =
     omega (arith, ap length c.calls.ensures, c.len.ensures.count, c.in-Ok.ensures.room, c.operate.ensures.room) in
-    (kept-operated c.events_keep.ensures.event c.change_is_changed.ensures.only _ _ _ c.self.inside.chain c.change.new.chain c.self.inside.history c.operate.new.self _ _ c.change.new.steps.items _ _
+    (kept-operated c.events_keep.ensures.event c.change_is_changed.ensures.only _ _ _ c.self.inside.chain
+    c.change.new.chain c.self.inside.history c.operate.new.self _ _ c.change.new.steps.items _ _
     c.steps-place.result c.args.step c.self.invariant c.in_ok-change.ensures.changed c.is_chain.ensures
     (c.operate.ensures.steps ∙ ap (λ (s : List Step). s ++ c.args.step ∷ []) c.reserve.ensures.history_steps)
-    (c.operate.ensures.happenings ∙ ap (λ (h : List Happening). h ++ Op c.args.step ∷ []) c.reserve.ensures.happenings) room
+    (c.operate.ensures.happenings ∙ ap (λ (h : List Happening). h ++ Op c.args.step ∷ []) c.reserve.ensures.happenings)
+    room
     (c.steps-place.ensures ∙ ap length c.reserve.ensures.history_steps)
-    (c.in_ok-change.ensures.steps ∙ ap (places_after c.args.step (chain_of c.self.inside.chain).entries c.steps-place.result) c.reserve.ensures.steps)).kept
+    (c.in_ok-change.ensures.steps ∙ ap
+    (places_after c.args.step (chain_of c.self.inside.chain).entries c.steps-place.result)
+    c.reserve.ensures.steps)).kept
 
 pub returns-clause-operated : goal.returns-clause-operated
 returns-clause-operated c =
     let room : 9 * length c.self.inside.chain.calls ≤ c.operate.new.self.room =
     omega (arith, ap length c.calls.ensures, c.len.ensures.count, c.in-Ok.ensures.room, c.operate.ensures.room) in
     step-from c.args.self.now _ _ _ _ _ _ _ c.self.view_is
-    (kept-operated c.events_keep.ensures.event c.change_is_changed.ensures.only _ _ _ c.self.inside.chain c.change.new.chain c.self.inside.history c.operate.new.self _ _ c.change.new.steps.items _ _
+    (kept-operated c.events_keep.ensures.event c.change_is_changed.ensures.only _ _ _ c.self.inside.chain
+    c.change.new.chain c.self.inside.history c.operate.new.self _ _ c.change.new.steps.items _ _
     c.steps-place.result c.args.step c.self.invariant c.in_ok-change.ensures.changed c.is_chain.ensures
     (c.operate.ensures.steps ∙ ap (λ (s : List Step). s ++ c.args.step ∷ []) c.reserve.ensures.history_steps)
-    (c.operate.ensures.happenings ∙ ap (λ (h : List Happening). h ++ Op c.args.step ∷ []) c.reserve.ensures.happenings) room
+    (c.operate.ensures.happenings ∙ ap (λ (h : List Happening). h ++ Op c.args.step ∷ []) c.reserve.ensures.happenings)
+    room
     (c.steps-place.ensures ∙ ap length c.reserve.ensures.history_steps)
-    (c.in_ok-change.ensures.steps ∙ ap (places_after c.args.step (chain_of c.self.inside.chain).entries c.steps-place.result) c.reserve.ensures.steps))
+    (c.in_ok-change.ensures.steps ∙ ap
+    (places_after c.args.step (chain_of c.self.inside.chain).entries c.steps-place.result) c.reserve.ensures.steps))

@@ -1,0 +1,127 @@
+-- Sendings, one after another.
+use Rattle.std.proofs.Common.{◌≡◌, ℕ, ◌+◌, ◌≤◌, inl, inr, not, cond, if◌then◌else◌, List, [], ◌∷◌, ◌++◌, length, refl, ap, sym, ◌∙◌, subst, arith}
+use Rattle.std.specs.Prelude.{Some}
+use Rattle.std.proofs.lemmas.Bool.{eq-eqb, ne_eqb, cases_eq}
+use Rattle.std.proofs.lemmas.List.{append_assoc, append-nil}
+use Rattle.engine_core.specs.Moves.{Row, first_at, without_call}
+use Rattle.call_history.specs.Behind.{Behind, standing}
+use Rattle.call_history.specs.Draining.{SendsSome, one}
+use Rattle.call_history.specs.Events.{Comes, Course, changes, fails, has_turn, is_away, is_sent, link_failed, refused_for_link, rises, sends, stays, takes}
+use Rattle.call_history.specs.Rules.{Under}
+use Rattle.call_history.specs.Tickets.{tickets_behind}
+use Rattle.call_history.specs.declared.happening.Cause.TheVariants as cause
+use Rattle.call_history.specs.declared.happening.Happening.TheVariants.{Refused, Sent}
+use Rattle.call_history.specs.declared.happening.Taken.{Taken}
+use Rattle.conn_core.specs.Connections.{Connection, behind, course, frames, under}
+use Rattle.conn_core.specs.Steps.{Hands, Sends, Steps}
+use Rattle.conn_core.proofs.Handed.{past-failed}
+
+-- ---- a sending
+
+pub record Sending (old new : Course) (seq bytes : ℕ) : Type 0 where
+  pub position : ℕ
+  pub first : first_at position old.row ≡ Some (seq, position)
+  pub row : new.row ≡ without_call seq old.row
+  pub past : new.past ≡ Sent seq bytes ∷ old.past
+
+pub sent-in : (u : Under) (old new : Course) (seq bytes : ℕ) → Comes u old (sends seq bytes) new
+    → Sending old new seq bytes
+sent-in u old new seq bytes (takes call is running may new-is) = absurd cc
+sent-in u old new seq bytes (is_away method number addr is full new-is) = absurd cc
+sent-in u old new seq bytes (changes step is may new-is) = absurd cc
+sent-in u old new seq bytes (rises ms is above new-is) = absurd cc
+sent-in u old new seq bytes (stays ms is below new-is) = absurd cc
+sent-in u old new seq bytes (has_turn p s o e is has new-is) = absurd cc
+sent-in u old new seq bytes (is_sent s b is running ready new-is) =
+    let a : s ≡ seq = cc in
+    let d : b ≡ bytes = cc in
+    subst (λ (n : ℕ). Sending old new n bytes) a (subst (λ (n : ℕ). Sending old new s n) d
+    (record {
+      position = _;
+      first = ready.first;
+      row = ap (λ (c : Course). c.row) new-is;
+      past = ap (λ (c : Course). c.past) new-is;
+    }))
+sent-in u old new seq bytes (link_failed is new-is) = absurd cc
+
+-- one fewer stands behind it
+length-less : (seq : ℕ) (row : Row) → length (without_call seq row) ≤ length row
+length-less seq [] = omega arith
+length-less seq (call ∷ row) = elim (cases_eq seq call.0) [
+  | inl same ↦
+      let gone : without_call seq (call ∷ row) ≡ without_call seq row =
+      ap (λ b. if not b then call ∷ without_call seq row else without_call seq row) (eq-eqb seq call.0 same) in
+      omega (arith, ap length gone, length-less seq row)
+  | inr other ↦
+      let stays-in : without_call seq (call ∷ row) ≡ call ∷ without_call seq row =
+      ap (λ b. if not b then call ∷ without_call seq row else without_call seq row) (ne_eqb seq call.0 other) in
+      omega (arith, ap length stays-in, length-less seq row)
+]
+
+behind-other : (position seq : ℕ) (call : ℕ × ℕ) (row : Row) → (seq ≡ call.0 → ⊥)
+    → first_at position (call ∷ row) ≡ Some (seq, position) → first_at position row ≡ Some (seq, position)
+behind-other position seq call row other first = elim (cases_eq call.1 position) [
+  | inl here ↦
+      let is : Some call ≡ Some (seq, position) =
+      sym (ap (λ b. cond b (Some call) (first_at position row)) (eq-eqb call.1 position here)) ∙ first in
+      absurd (other (let number : seq ≡ call.0 = cc in number))
+  | inr there ↦ sym (ap (λ b. cond b (Some call) (first_at position row)) (ne_eqb call.1 position there)) ∙ first
+]
+
+length-gone : (position seq : ℕ) (row : Row) → first_at position row ≡ Some (seq, position)
+    → length (without_call seq row) + 1 ≤ length row
+length-gone position seq [] first = absurd cc
+length-gone position seq (call ∷ row) first = elim (cases_eq seq call.0) [
+  | inl same ↦
+      let gone : without_call seq (call ∷ row) ≡ without_call seq row =
+      ap (λ b. if not b then call ∷ without_call seq row else without_call seq row) (eq-eqb seq call.0 same) in
+      omega (arith, ap length gone, length-less seq row)
+  | inr other ↦
+      let stays-in : without_call seq (call ∷ row) ≡ call ∷ without_call seq row =
+      ap (λ b. if not b then call ∷ without_call seq row else without_call seq row) (ne_eqb seq call.0 other) in
+      omega (arith, ap length stays-in, length-gone position seq row (behind-other position seq call row other first))
+]
+
+pub fewer-standing : (before after : Connection) (seq : ℕ) → Sends before seq after
+    → length after.chain.row + 1 ≤ length before.chain.row
+fewer-standing before after seq sent =
+    let s = sent-in (under before) (course before) (course after) seq sent.0 sent.1 in
+    omega (arith, ap length s.row, length-gone s.position seq before.chain.row s.first)
+
+-- ---- tickets
+
+pub sent-tickets : (before after : Connection) (seq : ℕ) → Sends before seq after → (tenant window : ℕ)
+    → tickets_behind tenant window (behind after) ≡ tickets_behind tenant window (behind before)
+sent-tickets before after seq sent tenant window =
+    let s = sent-in (under before) (course before) (course after) seq sent.0 sent.1 in
+    ap (tickets_behind tenant window) s.past ∙ append-nil (tickets_behind tenant window (behind before))
+
+refused-tickets : (ts : List Taken) (past : Behind) (tenant window : ℕ)
+    → tickets_behind tenant window (refused_for_link ts past) ≡ tickets_behind tenant window past
+refused-tickets [] past tenant window = refl
+refused-tickets (t ∷ ts) past tenant window =
+    refused-tickets ts (Refused t.seq cause.Transport ∷ past) tenant window ∙ append-nil
+    (tickets_behind tenant window past)
+
+pub failed-tickets : (before after : Connection) → Steps before fails after → (tenant window : ℕ)
+    → tickets_behind tenant window (behind after) ≡ tickets_behind tenant window (behind before)
+failed-tickets before after step tenant window =
+    ap (tickets_behind tenant window) (past-failed before after step) ∙ refused-tickets (standing (behind before))
+    (behind before) tenant window
+
+-- ---- what comes behind
+
+abbrev pub SendsBehind : Under → Course → Course → Type 0
+SendsBehind u old now = (new : Course) → SendsSome u now new → SendsSome u old new
+
+pub sends-one : (u v : Under) (first old now : Course) (seq bytes : ℕ) → v ≡ u → SendsBehind u first old
+    → Comes v old (sends seq bytes) now → SendsBehind u first now
+sends-one u v first old now seq bytes same follows comes = λ new rest.
+    follows new (one old now new seq bytes (subst (λ (w : Under). Comes w old (sends seq bytes) now) same comes) rest)
+
+pub hands-both : (a b c : Connection) (x y z : List (List ℕ)) → Hands a b x y → Hands b c y z → Hands a c x z
+hands-both a b c x y z ab bc = (
+  ab.0 ++ bc.0,
+  bc.1 ∙ ap (λ fs. fs ++ bc.0) ab.1 ∙ append_assoc (frames a) ab.0 bc.0,
+  bc.2 ∙ ap (λ fs. fs ++ bc.0) ab.2 ∙ append_assoc x ab.0 bc.0,
+)

@@ -1,0 +1,61 @@
+use Rattle.std.proofs.Common.{inl, inr, refl, sym, ◌∙◌, subst, arith}
+use Rattle.call_history.specs.Draining.{SendsSome, none}
+use Rattle.call_history.specs.Events.{Comes, fails}
+use Rattle.call_history.specs.Rules.{Under}
+use Rattle.conn_core.specs.Connections.{Connection, course, under}
+use Rattle.conn_core.proofs.SentAll.{failed-tickets, fewer-standing, hands-both, sends-one, sent-tickets}
+use Rattle.conn_core.proofs.TurnByTurn.{same-trans, same-under}
+use Rattle.conn_core.proofs.draining.send_all.Goals as goal
+
+pub calls-smaller : goal.calls-smaller
+calls-smaller g c = omega
+    (arith, fewer-standing c.calls.conn c.send_ready.new.self c.in-Sent.seq c.in-Sent.ensures.sent)
+
+pub calls-preserved : goal.calls-preserved
+calls-preserved g c = (
+  sends-one (under c.args.conn.now) (under c.calls.conn) (course c.args.conn.now) (course c.calls.conn)
+      (course c.send_ready.new.self) c.in-Sent.seq c.in-Sent.ensures.sent.0
+      (same-under c.args.conn.now c.calls.conn c.calls.invariant.1) c.calls.invariant.0 c.in-Sent.ensures.sent.1,
+  same-trans c.args.conn.now c.calls.conn c.send_ready.new.self c.calls.invariant.1 c.in-Sent.ensures.same,
+  λ tenant window. sent-tickets c.calls.conn c.send_ready.new.self c.in-Sent.seq c.in-Sent.ensures.sent tenant window ∙
+      c.calls.invariant.2 tenant window,
+  hands-both c.args.conn.now c.calls.conn c.send_ready.new.self (g.L.Link.handed c.args.link.now)
+      (g.L.Link.handed c.calls.link) (g.L.Link.handed c.send_ready.new.link)
+      c.calls.invariant.3 c.in-Sent.ensures.handed,
+  c.in-Sent.ensures.given ∙ c.calls.invariant.4,
+  c.in-Sent.ensures.link_ended ∙ c.calls.invariant.5,
+  λ first h. c.in-Sent.ensures.same_link first (c.calls.invariant.6 first h),
+  c.in-Sent.ensures.cause.stays (λ e. absurd cc) ∙ c.calls.invariant.7,
+)
+
+pub returns-in-Nothing-clause-done : goal.returns-in-Nothing-clause-done
+returns-in-Nothing-clause-done g c =
+    λ is. subst (λ (x : Connection). SendsSome (under c.args.conn.now) (course c.args.conn.now) (course x))
+    (sym (c.in-Nothing.ensures.as_before (inl refl)))
+    (c.calls.invariant.0 (course c.calls.conn) (none (course c.calls.conn)))
+
+pub returns-in-Failed-clause-failed : goal.returns-in-Failed-clause-failed
+returns-in-Failed-clause-failed g c = λ is. record {
+  between = course c.calls.conn;
+  sent = c.calls.invariant.0 (course c.calls.conn) (none (course c.calls.conn));
+  failed = subst (λ (u : Under). Comes u (course c.calls.conn) fails (course c.send_ready.new.self))
+      (same-under c.args.conn.now c.calls.conn c.calls.invariant.1)
+      (c.in-Failed.ensures.failed refl);
+}
+
+pub returns-in-Failed-clause-tickets : goal.returns-in-Failed-clause-tickets
+returns-in-Failed-clause-tickets g c =
+    λ tenant window. failed-tickets c.calls.conn c.send_ready.new.self
+    (c.in-Failed.ensures.failed refl) tenant window ∙ c.calls.invariant.2 tenant window
+
+pub returns-in-Memory-clause-memory : goal.returns-in-Memory-clause-memory
+returns-in-Memory-clause-memory g c =
+    λ is. subst (λ (x : Connection). SendsSome (under c.args.conn.now) (course c.args.conn.now) (course x))
+    (sym (c.in-Memory.ensures.as_before (inr refl)))
+    (c.calls.invariant.0 (course c.calls.conn) (none (course c.calls.conn)))
+
+pub returns-in-Memory-clause-handed : goal.returns-in-Memory-clause-handed
+returns-in-Memory-clause-handed g c =
+    hands-both c.args.conn.now c.calls.conn c.send_ready.new.self (g.L.Link.handed c.args.link.now)
+    (g.L.Link.handed c.calls.link)
+    (g.L.Link.handed c.send_ready.new.link) c.calls.invariant.3 c.in-Memory.ensures.handed
