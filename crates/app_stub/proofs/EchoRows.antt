@@ -1,19 +1,19 @@
 -- What an echo makes of one request, on a small one.
-use Rattle.std.proofs.Common.{◌≡◌, ℕ, ◌+◌, ◌<◌, ◌≤◌, List, [], ◌∷◌, false, codes, refl, arith, lit≤, lit<}
+use Rattle.std.proofs.Common.{◌≡◌, ℕ, ◌+◌, ◌<◌, ◌≤◌, [], ◌∷◌, false, codes, refl, arith, lit≤, lit<}
 use Rattle.std.proofs.lemmas.List.Elements.{All-from_recursion}
 use Rattle.mrpc_table.specs.Node.{Node, no_fields, field, one, number}
 use Rattle.mrpc_table.specs.declared.table.Kind.TheVariants.{Uint64}
 use Rattle.mrpc_table.specs.declared.table.Label.TheVariants.{Plain}
 use Rattle.mrpc_table.specs.declared.table.Table.{Table}
 use Rattle.graph_form.specs.Malformed.{copied, is_copied}
-use Rattle.graph_form.specs.Placed.{IsFine, IsSound, LiesIn, Placed, first, nothing, word}
+use Rattle.graph_form.specs.Placed.{IsFine, IsSound, Placed, first, nothing, word}
 use Rattle.graph_form.specs.Roles.{value}
 use Rattle.graph_form.specs.declared.placed.Placed.{Placed as PlacedWords}
 use Rattle.graph_form.specs.declared.reason.Reason.TheVariants.{Address, Presence, Case, Length, Utf8, Narrow, Depth, Loads, NoMethod}
 use Rattle.graph_place.specs.Stored.{StandsIn}
 use Rattle.descriptor_ring.specs.declared.descriptor.Descriptor.{Descriptor}
 use Rattle.descriptor_ring.specs.Heaps.{no_heap}
-use Rattle.app_stub.specs.Echoing.{AllEchoes, Copying, Done, Echo, Echoes, HasReply, IsCopyOf, none_done, replies, slice_at, slice_words}
+use Rattle.app_stub.specs.Echoing.{AllEchoes, Copying, Done, Echo, HasReply, IsCopyOf, none_done, replies, slice_at, slice_words}
 
 -- ---- slices of 64 words, with a ring of four
 

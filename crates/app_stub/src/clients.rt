@@ -11,11 +11,11 @@ use crate::lines::{call, store_line};
 use crate::outgoing::Outgoing;
 use crate::port::{AppEnd, AppPort, AppSent};
 use crate::program::{Program, ProgramLine};
-use crate::stop::StopFlag;
 use crate::waiting::{self, Stopped};
 use descriptor_ring::NumberSender;
 use shared_heap::Writer;
 use std::sync::Wait;
+use stop_flag::StopFlag;
 
 /// Runs a client: it does the lines of its program, closes the ring of its calls, takes its notices to their closing,
 /// gives the block of each back, and closes the ring of the blocks that it gives back. Where a ring is full or empty it
@@ -25,6 +25,7 @@ pub fn client<R: Wait, F: StopFlag + Drop>(rt: &R, program: &Program, port: AppP
     requires program { IsClientProgram port.writer.heap.words program.now }
 
     ensures port { IsOfPort port result }
+    ensures reader { result.reader ≡ port.reader }
     ensures memory { result.memory ≡ false }
     ensures stopped { IfNone result.sent (F.may_be_set port.stop) }
 

@@ -4,10 +4,10 @@ ghost use Rattle.std.specs.Prelude.{◌≡◌, ◌<◌, ◌≤◌, ◌+◌, ◌^
 ghost use Rattle.app_stub.specs.Serving.{blocks_of};
 ghost use Rattle.app_stub.specs.Pairing.{IsDue, IsPaired};
 
-use crate::stop::StopFlag;
 use crate::waiting::{self, Stopped};
 use descriptor_ring::{NumberReceiver, NumberSender, Receiver};
 use std::sync::Wait;
+use stop_flag::StopFlag;
 
 // The receivers of an application.
 #[derive(Drop)]

@@ -1,6 +1,6 @@
 //! Echoes.
 
-ghost use Rattle.std.specs.Prelude.{◌≡◌, ◌⊎◌, ◌<◌, ◌≤◌, ◌+◌, ◌*◌, ◌^◌, ◌↔◌, ◌++◌, ◌∷◌, List, [], IfOk, IfErr, OnOk, IfSome, IfNone, IsTrue, MatchOption, length, map};
+ghost use Rattle.std.specs.Prelude.{◌≡◌, ◌⊎◌, ◌<◌, ◌≤◌, ◌+◌, ◌*◌, ◌^◌, ◌↔◌, ◌++◌, ◌∷◌, List, false, [], IfOk, IfErr, OnOk, IfSome, IfNone, IsTrue, MatchOption, length, map};
 ghost use Rattle.mrpc_table.specs.Calls.{message_of};
 ghost use Rattle.mrpc_table.specs.Normal.{IsNormal};
 ghost use Rattle.mrpc_table.specs.Valid.{IsValid};
@@ -24,7 +24,6 @@ use crate::lines::call;
 use crate::outgoing::Outgoing;
 use crate::port::{AppEnd, AppPort, AppSent};
 use crate::slices::{next_slice, words_of};
-use crate::stop::StopFlag;
 use crate::waiting;
 use descriptor_ring::{Descriptor, Sender};
 use graph_copy::CopyResult;
@@ -35,6 +34,7 @@ use mrpc_table::{MAX_LOADS, Memory, Sort, Table, Tree};
 use shared_heap::{Reader, Writer, calls_are_fresh, writers_go_on};
 use std::alloc::Global;
 use std::sync::Wait;
+use stop_flag::StopFlag;
 use untouched_copy::copy_message;
 
 // What an echo works with.
@@ -67,6 +67,7 @@ pub fn echo<R: Wait, F: StopFlag + Drop>(
 
     ensures port { IsOfPort port result }
     ensures stopped { IfNone result.sent (IsTrue result.memory ⊎ F.may_be_set port.stop) }
+    ensures memory { IfSome result.sent (λ _. result.memory ≡ false) }
 
     // Unless no memory was found, or the flag was seen set, it made copies of the requests that it was told of, which
     // with them determine its stores and its replies, and gave back the block of each notice.

@@ -7,10 +7,10 @@
 //! what its copy and its placing need. The crate stands on `shared_heap` and `descriptor_ring`, on `untouched_copy` and
 //! `graph_place` for echoes, and on what these stand on.
 //!
-//! What the layer above may use: an [`AppEnd`] is of the heaps and rings of its port. Unless the run was stopped, it has
-//! what its two senders left, and its stores, the calls that it submitted, each behind the stores before it, and the
-//! blocks that it gave back are those of its program and its notices; an echo's are those of its notices and its copies.
-//! Nothing that the service promises rests on this, since any thread may stand at a port.
+//! What the layer above may use: an [`AppEnd`] is of the heaps and rings of its port. Unless the run was stopped, it
+//! has what its two senders left, and its stores, the calls that it submitted, each behind the stores before it, and
+//! the blocks that it gave back are those of its program and its notices; an echo's are those of its notices and its
+//! copies. Nothing that the service promises rests on this, since any thread may stand at a port.
 #![tactic(auto)]
 
 mod clients;
@@ -23,7 +23,6 @@ mod port;
 mod program;
 mod servers;
 mod slices;
-mod stop;
 mod waiting;
 
 pub use clients::client;
@@ -32,4 +31,3 @@ pub use port::{AppEnd, AppPort, AppSent};
 pub use program::{MAX_LINES, MAX_REQUEST_STORES, MAX_STORES, Program, ProgramLine};
 pub use servers::server;
 pub use slices::slices_suffice;
-pub use stop::{RunFlag, StopFlag};

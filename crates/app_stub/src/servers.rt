@@ -10,11 +10,11 @@ use crate::lines::{call, store_line};
 use crate::outgoing::Outgoing;
 use crate::port::{AppEnd, AppPort, AppSent};
 use crate::program::{MAX_REQUEST_STORES, Program, ProgramLine};
-use crate::stop::StopFlag;
 use crate::waiting::{self, Stopped};
 use descriptor_ring::{Descriptor, Sender};
 use shared_heap::Writer;
 use std::sync::Wait;
+use stop_flag::StopFlag;
 
 /// Runs a server: it takes its notices to their closing, does the stores of its program for each request, replies to it
 /// unless its number is 0, and gives the block of each notice back; then it closes both its rings. A notice of a reply
@@ -24,6 +24,7 @@ pub fn server<R: Wait, F: StopFlag + Drop>(rt: &R, program: &Program, port: AppP
     requires program { IsServerProgram port.writer.heap.words program.now }
 
     ensures port { IsOfPort port result }
+    ensures reader { result.reader ≡ port.reader }
     ensures memory { result.memory ≡ false }
     ensures stopped { IfNone result.sent (F.may_be_set port.stop) }
 

@@ -2,13 +2,13 @@
 ghost use Rattle.std.specs.Prelude.{◌≡◌, ◌<◌, ◌≤◌, ◌^◌, ◌++◌, ◌∷◌, [], false, IfOk, IfSome, IfNone, IsNone, MatchOption, OnOk, OnErr, IsTrue, length};
 ghost use Rattle.descriptor_ring.specs.Rings.{IsOf};
 
-use crate::stop::StopFlag;
 use descriptor_ring::{
     Descriptor, Full, NumberReceiver, NumberSender, NumberTaken, NumbersSent, Receiver, Sender,
     Sent, Taken,
 };
 use std::sync::Wait;
 use std::thread;
+use stop_flag::StopFlag;
 
 // The stop flag was seen set.
 #[derive(Drop)]

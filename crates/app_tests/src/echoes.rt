@@ -9,12 +9,13 @@ ghost use Rattle.app_tests.specs.declared.port.TheConstants.{WORDS};
 use crate::port::{Service, open_port};
 use crate::service::{Served, serve};
 use crate::taking::Found;
-use app_stub::{AppEnd, AppPort, RunFlag, echo};
+use app_stub::{AppEnd, AppPort, echo};
 use mrpc_table::Table;
 use std::alloc::Global;
 use std::process::Abort;
 use std::sync::Wait;
 use std::thread::{Threads, join};
+use stop_flag::RunFlag;
 use table_text::read_table;
 
 const ALIKE: &[u8] = b"message M\nfield 1 plain uint64 a\nmethod 0 S Get M M\n";

@@ -11,11 +11,12 @@ ghost use Rattle.app_tests.specs.declared.port.TheConstants.{WORDS};
 use crate::port::Service;
 use crate::service::{Served, serve};
 use crate::taking::Taking;
-use app_stub::{AppEnd, AppPort, AppSent, Program, StopFlag, client, server};
+use app_stub::{AppEnd, AppPort, AppSent, Program, client, server};
 use descriptor_ring::NumberReceiver;
 use shared_heap::calls_are_fresh;
 use std::sync::Wait;
 use std::thread::{Threads, join};
+use stop_flag::StopFlag;
 
 // Runs a client beside a service. What the service took of its calls is what the program submits, all and in order,
 // each behind the stores before it; what it loaded for them is fresh for the program's stores; and the blocks that came

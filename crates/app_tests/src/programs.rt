@@ -6,10 +6,11 @@ ghost use Rattle.app_tests.specs.declared.port.TheConstants.{WORDS};
 use crate::joining::{run_client, run_server};
 use crate::port::open_port;
 use crate::taking::Taking;
-use app_stub::{Program, ProgramLine, RunFlag};
+use app_stub::{Program, ProgramLine};
 use mrpc_table::Memory;
 use std::alloc::Global;
 use std::process::Abort;
+use stop_flag::RunFlag;
 
 // One more line of a client.
 pub(crate) fn add(program: &mut Program, line: ProgramLine) -> Result<(), Memory>

@@ -8,13 +8,14 @@ ghost use Rattle.app_tests.specs.declared.port.TheConstants.{WORDS};
 use crate::port::{Service, open_port};
 use crate::programs::add;
 use crate::service::request;
-use app_stub::{AppPort, Program, ProgramLine, RunFlag, StopFlag, client};
+use app_stub::{AppPort, Program, ProgramLine, client};
 use descriptor_ring::{NumberSender, Sender};
 use mrpc_table::Memory;
 use shared_heap::Writer;
 use std::alloc::Global;
 use std::process::Abort;
 use std::sync::Wait;
+use stop_flag::{RunFlag, StopFlag};
 
 // A program of one line, so many times.
 fn repeated(alloc: Global, line: ProgramLine, times: u8) -> Result<Program, Memory>

@@ -4,7 +4,8 @@ use std::alloc::{AllocError, Global};
 use std::process::Abort;
 use std::sync::Wait;
 use std::thread::Threads;
-use worker_pool::{NeverStops, Visit, Visited, run};
+use stop_flag::NeverStops;
+use worker_pool::{Visit, Visited, run};
 
 // An item that is to be visited as often as a plan says at its number.
 #[derive(Drop)]

@@ -3,8 +3,8 @@ ghost use Rattle.std.specs.Prelude.{◌≡◌, ◌≤◌, length};
 use std::alloc::Global;
 use std::process::Abort;
 use std::sync::Wait;
-use std::sync::atomic::{AtomicBool, Ordering};
 use std::thread::Threads;
+use stop_flag::{RunFlag, StopFlag};
 use worker_pool::{Ran, Visit, Visited, run};
 
 // An item that is never over. One of them sets the flag at its third visit.
@@ -12,7 +12,7 @@ use worker_pool::{Ran, Visit, Visited, run};
 struct Endless<'f> {
     number: usize,
     visits: u64,
-    stop: &'f AtomicBool,
+    stop: &'f RunFlag,
 }
 
 impl<'f> Visited for Endless<'f> {
@@ -25,13 +25,13 @@ impl<'f> Visited for Endless<'f> {
     fn visit(&mut self) -> Visit {
         self.visits = self.visits.saturating_add(1);
         if self.number == 1 && self.visits == 3 {
-            self.stop.store(true, Ordering::SeqCst);
+            self.stop.set();
         }
         Visit::Worked
     }
 }
 
-fn items<'f>(rt: &impl Abort, alloc: Global, count: usize, stop: &'f AtomicBool) -> Vec<Endless<'f>>
+fn items<'f>(rt: &impl Abort, alloc: Global, count: usize, stop: &'f RunFlag) -> Vec<Endless<'f>>
     ensures { length result.items ≡ count }
 {
     let mut items = Vec::with_capacity(alloc, count).expect(rt, "memory");
@@ -55,7 +55,7 @@ fn came_back(ran: &Ran<Endless>, count: usize, visits: u64) -> bool {
 fn assert_stops<R: Abort + Threads + Wait + Sync>(rt: &R, alloc: Global, workers: usize)
     requires { (1 ≤ workers) × (workers ≤ 8) }
 {
-    let stop = AtomicBool::new(false);
+    let stop = RunFlag::new(alloc).expect(rt, "memory");
     let items = items(rt, alloc, 5, &stop);
     let ran = run(rt, alloc, items, workers, &stop).expect(rt, "memory");
     assert!(rt; ran.stopped);
@@ -74,7 +74,8 @@ fn a_flag_that_a_visit_sets_stops_many_workers(rt: HostRuntime) {
 
 // A flag that was set before stops a run before its first visit.
 fn assert_not_begun<R: Abort + Threads + Wait + Sync>(rt: &R, alloc: Global) {
-    let stop = AtomicBool::new(true);
+    let stop = RunFlag::new(alloc).expect(rt, "memory");
+    stop.set();
     let items = items(rt, alloc, 3, &stop);
     let ran = run(rt, alloc, items, 2, &stop).expect(rt, "memory");
     assert!(rt; ran.stopped);

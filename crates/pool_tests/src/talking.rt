@@ -8,7 +8,8 @@ use std::process::Abort;
 use std::sync::Wait;
 use std::thread;
 use std::thread::Threads;
-use worker_pool::{NeverStops, Visit, Visited, run};
+use stop_flag::NeverStops;
+use worker_pool::{Visit, Visited, run};
 
 // A connection that sends so many frames, one at each visit, and then closes its link.
 #[derive(Drop)]

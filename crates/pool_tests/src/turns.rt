@@ -5,7 +5,8 @@ use std::process::Abort;
 use std::sync::Wait;
 use std::sync::atomic::{AtomicU64, Ordering};
 use std::thread::Threads;
-use worker_pool::{NeverStops, Visit, Visited, run};
+use stop_flag::NeverStops;
+use worker_pool::{Visit, Visited, run};
 
 // An item that draws a ticket at each visit, and counts those that weren't its turn.
 #[derive(Drop)]

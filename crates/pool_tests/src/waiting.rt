@@ -6,7 +6,8 @@ use std::sync::Wait;
 use std::sync::atomic::{AtomicBool, AtomicU64, Ordering};
 use std::thread::Threads;
 use std::time::Duration;
-use worker_pool::{NeverStops, Visit, Visited, run};
+use stop_flag::NeverStops;
+use worker_pool::{Visit, Visited, run};
 
 // An item that has nothing to do until another one has slept, which it does at its only visit.
 #[derive(Drop)]

@@ -1,3 +1,4 @@
 mod Lists
 mod Moves
 mod Orders
+mod Rows

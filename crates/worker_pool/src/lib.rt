@@ -3,8 +3,8 @@
 //! [`run`] takes some items, each a connection with everything that belongs to it, and starts workers. A worker takes
 //! an item from the one queue, by value, makes one visit, and puts it back unless it is over; no lock holds an item.
 //! Where nothing is to be done, a worker spins a little, then yields, and then sleeps in growing steps. The run ends
-//! once all items are over, or once a [`StopFlag`] is set. It stands on the ruled array queue of `crossbeam_queue`
-//! alone.
+//! once all items are over, or once the stop flag is set. It stands on the ruled array queue of `crossbeam_queue` and on
+//! `stop_flag`.
 //!
 //! The layer above uses one contract: each item comes back once, at its place, and is then the item that was handed in,
 //! later on, as the item's own trait [`Visited`] says this; and where the run wasn't stopped, each is over. Behind it
@@ -19,12 +19,10 @@ mod laws;
 mod limits;
 mod pauses;
 mod pool;
-mod stop;
 mod visited;
 mod worker;
 
 pub use laws::items_stand_once;
 pub use limits::{MOST_ITEMS, MOST_WORKERS};
 pub use pool::{Ran, run};
-pub use stop::{NeverStops, StopFlag};
 pub use visited::{Visit, Visited};

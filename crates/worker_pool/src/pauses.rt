@@ -4,8 +4,9 @@ use std::sync::atomic::AtomicU64;
 use std::time::Duration;
 use std::{hint, thread};
 
-// So often in a row does a worker that finds nothing to do look again at once, and so often after giving its processor
-// away. Behind these it sleeps.
+// A worker pauses once it has found nothing to do at as many items in a row as are left, or has found the queue empty.
+// So many pauses in a row it looks again at once, and at so many more it gives its processor away. Behind these it
+// sleeps.
 const SPINS: u32 = 64;
 
 const YIELDS: u32 = 64;
@@ -18,6 +19,8 @@ const LONGEST_SLEEP: u64 = 1000;
 // The pauses of one worker since it last did something.
 #[derive(Drop)]
 pub(crate) struct Pauses {
+    // Visits since the last pause that had nothing to do.
+    idle: u64,
     count: u32,
     sleep: u64,
     // No one wakes a sleeper: each sleep is short.
@@ -27,6 +30,7 @@ pub(crate) struct Pauses {
 impl Pauses {
     pub(crate) fn new() -> Pauses {
         Pauses {
+            idle: 0,
             count: 0,
             sleep: FIRST_SLEEP,
             word: AtomicU64::new(0),
@@ -35,12 +39,22 @@ impl Pauses {
 
     // Something was done.
     pub(crate) fn reset(&mut self) {
+        self.idle = 0;
         self.count = 0;
         self.sleep = FIRST_SLEEP;
     }
 
-    // Nothing was to be done.
+    // An item had nothing to do, of so many that aren't over.
+    pub(crate) fn after_idle<R: Wait>(&mut self, rt: &R, left: u64) {
+        self.idle = self.idle.saturating_add(1);
+        if self.idle >= left {
+            self.pause(rt);
+        }
+    }
+
+    // No item has anything to do now.
     pub(crate) fn pause<R: Wait>(&mut self, rt: &R) {
+        self.idle = 0;
         self.count = self.count.saturating_add(1);
         if self.count <= SPINS {
             hint::spin_loop();

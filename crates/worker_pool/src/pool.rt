@@ -9,7 +9,6 @@ ghost use Rattle.worker_pool.specs.declared.limits.TheConstants.{MOST_ITEMS, MOS
 
 use crate::hand::{Enters, Line, LinePass, Numbered, Shares};
 use crate::limits::{MOST_ITEMS, MOST_WORKERS};
-use crate::stop::StopFlag;
 use crate::visited::Visited;
 use crate::worker::Worker;
 use std::alloc::{AllocError, Global};
@@ -17,6 +16,7 @@ use std::sync::Wait;
 use std::sync::atomic::AtomicU64;
 use std::thread;
 use std::thread::Threads;
+use stop_flag::StopFlag;
 
 /// What a run gives back.
 #[derive(Drop)]
@@ -44,7 +44,7 @@ pub fn run<R: Threads + Wait + Sync, T: Visited + Send + Drop, S: StopFlag>(
     requires few_workers { workers ≤ MOST_WORKERS }
     ensures each { IfOk result (λ ran. AllZip (IsLater T.since) items.items ran.items.items) }
     ensures over { IfOk result (λ ran. ran.stopped ≡ false → All T.over ran.items.items) }
-    ensures stopped { IfOk result (λ ran. ran.stopped ≡ true → S.may_stop stop.now) }
+    ensures stopped { IfOk result (λ ran. ran.stopped ≡ true → S.may_be_set stop.now) }
 {
     let count = items.len();
     let back = Vec::with_capacity(alloc, count)?;
@@ -159,14 +159,14 @@ fn work_beside<R: Threads + Wait + Sync, T: Visited + Send + Drop, S: StopFlag>(
     ensures len { IfOk result (λ ended. length ended.items ≡ length jobs.items) }
     ensures of_run { (firsts : List T) → All (Knows firsts) jobs.items
         → IfOk result (λ ended. All (IsOfRun line.now firsts) ended.items) }
-    ensures ended { IfOk result (λ ended. All (HasEnded T.since T.over (S.may_stop stop.now)) ended.items) }
+    ensures ended { IfOk result (λ ended. All (HasEnded T.since T.over (S.may_be_set stop.now)) ended.items) }
 {
     thread::map_vec(
         rt,
         jobs,
         &|worker: Worker<T>| -> Worker<T>
             requires fresh { IsFresh T.since T.over line.now worker }
-            ensures ended { HasEnded T.since T.over (S.may_stop stop.entry.now) result }
+            ensures ended { HasEnded T.since T.over (S.may_be_set stop.entry.now) result }
             ensures of_run { IsOfRun line.entry.now (view worker.pass).firsts result }
         { worker.work(rt, line, left, stop) },
     )
@@ -181,13 +181,13 @@ fn absorb_all<T: Visited + Drop, S: StopFlag>(
 )
     requires pass { IsLinePass line.now all.old.pass }
     requires part { 0 < (view all.old.pass).parts }
-    requires all { HasEnded T.since T.over (S.may_stop _stop.now) all.old }
+    requires all { HasEnded T.since T.over (S.may_be_set _stop.now) all.old }
     requires of_run { All (IsOfRun line.now (view all.old.pass).firsts) ended.items }
-    requires ended { All (HasEnded T.since T.over (S.may_stop _stop.now)) ended.items }
+    requires ended { All (HasEnded T.since T.over (S.may_be_set _stop.now)) ended.items }
     ensures pass { IsSamePass all.old.pass all.new.pass }
     ensures parts { (view all.new.pass).parts ≡ (view all.old.pass).parts + length ended.items }
     ensures firsts { (view all.new.pass).firsts ≡ (view all.old.pass).firsts }
-    ensures all { HasEnded T.since T.over (S.may_stop _stop.now) all.new }
+    ensures all { HasEnded T.since T.over (S.may_be_set _stop.now) all.new }
 {
     while let Some(worker) = ended.pop() {
         all.absorb(line, worker);

@@ -9,12 +9,13 @@ ghost use Rattle.worker_pool.specs.Rule.{IsOneOf, StandOnce, Took, all_parts, ha
 ghost use Rattle.worker_pool.specs.Workers.{GoesOn, HasEnded, IsLinePass, IsWorker};
 
 use crate::hand::{Line, LinePass, Numbered, Returns, Shares, Takes};
+use crate::limits::MOST_ITEMS;
 use crate::pauses::Pauses;
 use crate::pool::Ran;
-use crate::stop::StopFlag;
 use crate::visited::{Visit, Visited};
 use std::sync::Wait;
 use std::sync::atomic::{AtomicU64, Ordering};
+use stop_flag::StopFlag;
 
 // What a turn at the queue came to.
 #[derive(Clone, Copy, PartialEq, Eq)]
@@ -133,7 +134,7 @@ impl<T: Visited + Drop> Worker<T> {
         requires part { 0 < (view self.pass).parts }
         requires worker { IsWorker T.since T.over self }
         requires fresh { self.stopped ≡ false }
-        ensures ended { HasEnded T.since T.over (S.may_stop stop.now) result }
+        ensures ended { HasEnded T.since T.over (S.may_be_set stop.now) result }
         ensures goes_on { GoesOn self result }
     {
         let mut pauses = Pauses::new();
@@ -148,7 +149,7 @@ impl<T: Visited + Drop> Worker<T> {
                     pauses.reset();
                 }
                 Turn::Worked => pauses.reset(),
-                Turn::Idle => pauses.pause(rt),
+                Turn::Idle => pauses.after_idle(rt, left.load(Ordering::SeqCst)),
                 Turn::Empty if left.load(Ordering::SeqCst) == 0 => break,
                 Turn::Empty => pauses.pause(rt),
             }
@@ -160,8 +161,8 @@ impl<T: Visited + Drop> Worker<T> {
     pub(crate) fn finish<R: Wait, S: StopFlag>(&mut self, rt: &R, line: &Line<T>, stop: &S)
         requires pass { IsLinePass line.now self.old.pass }
         requires all { (view self.old.pass).parts ≡ all_parts }
-        requires ended { HasEnded T.since T.over (S.may_stop stop.now) self.old }
-        ensures ended { HasEnded T.since T.over (S.may_stop stop.now) self.new }
+        requires ended { HasEnded T.since T.over (S.may_be_set stop.now) self.old }
+        ensures ended { HasEnded T.since T.over (S.may_be_set stop.now) self.new }
         ensures firsts { (view self.new.pass).firsts ≡ (view self.old.pass).firsts }
         ensures once { StandOnce (view self.new.pass).firsts (numbers_of self.new.kept.items) }
     {
@@ -172,7 +173,7 @@ impl<T: Visited + Drop> Worker<T> {
             }
             match self.turn_unless_stopped(rt, line) {
                 Turn::Empty => return,
-                Turn::Idle => pauses.pause(rt),
+                Turn::Idle => pauses.after_idle(rt, MOST_ITEMS as u64),
                 Turn::Worked | Turn::Kept => pauses.reset(),
             }
         }

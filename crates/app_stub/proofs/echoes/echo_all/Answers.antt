@@ -1,4 +1,5 @@
 use Rattle.std.proofs.Common.{ap, sym, refl, map, length, arith, ◌∙◌}
+use Rattle.app_stub.specs.Desks.{echo_of}
 use Rattle.app_stub.specs.Serving.{submission_of}
 use Rattle.app_stub.proofs.Echoings.{nothing_echoed}
 use Rattle.app_stub.proofs.echoes.echo_all.Goals as goal
@@ -19,5 +20,5 @@ loop-init g c =
       omega (arith, ap length new.taken),
       omega (arith, ap length new.sent),
       new.reclaimed ∙ sym new.numbers,
-      nothing_echoed _ _ _ _ _ new.taken new.stored (ap (map submission_of) new.sent) new.loaded (c.calls_are_fresh.ensures.none c.args.desk.now.reader.known),
+      nothing_echoed (echo_of c.args.table.now c.args.desk.now) c.args.delivery.now.notices.taken c.args.desk.now.writer.stores (map submission_of c.args.outgoing.now.sender.sent) c.args.desk.now.reader new.taken new.stored (ap (map submission_of) new.sent) new.loaded (c.calls_are_fresh.ensures.none c.args.desk.now.reader.known),
     )

@@ -11,9 +11,9 @@ invariant-loop-worker g l =
     × (0 < (view l.all.pass).parts)
     × ((view l.all.pass).parts + length l.ended.items ≡ (view l.fn.all.pass).parts + length l.fn.ended.items)
     × ((view l.all.pass).firsts ≡ (view l.fn.all.pass).firsts)
-    × HasEnded g.T.Visited.since g.T.Visited.over (g.S.StopFlag.may_stop l._stop) l.all
+    × HasEnded g.T.Visited.since g.T.Visited.over (g.S.StopFlag.may_be_set l._stop) l.all
     × All (IsOfRun l.line (view l.fn.all.pass).firsts) l.ended.items
-    × All (HasEnded g.T.Visited.since g.T.Visited.over (g.S.StopFlag.may_stop l._stop)) l.ended.items
+    × All (HasEnded g.T.Visited.since g.T.Visited.over (g.S.StopFlag.may_be_set l._stop)) l.ended.items
 
 abbrev pub decreases-loop-worker : goal.decreases-loop-worker
 decreases-loop-worker g l = length l.ended.items

@@ -8,5 +8,5 @@ abbrev pub invariant-loop : goal.invariant-loop
 invariant-loop g l =
     IsLinePass l.line l.self.pass
     × ((view l.self.pass).parts ≡ all_parts)
-    × HasEnded g.T.Visited.since g.T.Visited.over (g.S.StopFlag.may_stop l.stop) l.self
+    × HasEnded g.T.Visited.since g.T.Visited.over (g.S.StopFlag.may_be_set l.stop) l.self
     × ((view l.self.pass).firsts ≡ (view l.fn.self.pass).firsts)
