@@ -1,7 +1,7 @@
 -- The texts and the frames of small histories that were worked out by hand.
 use Rattle.std.proofs.Common.{◌≡◌, ℕ, List, [], ◌∷◌, codes, refl, true}
 use Rattle.std.specs.Fmt.{digits}
-use Rattle.std.specs.Prelude.{Some, None}
+use Rattle.std.specs.Prelude.{Some, None, ℕ, List, [], ◌∷◌, ◌++◌}
 use Rattle.hex.specs.Hex.{encode_with}
 use Rattle.mrpc_table.specs.Node.{Node, no_fields, field, one, number}
 use Rattle.mrpc_table.specs.declared.call.Sort.TheVariants.{Request}
@@ -22,7 +22,7 @@ use Rattle.call_history.specs.declared.happening.Happening.{Happening}
 use Rattle.call_history.specs.declared.happening.Happening.TheVariants.{Took, Away, Op, Moment, Charged, Drawn, Counted, Redacted, Sent, Refused}
 use Rattle.call_history.specs.declared.happening.TookCopy.{TookCopy}
 use Rattle.call_history.specs.declared.happening.TookCopy.TheVariants.{Copy, Malformed}
-use Rattle.audit_text.specs.Frames.{frames}
+use Rattle.call_history.specs.Frames.{frames}
 use Rattle.audit_text.specs.Lines.{audit, stands_line, transport}
 
 -- a message of these fields, and a method that takes it
@@ -71,7 +71,12 @@ audit-sent : audit table sent ≡ codes "took 1 1 0 0 2 1 1 copy 089601\nsent 1 
 unfolding varint groups digits encode_with
 audit-sent = refl
 
-frames-sent : frames table sent ≡ 0 ∷ 0 ∷ 0 ∷ 3 ∷ 1 ∷ 1 ∷ 0 ∷ 0 ∷ 0 ∷ 0 ∷ 0 ∷ 1 ∷ 0 ∷ 0 ∷ 0 ∷ 1 ∷ 8 ∷ 150 ∷ 1 ∷ []
+-- frames, one behind another
+abbrev joined : List (List ℕ) → List ℕ
+joined [] = []
+joined (frame ∷ frames) = frame ++ joined frames
+
+frames-sent : joined (frames table sent) ≡ 0 ∷ 0 ∷ 0 ∷ 3 ∷ 1 ∷ 1 ∷ 0 ∷ 0 ∷ 0 ∷ 0 ∷ 0 ∷ 1 ∷ 0 ∷ 0 ∷ 0 ∷ 1 ∷ 8 ∷ 150 ∷ 1 ∷ []
 unfolding varint groups header_bytes
 frames-sent = refl
 
@@ -84,7 +89,7 @@ audit-answered : audit table answered ≡ codes "took 1 1 0 0 2 0 1 copy -\ntook
 unfolding varint groups digits encode_with
 audit-answered = refl
 
-frames-answered : frames table answered ≡ 0 ∷ 0 ∷ 0 ∷ 0 ∷ 1 ∷ 1 ∷ 0 ∷ 0 ∷ 0 ∷ 0 ∷ 0 ∷ 1 ∷ 0 ∷ 0 ∷ 0 ∷ 1 ∷ 0 ∷ 0 ∷ 0 ∷ 2 ∷ 2 ∷ 1 ∷ 0 ∷ 0 ∷ 0 ∷ 0 ∷ 0 ∷ 1 ∷ 0 ∷ 0 ∷ 0 ∷ 1 ∷ 8 ∷ 5 ∷ []
+frames-answered : joined (frames table answered) ≡ 0 ∷ 0 ∷ 0 ∷ 0 ∷ 1 ∷ 1 ∷ 0 ∷ 0 ∷ 0 ∷ 0 ∷ 0 ∷ 1 ∷ 0 ∷ 0 ∷ 0 ∷ 1 ∷ 0 ∷ 0 ∷ 0 ∷ 2 ∷ 2 ∷ 1 ∷ 0 ∷ 0 ∷ 0 ∷ 0 ∷ 0 ∷ 1 ∷ 0 ∷ 0 ∷ 0 ∷ 1 ∷ 8 ∷ 5 ∷ []
 unfolding varint groups header_bytes
 frames-answered = refl
 
@@ -97,7 +102,7 @@ audit-denied : audit table denied ≡ codes "op 1 attach 0 acl acl\ntook 1 1 0 0
 unfolding varint groups digits encode_with
 audit-denied = refl
 
-frames-denied : frames table denied ≡ []
+frames-denied : joined (frames table denied) ≡ []
 frames-denied = refl
 
 -- ---- an address outside the heap, and a method that isn't there
@@ -110,7 +115,7 @@ audit-malformed : audit table malformed ≡ codes "took 1 1 0 0 14 1 1 copy 0805
 unfolding varint groups digits encode_with
 audit-malformed = refl
 
-frames-malformed : frames table malformed ≡ 0 ∷ 0 ∷ 0 ∷ 2 ∷ 1 ∷ 1 ∷ 0 ∷ 0 ∷ 0 ∷ 0 ∷ 0 ∷ 1 ∷ 0 ∷ 0 ∷ 0 ∷ 1 ∷ 8 ∷ 5 ∷ []
+frames-malformed : joined (frames table malformed) ≡ 0 ∷ 0 ∷ 0 ∷ 2 ∷ 1 ∷ 1 ∷ 0 ∷ 0 ∷ 0 ∷ 0 ∷ 0 ∷ 1 ∷ 0 ∷ 0 ∷ 0 ∷ 1 ∷ 8 ∷ 5 ∷ []
 unfolding varint groups header_bytes
 frames-malformed = refl
 
@@ -143,7 +148,7 @@ audit-upgraded : audit table upgraded ≡ codes "op 1 attach 0 acl p1\nop 1 atta
 unfolding varint groups digits encode_with
 audit-upgraded = refl
 
-frames-upgraded : frames table upgraded ≡ 0 ∷ 0 ∷ 0 ∷ 2 ∷ 1 ∷ 1 ∷ 0 ∷ 0 ∷ 0 ∷ 0 ∷ 0 ∷ 1 ∷ 0 ∷ 0 ∷ 0 ∷ 2 ∷ 8 ∷ 7 ∷ []
+frames-upgraded : joined (frames table upgraded) ≡ 0 ∷ 0 ∷ 0 ∷ 2 ∷ 1 ∷ 1 ∷ 0 ∷ 0 ∷ 0 ∷ 0 ∷ 0 ∷ 1 ∷ 0 ∷ 0 ∷ 0 ∷ 2 ∷ 8 ∷ 7 ∷ []
 unfolding varint groups header_bytes
 frames-upgraded = refl
 
@@ -202,6 +207,6 @@ audit-cleared : audit two_fields cleared ≡ codes "op 1 attach 0 acl acl\nop 1 
 unfolding varint groups digits encode_with
 audit-cleared = refl
 
-frames-cleared : frames two_fields cleared ≡ 0 ∷ 0 ∷ 0 ∷ 2 ∷ 1 ∷ 1 ∷ 0 ∷ 0 ∷ 0 ∷ 0 ∷ 0 ∷ 1 ∷ 0 ∷ 0 ∷ 0 ∷ 1 ∷ 8 ∷ 7 ∷ []
+frames-cleared : joined (frames two_fields cleared) ≡ 0 ∷ 0 ∷ 0 ∷ 2 ∷ 1 ∷ 1 ∷ 0 ∷ 0 ∷ 0 ∷ 0 ∷ 0 ∷ 1 ∷ 0 ∷ 0 ∷ 0 ∷ 1 ∷ 8 ∷ 7 ∷ []
 unfolding varint groups header_bytes
 frames-cleared = refl

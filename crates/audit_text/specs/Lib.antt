@@ -1,4 +1,3 @@
-pub mod Frames
 pub mod Labels
 pub mod Lines
 pub mod Pieces

@@ -10,7 +10,7 @@ ghost use Rattle.wire_base.specs.Encoding.{encoding};
 ghost use Rattle.call_history.specs.Legal.{History, behind};
 ghost use Rattle.call_history.specs.declared.happening.Happened.{Happened};
 ghost use Rattle.audit_text.specs.Labels.{Declared};
-ghost use Rattle.audit_text.specs.Frames.{frames, sent_frame};
+ghost use Rattle.call_history.specs.Frames.{frames, handed_by};
 ghost use Rattle.audit_text.specs.Lines.{audit, audit_line, happening_words, stands_line, standing_words, IsCutInto};
 ghost use Rattle.audit_text.specs.Writable.{IsStanding, IsWritable};
 ghost use Rattle.audit_text.specs.declared.holding.Holding.{Holding};
@@ -58,5 +58,5 @@ pub fn an_encoding_is_bytes()
 pub fn texts_go_on()
     ensures lines { (T : Table) (h k : History) → audit T (h ++ k) ≡ audit T h ++ audit T k }
     ensures frames { (T : Table) (h : History) (x : Happened)
-        → frames T (h ++ x ∷ []) ≡ frames T h ++ sent_frame T x.conn (behind x.conn h) x.what }
+        → frames T (h ++ x ∷ []) ≡ frames T h ++ handed_by T x.conn x.what (behind x.conn h) }
 {}

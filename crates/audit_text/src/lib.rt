@@ -1,10 +1,9 @@
-//! The audit text of histories: a line for each happening, the lines of the calls that stand, and the frames that a
-//! history handed over (this project's own format).
+//! The audit text of histories: a line for each happening, and the lines of the calls that stand (this project's own
+//! format).
 //!
-//! `specs/Lines.antt` says which line tells a happening, and `specs/Frames.antt` which frame a sending hands over: that
-//! of the form of the call, as what is behind has left it. `specs/Writable.antt` says which happenings a text can tell,
-//! under the [`Policies`] that were declared. It stands on histories, on frames, and on the encoding and its meaning.
-//! The layers above use two contracts: what is appended for a happening is its line, and a text tells one history.
+//! `specs/Lines.antt` says which line tells a happening, `specs/Writable.antt` which happenings a text can tell, under the
+//! [`Policies`] that were declared. It stands on histories, and on the encoding and its meaning. The layers above use two
+//! contracts: what is appended for a happening is its line, and a text tells one history.
 #![tactic(auto)]
 
 mod audit;

@@ -1,0 +1,10 @@
+mod Causes
+mod CopyLines
+mod Digits
+mod Histories
+mod KindLines
+mod LineParts
+mod Said
+mod Stands
+mod WholeLines
+mod Words
