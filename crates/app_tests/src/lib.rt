@@ -1,18 +1,15 @@
-//! Tests of applications on a port, with a plain service in a thread of its own. It has no code of its own, and nothing
-//! stands on it.
+//! Tests of applications on a port, with a plain service in a thread of its own. The service is code of its own; nothing
+//! stands on the crate.
 #![tactic(auto)]
 
 #[cfg(test)]
 mod echoes;
 #[cfg(test)]
 mod joining;
-#[cfg(test)]
 mod port;
 #[cfg(test)]
 mod programs;
-#[cfg(test)]
 mod service;
 #[cfg(test)]
 mod stops;
-#[cfg(test)]
 mod taking;
