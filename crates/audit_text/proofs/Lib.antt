@@ -1,7 +1,6 @@
 mod Bytes
 mod Distinct
 mod EncodedBytes
-mod Frames
 mod Pieces
 mod Rows
 mod Same

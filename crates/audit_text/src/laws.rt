@@ -7,10 +7,9 @@ ghost use Rattle.mrpc_table.specs.Normal.{IsNormal};
 ghost use Rattle.mrpc_table.specs.Valid.{IsValid};
 ghost use Rattle.mrpc_table.specs.declared.table.Table.{Table};
 ghost use Rattle.wire_base.specs.Encoding.{encoding};
-ghost use Rattle.call_history.specs.Legal.{History, behind};
+ghost use Rattle.call_history.specs.Legal.{History};
 ghost use Rattle.call_history.specs.declared.happening.Happened.{Happened};
 ghost use Rattle.audit_text.specs.Labels.{Declared};
-ghost use Rattle.call_history.specs.Frames.{frames, handed_by};
 ghost use Rattle.audit_text.specs.Lines.{audit, audit_line, happening_words, stands_line, standing_words, IsCutInto};
 ghost use Rattle.audit_text.specs.Writable.{IsStanding, IsWritable};
 ghost use Rattle.audit_text.specs.declared.holding.Holding.{Holding};
@@ -54,9 +53,7 @@ pub fn an_encoding_is_bytes()
         → IsBytes (encoding T msg t) }
 {}
 
-/// The texts of a history that goes on.
+/// The text of a history that goes on.
 pub fn texts_go_on()
-    ensures lines { (T : Table) (h k : History) → audit T (h ++ k) ≡ audit T h ++ audit T k }
-    ensures frames { (T : Table) (h : History) (x : Happened)
-        → frames T (h ++ x ∷ []) ≡ frames T h ++ handed_by T x.conn x.what (behind x.conn h) }
+    ensures { (T : Table) (h k : History) → audit T (h ++ k) ≡ audit T h ++ audit T k }
 {}

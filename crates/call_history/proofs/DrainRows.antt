@@ -9,9 +9,10 @@ use Rattle.engine_core.specs.declared.outcome.Outcome.TheVariants as outcomes
 use Rattle.engine_core.specs.declared.op.Op.TheVariants.{Attach}
 use Rattle.engine_core.specs.declared.policy.Policy.TheVariants.{Access, Redact}
 use Rattle.call_history.specs.Behind.{Behind}
-use Rattle.call_history.specs.Draining.{at_rest, again, Turns, is_idle, is_held, redacts, goes, is_over, next, begins_again, none, one, Drains}
-use Rattle.call_history.specs.Events.{Course, is_sent}
-use Rattle.call_history.specs.declared.happening.Happening.TheVariants.{Took, Op, Charged, Sent}
+use Rattle.call_history.specs.Draining.{at_rest, again, Turns, is_idle, is_held, redacts, goes, is_over, next, begins_again, none, one, Drains, FailsToDrain}
+use Rattle.call_history.specs.Events.{Course, is_sent, link_failed}
+use Rattle.call_history.specs.declared.happening.Happening.TheVariants.{Took, Op, Charged, Sent, Refused}
+use Rattle.call_history.specs.declared.happening.Cause.TheVariants as cause
 use Rattle.policy_rate.specs.declared.rate.Rate.{Rate as RatePolicy}
 use Rattle.call_history.proofs.ClearTraces.{under_two, form_whole, acl_entry, clears, cut_entry, ready-cleared}
 use Rattle.call_history.proofs.Rows.{acl, rl, cut, holding, seven, but_5, seven_nine, held, cleared}
@@ -57,6 +58,34 @@ drains-charged = record {
         (one _ two_sent two_sent 2 18 (is_sent 2 18 refl refl (ready _ 2 7 refl refl (long-7 2)) refl) (none two_sent));
   };
   none_ready = refl;
+}
+
+-- the link fails behind the first sending, while the second call is ready
+abbrev one_sent : Course
+one_sent = record {
+  past = Sent 1 18 ∷ Charged 2 rl 0 ∷ Charged 1 rl 1000 ∷ submitted;
+  row = (2, 1) ∷ (3, 0) ∷ [];
+  ended = false;
+}
+
+abbrev two_refused : Course
+two_refused = record {
+  past = Refused 3 cause.Transport ∷ Refused 2 cause.Transport ∷ one_sent.past;
+  row = [];
+  ended = true;
+}
+
+fails-charged : FailsToDrain under three_stand two_refused
+fails-charged = record {
+  between = one_sent;
+  begins = record {
+    between = two_charged;
+    passes = next 0 three_stand two_charged two_charged (omega arith) turns-charged (is_over 1 two_charged refl);
+    sent = one two_charged one_sent one_sent 1 18 (is_sent 1 18 refl refl (ready two_charged 1 7 refl refl (long-7 1)) refl)
+        (none one_sent);
+  };
+  ready = λ is. cc;
+  failed = link_failed refl refl;
 }
 
 -- one millisecond less than the cost later it is held still

@@ -13,6 +13,7 @@ mod Failing
 mod Fates
 mod Fitting
 mod FrameRows
+mod Framed
 mod Further
 mod Going
 mod GoingOn

@@ -57,8 +57,9 @@ pub record Drains (u : Under) (old new : Course) : Type 0 where
   pub begins : BeginsToDrain u old new
   pub none_ready : first_at (length (chain new.past).entries) new.row ≡ None
 
--- a drain whose link failed
+-- a drain whose link failed while a call was ready
 pub record FailsToDrain (u : Under) (old new : Course) : Type 0 where
   pub between : Course
   pub begins : BeginsToDrain u old between
+  pub ready : first_at (length (chain between.past).entries) between.row ≡ None → ⊥
   pub failed : Comes u between fails new

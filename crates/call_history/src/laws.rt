@@ -21,6 +21,7 @@ ghost use Rattle.engine_core.specs.Chains.{changed};
 ghost use Rattle.call_history.specs.Clears.{cleared_in};
 ghost use Rattle.call_history.specs.Draining.{BeginsToDrain, Drains, FailsToDrain};
 ghost use Rattle.call_history.specs.Events.{Course, Event, Comes, HasTurn, Lead, IsCourse, beginning, refused_for_link};
+ghost use Rattle.call_history.specs.Frames.{frames, handed_by};
 ghost use Rattle.call_history.specs.Legal.{HasForm, HasNoCopy, History, IsLegal, IsLegalBehind, IsPrefix, behind};
 ghost use Rattle.call_history.specs.Places.{IsSettled};
 ghost use Rattle.call_history.specs.Rules.{Under, May, payload};
@@ -46,6 +47,13 @@ pub fn histories_go_on()
         → IsPrefix u (behind u.conn (h ++ x ∷ [])) → IsPrefix u (behind u.conn h) }
     ensures may { (u : Under) (h : History) (x : Happened) → x.conn ≡ u.conn
         → IsPrefix u (behind u.conn (h ++ x ∷ [])) → May u (behind u.conn h) x.what }
+{}
+
+/// The frames that were handed over once one more thing happens: those of before, and what it hands over on its own
+/// connection.
+pub fn frames_go_on()
+    ensures { (T : Table) (h : History) (x : Happened)
+        → frames T (h ++ x ∷ []) ≡ frames T h ++ handed_by T x.conn x.what (behind x.conn h) }
 {}
 
 /// What happens on other connections changes nothing on a connection, and is legal or not by itself.

@@ -26,8 +26,8 @@ pub use happening::{Cause, Happened, Happening, Taken, TookCopy};
 pub use history::History;
 pub use laws::{
     an_event_has_one_end, chain_goes_on, clears_shorten, connections_are_apart, drains_settle,
-    events_keep, forms_go_on, histories_go_on, levels_go_on, noted_once, notes_go_on, one_fate,
-    redacted_once, sent_in_order, standing_calls_have_forms, standing_goes_on,
+    events_keep, forms_go_on, frames_go_on, histories_go_on, levels_go_on, noted_once, notes_go_on,
+    one_fate, redacted_once, sent_in_order, standing_calls_have_forms, standing_goes_on,
 };
 pub use record::{Record, Refusal};
 pub use ties::ties_go_on;

@@ -1,10 +1,11 @@
 -- A whole drain, by its turns and its sendings.
-use Rattle.std.proofs.Common.{◌≡◌, ℕ, ◌++◌, List, length, map, ap, sym, ◌∙◌, subst}
+use Rattle.std.proofs.Common.{◌≡◌, ◌≢◌, ℕ, ◌++◌, List, length, map, ap, sym, ◌∙◌, subst}
 use Rattle.std.specs.Prelude.{None, Option, Some}
 use Rattle.std.proofs.lemmas.List.{length-map}
 use Rattle.engine_core.specs.Chains.{Chain}
 use Rattle.engine_core.specs.Engines.{EngineParts}
 use Rattle.engine_core.specs.Moves.{first_at}
+use Rattle.call_history.specs.Behind.{chain}
 use Rattle.call_history.specs.Draining.{BeginsToDrain, Drains, FailsToDrain, Passes, SendsSome}
 use Rattle.call_history.specs.Events.{Comes, Course, IsCourse, fails}
 use Rattle.call_history.specs.Places.{IsSettled}
@@ -23,14 +24,21 @@ begins a m now same passes sent = record {
   sent = subst (λ (u : Under). SendsSome u (course m) now) (same-under a m same) sent;
 }
 
+-- its chain has as many engines as the chain of its history has entries
+as-many : (c : Connection) → IsConnection c → length c.chain.engines ≡ length (chain (behind c)).entries
+as-many c h =
+    sym (length-map c.chain.engines (λ (e : EngineParts). e.entry)) ∙ ap (λ (ch : Chain). length ch.entries) h.same_chain
+
+pub some-ready : (c : Connection) → IsConnection c → first_at (length c.chain.engines) c.chain.row ≢ None
+    → first_at (length (chain (course c).past).entries) (course c).row ≡ None → ⊥
+some-ready c h ready none = ready (subst (λ (n : ℕ). first_at n c.chain.row ≡ None) (sym (as-many c h)) none)
+
 pub drains : (a m f : Connection) → IsSame a m → Passes (under a) 0 (course a) (course m)
     → SendsSome (under m) (course m) (course f) → IsConnection f
     → first_at (length f.chain.engines) f.chain.row ≡ None → Drains (under a) (course a) (course f)
 drains a m f same passes sent h none = record {
   begins = begins a m (course f) same passes sent;
-  none_ready = subst (λ (n : ℕ). first_at n f.chain.row ≡ None)
-      (sym (length-map f.chain.engines (λ (e : EngineParts). e.entry)) ∙ ap
-      (λ (ch : Chain). length ch.entries) h.same_chain) none;
+  none_ready = subst (λ (n : ℕ). first_at n f.chain.row ≡ None) (as-many f h) none;
 }
 
 pub fails-to-drain : (a m f : Connection) → IsSame a m → Passes (under a) 0 (course a) (course m)
@@ -38,6 +46,7 @@ pub fails-to-drain : (a m f : Connection) → IsSame a m → Passes (under a) 0 
 fails-to-drain a m f same passes behind = record {
   between = behind.between;
   begins = begins a m behind.between same passes behind.sent;
+  ready = behind.ready;
   failed = subst (λ (u : Under). Comes u behind.between fails (course f)) (same-under a m same) behind.failed;
 }
 

@@ -11,7 +11,7 @@ use Rattle.engine_core.specs.Answers.{Answers, note}
 use Rattle.engine_core.specs.Chains.{Changes, Entry, new_entry, upgraded}
 use Rattle.engine_core.specs.Engines.{EngineParts}
 use Rattle.engine_core.specs.Marks.{StandingCall, past_of}
-use Rattle.engine_core.specs.Moves.{moved_by, place_of}
+use Rattle.engine_core.specs.Moves.{first_at, moved_by, place_of}
 use Rattle.engine_core.specs.Policies.{first_level, level_under}
 use Rattle.engine_core.specs.declared.op.Op.{Op}
 use Rattle.engine_core.specs.declared.op.Op.TheVariants.{Attach, Detach, Upgrade}
@@ -237,8 +237,9 @@ pub record Went {Q : Type 0} (Knows : Q → ℕ → Type 0) (drawn_of : Q → �
   pub draws : DrawsTickets Knows drawn_of Since before after old new
   pub fewer : parts after ≤ parts before
 
--- some calls were sent, and then the link failed
+-- some calls were sent, and then the link failed while a call was ready
 pub record FailsBehind (u : Under) (old new : Course) : Type 0 where
   pub between : Course
   pub sent : SendsSome u old between
+  pub ready : first_at (length (chain between.past).entries) between.row ≡ None → ⊥
   pub failed : Comes u between fails new

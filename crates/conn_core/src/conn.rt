@@ -260,11 +260,13 @@ impl<'t> Conn<'t> {
     }
 
     /// Encodes the first call that is ready and hands its frame to a link. `Nothing` comes exactly where no call is
-    /// ready. Where the link fails, the connection is at its end, as after `fail`. After `Memory` the call stands where
-    /// it stood.
+    /// ready, so `Failed` and `Memory` only where one is. Where the link fails, the connection is at its end, as after
+    /// `fail`. After `Memory` the call stands where it stood.
     pub fn send_ready<L: Link>(&mut self, alloc: Global, link: &mut L) -> Sending
         ensures nothing { (result ≡ Sending.Nothing)
             ↔ (first_at (length self.old.chain.engines) self.old.chain.row ≡ None) }
+        ensures ready { (result ≡ Sending.Failed) ⊎ (result ≡ Sending.Memory)
+            → first_at (length self.old.chain.engines) self.old.chain.row ≢ None }
         ensures sent { OnSent result (λ seq. Sends self.old seq self.new) }
         ensures failed { result ≡ Sending.Failed → Steps self.old fails self.new }
         ensures as_before { (result ≡ Sending.Nothing) ⊎ (result ≡ Sending.Memory) → self.new ≡ self.old }
@@ -298,8 +300,8 @@ impl<'t> Conn<'t> {
     }
 
     /// Has the engines take turns, from the first on, until no call can go on, and then sends all calls that are ready.
-    /// Behind a turn that cleared fields from a call it begins again at the first engine. After `Memory` and `Failed`
-    /// the turns and sendings before it stand.
+    /// Behind a turn that cleared fields from a call it begins again at the first engine. After `Memory` and `Failed`,
+    /// which come only where a call is ready, the turns and sendings before it stand.
     pub fn drain<Q: Tickets, L: Link>(
         &mut self,
         alloc: Global,
@@ -314,6 +316,8 @@ impl<'t> Conn<'t> {
             → FailsToDrain (under self.old) (course self.old) (course self.new) }
         ensures memory { result ≡ Drained.Memory
             → BeginsToDrain (under self.old) (course self.old) (course self.new) }
+        ensures still_ready { result ≡ Drained.Memory
+            → first_at (length self.new.chain.engines) self.new.chain.row ≢ None }
         ensures same { IsSame self.old self.new }
 
         ensures draws { DrawsTickets Q.knows Q.drawn Q.since self.old self.new tickets.old tickets.new }

@@ -1,6 +1,6 @@
 //! What a drain is made of: turns and sendings, one after another.
 
-ghost use Rattle.std.specs.Prelude.{◌≡◌, ◌<◌, ℕ, All, None, length};
+ghost use Rattle.std.specs.Prelude.{◌≡◌, ◌≢◌, ◌<◌, ℕ, All, None, length};
 ghost use Rattle.std.specs.Bool.{OnFalse, OnTrue};
 ghost use Rattle.mrpc_base.specs.Faults.{HasCause};
 ghost use Rattle.engine_core.specs.Moves.{first_at};
@@ -67,6 +67,8 @@ pub(crate) fn send_all<L: Link>(alloc: Global, conn: &mut Conn, link: &mut L) ->
         → first_at (length conn.new.chain.engines) conn.new.chain.row ≡ None }
     ensures failed { result ≡ Drained.Failed → FailsBehind (under conn.old) (course conn.old) (course conn.new) }
     ensures memory { result ≡ Drained.Memory → SendsSome (under conn.old) (course conn.old) (course conn.new) }
+    ensures still_ready { result ≡ Drained.Memory
+        → first_at (length conn.new.chain.engines) conn.new.chain.row ≢ None }
     ensures same { IsSame conn.old conn.new }
     ensures tickets { (tenant window : ℕ) → tickets_behind tenant window (behind conn.new)
         ≡ tickets_behind tenant window (behind conn.old) }

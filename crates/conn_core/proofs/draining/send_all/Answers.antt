@@ -1,10 +1,13 @@
-use Rattle.std.proofs.Common.{inl, inr, refl, sym, ◌∙◌, subst, arith}
+use Rattle.std.proofs.Common.{◌≢◌, inl, inr, length, refl, sym, ◌∙◌, subst, arith}
+use Rattle.std.specs.Prelude.{None}
+use Rattle.engine_core.specs.Moves.{first_at}
 use Rattle.call_history.specs.Draining.{SendsSome, none}
 use Rattle.call_history.specs.Events.{Comes, fails}
 use Rattle.call_history.specs.Rules.{Under}
 use Rattle.conn_core.specs.Connections.{Connection, course, under}
 use Rattle.conn_core.proofs.SentAll.{failed-tickets, fewer-standing, hands-both, sends-one, sent-tickets}
 use Rattle.conn_core.proofs.TurnByTurn.{same-trans, same-under}
+use Rattle.conn_core.proofs.Whole.{some-ready}
 use Rattle.conn_core.proofs.draining.send_all.Goals as goal
 
 pub calls-smaller : goal.calls-smaller
@@ -38,6 +41,7 @@ pub returns-in-Failed-clause-failed : goal.returns-in-Failed-clause-failed
 returns-in-Failed-clause-failed g c = λ is. record {
   between = course c.calls.conn;
   sent = c.calls.invariant.0 (course c.calls.conn) (none (course c.calls.conn));
+  ready = some-ready c.calls.conn c.is_connection.ensures (c.in-Failed.ensures.ready (inl refl));
   failed = subst (λ (u : Under). Comes u (course c.calls.conn) fails (course c.send_ready.new.self))
       (same-under c.args.conn.now c.calls.conn c.calls.invariant.1)
       (c.in-Failed.ensures.failed refl);
@@ -53,6 +57,12 @@ returns-in-Memory-clause-memory g c =
     λ is. subst (λ (x : Connection). SendsSome (under c.args.conn.now) (course c.args.conn.now) (course x))
     (sym (c.in-Memory.ensures.as_before (inr refl)))
     (c.calls.invariant.0 (course c.calls.conn) (none (course c.calls.conn)))
+
+pub returns-in-Memory-clause-still_ready : goal.returns-in-Memory-clause-still_ready
+returns-in-Memory-clause-still_ready g c =
+    λ is. subst (λ (x : Connection). first_at (length x.chain.engines) x.chain.row ≢ None)
+    (sym (c.in-Memory.ensures.as_before (inr refl)))
+    (c.in-Memory.ensures.ready (inr refl))
 
 pub returns-in-Memory-clause-handed : goal.returns-in-Memory-clause-handed
 returns-in-Memory-clause-handed g c =

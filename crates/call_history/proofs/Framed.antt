@@ -9,11 +9,16 @@ use Rattle.call_history.specs.Frames.{frames, frames_after, handed_by}
 abbrev pub next_frame : Table → History → Happened → List (List ℕ)
 next_frame T before x = handed_by T x.conn x.what (behind x.conn before)
 
-pub frames-append : (T : Table) (before h k : History) → frames_after T before (h ++ k) ≡ frames_after T before h ++ frames_after T (before ++ h) k
+pub frames-append : (T : Table) (before h k : History)
+    → frames_after T before (h ++ k) ≡ frames_after T before h ++ frames_after T (before ++ h) k
 frames-append T before [] k = ap (λ b. frames_after T b k) (sym (append-nil before))
 frames-append T before (x ∷ h) k =
-    ap (λ l. next_frame T before x ++ l) (frames-append T (before ++ x ∷ []) h k ∙ ap (λ b. frames_after T (before ++ x ∷ []) h ++ frames_after T b k) (append_assoc before (x ∷ []) h))
-    ∙ sym (append_assoc (next_frame T before x) (frames_after T (before ++ x ∷ []) h) (frames_after T (before ++ x ∷ h) k))
+    ap (λ l. next_frame T before x ++ l)
+    (frames-append T (before ++ x ∷ []) h k
+    ∙ ap (λ b. frames_after T (before ++ x ∷ []) h ++ frames_after T b k) (append_assoc before (x ∷ []) h))
+    ∙ sym (append_assoc (next_frame T before x) (frames_after T (before ++ x ∷ []) h)
+    (frames_after T (before ++ x ∷ h) k))
 
-pub frames-more : (T : Table) (h : History) (x : Happened) → frames T (h ++ x ∷ []) ≡ frames T h ++ next_frame T h x
+pub frames-more : (T : Table) (h : History) (x : Happened)
+    → frames T (h ++ x ∷ []) ≡ frames T h ++ next_frame T h x
 frames-more T h x = frames-append T [] h (x ∷ []) ∙ ap (λ l. frames T h ++ l) (append-nil (next_frame T h x))
