@@ -1,0 +1,17 @@
+mod Adding
+mod Answers
+mod Bounds
+mod Changing
+mod Cuts
+mod Going
+mod Growing
+mod Kept
+mod LineFaults
+mod LineForms
+mod LineVerdicts
+mod OneScript
+mod Ranges
+mod Refusals
+mod Rows
+mod Soundness
+mod TextLines

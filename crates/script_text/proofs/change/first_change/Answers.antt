@@ -1,0 +1,59 @@
+use Rattle.std.proofs.Common.{refl, sym, ap, subst, ◌∙◌, arith, length, ℕ}
+use Rattle.mrpc_table.specs.Lines.{words_of}
+use Rattle.script_text.specs.Changes.{seen, IsStopOf}
+use Rattle.script_text.specs.Texts.{no_feed}
+use Rattle.script_text.proofs.Changing.{skipped_change, said_change, line_stop, formless_stop, item_change, item_stop}
+use Rattle.script_text.proofs.LineForms.{item_of}
+use Rattle.script_text.proofs.TextLines.{cut_is, last_is}
+use Rattle.script_text.proofs.change.first_change.Goals as goal
+
+pub returns-in_default : goal.returns-in_default
+returns-in_default c =
+    let text = c.args.text.now in
+    let some = c.requires.some in
+    subst (IsStopOf c.args.loads c.args.table.now (seen c.args.declared.now c.args.body.now) text) (sym c.fault.ensures)
+    (no_feed (last_is text c.in_default.ensures.parts) (λ none. (let short = ap (length {A = ℕ}) none in omega (arith, some, short))) refl refl)
+
+pub returns-then-is_skipped : goal.returns-then-is_skipped
+returns-then-is_skipped c =
+    let text = c.args.text.now in
+    let before = cut_is text c.in-Some.line.now c.in-Some.behind.now c.in-Some.ensures.parts in
+    skipped_change c.one_laws.ensures c.args.loads c.args.table.now (seen c.args.declared.now c.args.body.now) text c.in-Some.line.now c.in-Some.behind.now before (sym c.is_skipped.ensures ∙ c.if-is_skipped.true)
+
+pub returns-in_default-form_of : goal.returns-in_default-form_of
+returns-in_default-form_of c =
+    let text = c.args.text.now in
+    let b = seen c.args.declared.now c.args.body.now in
+    let before = cut_is text c.in-Some.line.now c.in-Some.behind.now c.in-Some.ensures.parts in
+    subst (IsStopOf c.args.loads c.args.table.now b text) (sym c.fault-in_default-form_of.ensures)
+    (formless_stop c.one_laws.ensures c.args.loads c.args.table.now b text c.in-Some.line.now c.in-Some.behind.now before (sym c.is_skipped.ensures ∙ c.if-is_skipped.false) (sym c.form_of.ensures ∙ c.in_default-form_of.is))
+
+pub returns-in-Ok : goal.returns-in-Ok
+returns-in-Ok c =
+    let text = c.args.text.now in
+    let b = seen c.args.declared.now c.args.body.now in
+    let line = c.in-Some.line.now in
+    let before = cut_is text line c.in-Some.behind.now c.in-Some.ensures.parts in
+    item_change c.one_laws.ensures c.args.loads c.args.table.now b text line c.in-Some.behind.now c.in-Ok.left.now c.in-Some-of_form.form c.in-Ok.item before (item_of (words_of line) c.in-Some-form_of.form (sym c.form_of.ensures ∙ c.in-Some-form_of.is) ∙ sym c.of_form.ensures ∙ c.in-Some-of_form.is) c.in-Ok.ensures.0 c.in-Ok.ensures.1
+
+pub returns-in-Err : goal.returns-in-Err
+returns-in-Err c =
+    let text = c.args.text.now in
+    let b = seen c.args.declared.now c.args.body.now in
+    let line = c.in-Some.line.now in
+    let before = cut_is text line c.in-Some.behind.now c.in-Some.ensures.parts in
+    item_stop c.one_laws.ensures c.args.loads c.args.table.now b text line c.in-Some.behind.now c.in-Some-of_form.form c.in-Err.fault before (item_of (words_of line) c.in-Some-form_of.form (sym c.form_of.ensures ∙ c.in-Some-form_of.is) ∙ sym c.of_form.ensures ∙ c.in-Some-of_form.is) c.in-Err.ensures
+
+pub returns-in-Ok-said : goal.returns-in-Ok-said
+returns-in-Ok-said c =
+    let text = c.args.text.now in
+    let b = seen c.args.declared.now c.args.body.now in
+    let before = cut_is text c.in-Some.line.now c.in-Some.behind.now c.in-Some.ensures.parts in
+    said_change c.one_laws.ensures c.args.loads c.args.table.now b text c.in-Some.line.now c.in-Some.behind.now c.in-Ok-said.change before c.in-Ok-said.ensures
+
+pub returns-in-Err-said : goal.returns-in-Err-said
+returns-in-Err-said c =
+    let text = c.args.text.now in
+    let b = seen c.args.declared.now c.args.body.now in
+    let before = cut_is text c.in-Some.line.now c.in-Some.behind.now c.in-Some.ensures.parts in
+    line_stop c.one_laws.ensures c.args.loads c.args.table.now b text c.in-Some.line.now c.in-Some.behind.now c.in-Err-said.fault before c.in-Err-said.ensures

@@ -1,0 +1,14 @@
+-- The lines so far are right, and what is kept of them is.
+use Rattle.std.proofs.Common.{length}
+use Rattle.script_text.specs.Changes.{IsKept, seen}
+use Rattle.script_text.specs.Texts.{Reaches}
+use Rattle.script_text.proofs.read.read_lines.Given as goal
+
+abbrev pub invariant-loop-alloc : goal.invariant-loop-alloc
+invariant-loop-alloc l = record {
+  reaches : Reaches l.loads l.table l.text (seen l.declared l.body) l.rest;
+  kept : IsKept l.loads l.declared l.body;
+}
+
+abbrev pub decreases-loop-alloc : goal.decreases-loop-alloc
+decreases-loop-alloc l = length l.rest

@@ -1,0 +1,10 @@
+pub mod Changes
+pub mod Deciding
+pub mod Keeping
+pub mod Kinds
+pub mod Known
+pub mod Lines
+pub mod Words
+pub mod Offences
+pub mod Stopping
+pub mod Texts

@@ -1,0 +1,38 @@
+-- What stands against a line of a script, given what stands before it (this project's own).
+use Rattle.std.specs.Prelude.{◌≡◌, ℕ, Bool, true, false, List, Some, None}
+use Rattle.mrpc_table.specs.Lines.{words_of}
+use Rattle.policy_blocks.specs.Blocks.{is_skipped}
+use Rattle.policy_blocks.specs.Declarations.{Declared, policy_place}
+use Rattle.policy_blocks.specs.Items.{item_form, item_form_in, IsAgainstHead}
+use Rattle.policy_blocks.specs.declared.item_form.ItemForm.{ItemForm}
+use Rattle.script_words.specs.Forms.{sorts_of, form_in}
+use Rattle.script_words.specs.Lines as words
+use Rattle.script_words.specs.Sorts.{Meaning}
+use Rattle.script_words.specs.declared.form.Form.{Form}
+use Rattle.script_words.specs.declared.fault.ScriptReason.{ScriptReason}
+use Rattle.script_words.specs.declared.fault.ScriptReason.TheVariants.{Word, Unknown, After}
+use Rattle.script_text.specs.Lines.{IsAgainst}
+use Rattle.script_text.specs.Words.{IsSaid, policy_in, line_in}
+use Rattle.script_text.specs.declared.script.Line.{Line}
+
+-- what stands before a line: what is declared, the lines that do something, in order, and whether `close` stands there
+pub record Before : Type 0 where
+  pub declared : Declared
+  pub lines : List Line
+  pub closed : Bool
+
+-- a reason stands against the line, without its line feed
+pub data Offends (loads : ℕ) (b : Before) (text : List ℕ) (reason : ScriptReason) : Type 0 where
+  no_form : is_skipped text ≡ false → form_in (words_of text) ≡ None → reason ≡ Word → Offends loads b text reason
+  -- it begins an item
+  in_head : (f : ItemForm) → item_form_in (words_of text) ≡ Some f → IsAgainstHead b.declared f (words_of text) reason
+      → Offends loads b text reason
+  in_words : (f : Form) → form_in (words_of text) ≡ Some f → item_form f ≡ None
+      → words.IsAgainst (sorts_of f) (words_of text) reason → Offends loads b text reason
+  not_declared : (f : Form) (meanings : List Meaning) (name : List ℕ) → IsSaid f text meanings
+      → policy_in f meanings ≡ Some name → policy_place b.declared name ≡ None → reason ≡ Unknown
+      → Offends loads b text reason
+  behind_lines : (f : Form) (meanings : List Meaning) (l : Line) → IsSaid f text meanings
+      → line_in b.declared f meanings ≡ Some l → IsAgainst loads b.declared.policies b.lines l reason
+      → Offends loads b text reason
+  behind_close : b.closed ≡ true → is_skipped text ≡ false → reason ≡ After → Offends loads b text reason

@@ -1,0 +1,48 @@
+-- What the words of a line say behind what is declared (this project's own).
+use Rattle.std.specs.Prelude.{◌≡◌, ℕ, ◌^◌, List, Option, Some, None, option_map}
+use Rattle.mrpc_table.specs.Lines.{words_of}
+use Rattle.mrpc_table.specs.declared.words.Decimal.{Decimal}
+use Rattle.mrpc_table.specs.declared.words.Decimal.TheVariants.{Small, Large}
+use Rattle.policy_blocks.specs.Declarations.{Declared, policy_place}
+use Rattle.script_words.specs.Forms.{sorts_of, form_in}
+use Rattle.script_words.specs.Lines.{AreSaid}
+use Rattle.script_words.specs.Sorts.{Meaning, number_at, unbounded_at, name_at}
+use Rattle.script_words.specs.declared.form.Form.{Form}
+use Rattle.script_words.specs.declared.form.Form.TheVariants as form
+use Rattle.script_text.specs.declared.script.Line.{Line}
+use Rattle.script_text.specs.declared.script.Line.TheVariants as line
+
+-- the line has this form, and its words say this
+pub record IsSaid (f : Form) (text : List ℕ) (meanings : List Meaning) : Type 0 where
+  pub has_form : form_in (words_of text) ≡ Some f
+  pub said : AreSaid (sorts_of f) (words_of text) meanings
+
+-- a place or a position; those above 64 bits are all alike, since no heap and no chain has them
+abbrev pub any_size : Decimal → ℕ
+any_size (Small n) = n
+any_size Large = 2 ^ 64
+
+-- the name of a declared policy that the words of an operator's line give
+abbrev pub policy_in : Form → List Meaning → Option (List ℕ)
+policy_in form.Attach meanings = Some (name_at meanings 4)
+policy_in form.Upgrade meanings = Some (name_at meanings 3)
+policy_in _ meanings = None
+
+-- the line that words say, counted from 0; none where the policy that it names isn't declared, and none of a form that
+-- declares something or closes the script
+abbrev pub line_in : Declared → Form → List Meaning → Option Line
+line_in d form.Conn m = Some (line.Conn (number_at m 1) (number_at m 2))
+line_in d form.Store m = Some (line.Store (number_at m 1) (any_size (unbounded_at m 2)) (number_at m 3))
+line_in d form.Race m =
+    Some (line.Race (number_at m 1) (number_at m 2) (any_size (unbounded_at m 3)) (number_at m 4))
+line_in d form.Submit m = Some (line.Submit (number_at m 1) (number_at m 2) 0 (number_at m 3))
+line_in d form.Reply m = Some (line.Submit (number_at m 1) (number_at m 2) (number_at m 4) (number_at m 3))
+line_in d form.Attach m =
+    option_map (line.Attach (number_at m 1) (any_size (unbounded_at m 2)) (name_at m 3)) (policy_place d (name_at m 4))
+line_in d form.Detach m = Some (line.Detach (number_at m 1) (name_at m 2))
+line_in d form.Upgrade m = option_map (line.Upgrade (number_at m 1) (name_at m 2)) (policy_place d (name_at m 3))
+line_in d form.Moment m = Some (line.Moment (number_at m 1) (number_at m 2))
+line_in d form.Turn m = Some (line.Turn (number_at m 1) (any_size (unbounded_at m 2)))
+line_in d form.Send m = Some (line.Send (number_at m 1))
+line_in d form.Drain m = Some (line.Drain (number_at m 1))
+line_in d _ m = None

@@ -1,0 +1,425 @@
+//! What is kept of the lines so far, and what a line says behind them.
+
+ghost use Rattle.std.specs.Prelude.{◌≡◌, ◌+◌, ◌*◌, ◌<◌, ◌≤◌, ◌^◌, ◌++◌, ◌∷◌, [], ℕ, List, OnOk, IfOk};
+ghost use Rattle.mrpc_table.specs.declared.limits.TheConstants.{MAX_HEAP, MAX_LOADS};
+ghost use Rattle.script_words.specs.Meanings.{meanings_of};
+ghost use Rattle.script_words.specs.Sorts.{IsIn, number_at};
+ghost use Rattle.script_text.specs.Words.{IsSaid};
+ghost use Rattle.script_text.specs.Keeping.{words_kept, links_kept, heap_kept, place_kept, load_kept, work_kept, policy_kept, kind_at, conn_said, store_said, race_said, submit_said, attaching, attach_said, detaching, detach_said, upgrading, upgrade_said, turn_said, moment_said, send_said, drain_said, line_said, IsMade, IsFreshBody, CanAdd, connections_after, submissions_after};
+
+use crate::chain::{Kind, Link};
+use crate::connections::Connections;
+use crate::limits::MAX_WORK;
+use crate::script::{Line, Lines};
+use mrpc_table::{Decimal, Memory, Name};
+use policy_blocks::Declarations;
+use script_words::{Form, Said, ScriptReason, name_at, number_at, unbounded_at};
+use std::alloc::Global;
+
+/// The lines so far that do something, and what is kept of them.
+#[derive(Drop)]
+pub(crate) struct Body {
+    pub lines: Lines,
+    pub connections: Connections,
+    /// How many calls were submitted.
+    pub submissions: u64,
+    pub closed: bool,
+}
+
+/// Why no line was made of its words.
+#[derive(Clone, Copy)]
+pub(crate) enum Flaw {
+    /// This stands against it.
+    Reason(ScriptReason),
+    /// No memory was found.
+    Memory,
+}
+
+impl From<Memory> for Flaw {
+    ghost use Rattle.script_text.specs.declared.body.Flaw.TheVariants as flaw;
+
+    ghost from_gives = { λ _ e. e ≡ flaw.Memory };
+
+    fn from(_: Memory) -> Flaw {
+        Flaw::Memory
+    }
+}
+
+impl From<ScriptReason> for Flaw {
+    ghost use Rattle.script_text.specs.declared.body.Flaw.TheVariants as flaw;
+
+    ghost from_gives = { λ reason e. e ≡ flaw.Reason reason };
+
+    fn from(reason: ScriptReason) -> Flaw {
+        Flaw::Reason(reason)
+    }
+}
+
+/// The place, where it is one of a heap of so many words, and not 0.
+fn place_in(words: u32, place: Decimal) -> Result<u32, ScriptReason>
+    ensures { result ≡ place_kept words place }
+{
+    match place {
+        Decimal::Small(place) if 1 <= place && place < u64::from(words) => Ok(place as u32),
+        _ => Err(ScriptReason::Place),
+    }
+}
+
+/// The number of a load, where it isn't 0.
+fn load_of(load: u64) -> Result<u64, ScriptReason>
+    ensures { result ≡ load_kept load }
+{
+    if load > 0 {
+        Ok(load)
+    } else {
+        Err(ScriptReason::Place)
+    }
+}
+
+/// Where the policy of a name stands among the declared ones.
+fn policy_in(declared: &Declarations, name: &[u8]) -> Result<usize, ScriptReason>
+    ensures { result ≡ policy_kept declared.now name.now }
+{
+    match declared.policy(name) {
+        Some(place) => Ok(place),
+        None => Err(ScriptReason::Unknown),
+    }
+}
+
+/// The kind of the policy at a place among the declared ones.
+fn kind_at(declared: &Declarations, place: usize) -> Kind
+    ensures { result ≡ kind_at declared.now place }
+{
+    match declared.policies().get(place) {
+        Some(named) => Kind::of(&named.policy),
+        None => Kind::Count,
+    }
+}
+
+impl Body {
+    /// The words of the heap of a connection that has to be open.
+    fn heap(&self, conn: u64) -> Result<u32, ScriptReason>
+        requires { IsIn 1 16 conn }
+        ensures { result ≡ heap_kept (words_kept self.now conn) }
+    {
+        match self.connections.at(conn).words {
+            Some(words) => Ok(words),
+            None => Err(ScriptReason::Unknown),
+        }
+    }
+
+    fn conn(&self, words: &[Said<'_>]) -> Result<Line, ScriptReason>
+        requires conn { IsIn 1 16 (number_at (meanings_of words.now) 1) }
+        requires words { number_at (meanings_of words.now) 2 ≤ MAX_HEAP }
+        ensures { result ≡ conn_said self.now (meanings_of words.now) }
+    {
+        let conn = number_at(words, 1);
+        match self.connections.at(conn).words {
+            Some(_) => Err(ScriptReason::Known),
+            None => Ok(Line::Conn {
+                conn: conn as u32,
+                words: number_at(words, 2) as u32,
+            }),
+        }
+    }
+
+    #[tactic(auto, unfolding(crate::specs::Keeping::store_said))]
+    fn store(&self, words: &[Said<'_>]) -> Result<Line, ScriptReason>
+        requires { IsIn 1 16 (number_at (meanings_of words.now) 1) }
+        ensures { result ≡ store_said self.now (meanings_of words.now) }
+    {
+        let conn = number_at(words, 1);
+        let heap = self.heap(conn)?;
+        let place = place_in(heap, unbounded_at(words, 2))?;
+        Ok(Line::Store {
+            conn: conn as u32,
+            place,
+            value: number_at(words, 3),
+        })
+    }
+
+    #[tactic(auto, unfolding(crate::specs::Keeping::race_said))]
+    fn race(&self, words: &[Said<'_>]) -> Result<Line, ScriptReason>
+        requires { IsIn 1 16 (number_at (meanings_of words.now) 1) }
+        ensures { result ≡ race_said self.now (meanings_of words.now) }
+    {
+        let conn = number_at(words, 1);
+        let heap = self.heap(conn)?;
+        let load = load_of(number_at(words, 2))?;
+        let place = place_in(heap, unbounded_at(words, 3))?;
+        Ok(Line::Race {
+            conn: conn as u32,
+            load,
+            place,
+            value: number_at(words, 4),
+        })
+    }
+
+    /// With one call more the calls load no more words than they may.
+    fn has_room(&self, loads: u64) -> Result<(), ScriptReason>
+        requires small { loads ≤ MAX_LOADS }
+        requires few { self.now.submissions ≤ MAX_WORK }
+        ensures { result ≡ work_kept ((self.now.submissions + 1) * loads) }
+    {
+        if (self.submissions + 1) * loads <= MAX_WORK {
+            Ok(())
+        } else {
+            Err(ScriptReason::Work)
+        }
+    }
+
+    #[tactic(auto, unfolding(crate::specs::Keeping::submit_said))]
+    fn submit(&self, loads: u64, words: &[Said<'_>], number: u64) -> Result<Line, ScriptReason>
+        requires conn { IsIn 1 16 (number_at (meanings_of words.now) 1) }
+        requires method { number_at (meanings_of words.now) 2 ≤ 65535 }
+        requires number { number < 2 ^ 32 }
+        requires small { loads ≤ MAX_LOADS }
+        requires few { self.now.submissions ≤ MAX_WORK }
+        ensures { result ≡ submit_said loads self.now (meanings_of words.now) number }
+    {
+        let conn = number_at(words, 1);
+        self.heap(conn)?;
+        self.has_room(loads)?;
+        Ok(Line::Submit {
+            conn: conn as u32,
+            method: number_at(words, 2) as u16,
+            number: number as u32,
+            addr: number_at(words, 3),
+        })
+    }
+
+    /// The position at which a policy is attached, and its place among the declared ones.
+    #[tactic(auto, unfolding(crate::specs::Keeping::attaching))]
+    fn attaching(
+        &self,
+        declared: &Declarations,
+        words: &[Said<'_>],
+    ) -> Result<(u32, usize), ScriptReason>
+        requires { IsIn 1 16 (number_at (meanings_of words.now) 1) }
+        ensures { result ≡ attaching declared.now self.now (meanings_of words.now) }
+    {
+        let conn = number_at(words, 1);
+        self.heap(conn)?;
+        let policy = policy_in(declared, name_at(words, 4))?;
+        let links = &self.connections.at(conn).links;
+        let at = links.attach_against(unbounded_at(words, 2), name_at(words, 3))?;
+        Ok((at, policy))
+    }
+
+    fn attach(
+        &self,
+        alloc: Global,
+        declared: &Declarations,
+        words: &[Said<'_>],
+    ) -> Result<Line, Flaw>
+        requires { IsIn 1 16 (number_at (meanings_of words.now) 1) }
+        ensures { IsMade (attach_said declared.now self.now (meanings_of words.now)) result }
+    {
+        let (at, policy) = self.attaching(declared, words)?;
+        Ok(Line::Attach {
+            conn: number_at(words, 1) as u32,
+            at,
+            name: Name::from_slice(alloc, name_at(words, 3))?,
+            policy,
+        })
+    }
+
+    #[tactic(auto, unfolding(crate::specs::Keeping::detaching))]
+    fn detaching(&self, words: &[Said<'_>]) -> Result<(), ScriptReason>
+        requires { IsIn 1 16 (number_at (meanings_of words.now) 1) }
+        ensures { result ≡ detaching self.now (meanings_of words.now) }
+    {
+        let conn = number_at(words, 1);
+        self.heap(conn)?;
+        self.connections
+            .at(conn)
+            .links
+            .detach_against(name_at(words, 2))
+    }
+
+    fn detach(&self, alloc: Global, words: &[Said<'_>]) -> Result<Line, Flaw>
+        requires { IsIn 1 16 (number_at (meanings_of words.now) 1) }
+        ensures { IsMade (detach_said self.now (meanings_of words.now)) result }
+    {
+        self.detaching(words)?;
+        Ok(Line::Detach {
+            conn: number_at(words, 1) as u32,
+            name: Name::from_slice(alloc, name_at(words, 2))?,
+        })
+    }
+
+    /// The place among the declared policies of the one that an entry gets.
+    #[tactic(auto, unfolding(crate::specs::Keeping::upgrading))]
+    fn upgrading(&self, declared: &Declarations, words: &[Said<'_>]) -> Result<usize, ScriptReason>
+        requires { IsIn 1 16 (number_at (meanings_of words.now) 1) }
+        ensures { result ≡ upgrading declared.now self.now (meanings_of words.now) }
+    {
+        let conn = number_at(words, 1);
+        self.heap(conn)?;
+        let policy = policy_in(declared, name_at(words, 3))?;
+        let kind = kind_at(declared, policy);
+        let links = &self.connections.at(conn).links;
+        links.upgrade_against(name_at(words, 2), kind)?;
+        Ok(policy)
+    }
+
+    fn upgrade(
+        &self,
+        alloc: Global,
+        declared: &Declarations,
+        words: &[Said<'_>],
+    ) -> Result<Line, Flaw>
+        requires { IsIn 1 16 (number_at (meanings_of words.now) 1) }
+        ensures { IsMade (upgrade_said declared.now self.now (meanings_of words.now)) result }
+    {
+        let policy = self.upgrading(declared, words)?;
+        Ok(Line::Upgrade {
+            conn: number_at(words, 1) as u32,
+            name: Name::from_slice(alloc, name_at(words, 2))?,
+            policy,
+        })
+    }
+
+    #[tactic(auto, unfolding(crate::specs::Keeping::turn_said))]
+    fn turn(&self, words: &[Said<'_>]) -> Result<Line, ScriptReason>
+        requires { IsIn 1 16 (number_at (meanings_of words.now) 1) }
+        ensures { result ≡ turn_said self.now (meanings_of words.now) }
+    {
+        let conn = number_at(words, 1);
+        self.heap(conn)?;
+        let at = self
+            .connections
+            .at(conn)
+            .links
+            .engine(unbounded_at(words, 2))?;
+        Ok(Line::Turn {
+            conn: conn as u32,
+            at,
+        })
+    }
+
+    #[tactic(auto, unfolding(crate::specs::Keeping::used_said))]
+    fn moment(&self, words: &[Said<'_>]) -> Result<Line, ScriptReason>
+        requires { IsIn 1 16 (number_at (meanings_of words.now) 1) }
+        ensures { result ≡ moment_said self.now (meanings_of words.now) }
+    {
+        let conn = number_at(words, 1);
+        self.heap(conn)?;
+        Ok(Line::Moment {
+            conn: conn as u32,
+            ms: number_at(words, 2),
+        })
+    }
+
+    #[tactic(auto, unfolding(crate::specs::Keeping::used_said))]
+    fn send(&self, words: &[Said<'_>]) -> Result<Line, ScriptReason>
+        requires { IsIn 1 16 (number_at (meanings_of words.now) 1) }
+        ensures { result ≡ send_said self.now (meanings_of words.now) }
+    {
+        let conn = number_at(words, 1);
+        self.heap(conn)?;
+        Ok(Line::Send { conn: conn as u32 })
+    }
+
+    #[tactic(auto, unfolding(crate::specs::Keeping::used_said))]
+    fn drain(&self, words: &[Said<'_>]) -> Result<Line, ScriptReason>
+        requires { IsIn 1 16 (number_at (meanings_of words.now) 1) }
+        ensures { result ≡ drain_said self.now (meanings_of words.now) }
+    {
+        let conn = number_at(words, 1);
+        self.heap(conn)?;
+        Ok(Line::Drain { conn: conn as u32 })
+    }
+
+    /// The line that words of a form say, of which none declares anything or closes the script, or what stands against
+    /// it.
+    pub(crate) fn line_of(
+        &self,
+        alloc: Global,
+        loads: u64,
+        declared: &Declarations,
+        form: Form,
+        words: &[Said<'_>],
+    ) -> Result<Line, Flaw>
+        requires small { loads ≤ MAX_LOADS }
+        requires few { self.now.submissions ≤ MAX_WORK }
+        requires words { (line : List ℕ) × IsSaid form line (meanings_of words.now) }
+        ensures { IsMade (line_said loads declared.now self.now form (meanings_of words.now)) result }
+    {
+        match form {
+            Form::Conn => Ok(self.conn(words)?),
+            Form::Store => Ok(self.store(words)?),
+            Form::Race => Ok(self.race(words)?),
+            Form::Submit => Ok(self.submit(loads, words, 0)?),
+            Form::Reply => Ok(self.submit(loads, words, number_at(words, 4))?),
+            Form::Attach => self.attach(alloc, declared, words),
+            Form::Detach => self.detach(alloc, words),
+            Form::Upgrade => self.upgrade(alloc, declared, words),
+            Form::Moment => Ok(self.moment(words)?),
+            Form::Turn => Ok(self.turn(words)?),
+            Form::Send => Ok(self.send(words)?),
+            Form::Drain => Ok(self.drain(words)?),
+            Form::Tenant
+            | Form::Access
+            | Form::Rate
+            | Form::Quota
+            | Form::Count
+            | Form::Redact
+            | Form::Close => Err(Flaw::Reason(ScriptReason::Unknown)),
+        }
+    }
+
+    /// Nothing yet, with room for so many lines.
+    pub(crate) fn with_room(alloc: Global, room: usize) -> Result<Body, Memory>
+        ensures { IfOk result IsFreshBody }
+    {
+        Ok(Body {
+            lines: Lines::with_room(alloc, room)?,
+            connections: Connections::new(alloc)?,
+            submissions: 0,
+            closed: false,
+        })
+    }
+
+    /// Adds a line that may stand behind these.
+    pub(crate) fn add(
+        &mut self,
+        alloc: Global,
+        declared: &Declarations,
+        line: Line,
+    ) -> Result<(), Memory>
+        requires { CanAdd self.old line }
+        ensures lines { OnOk result (self.new.lines ≡ self.old.lines ++ line ∷ []) }
+        ensures connections { OnOk result (self.new.connections
+            ≡ connections_after declared.now line self.old.connections) }
+        ensures submissions { OnOk result (self.new.submissions ≡ submissions_after line self.old.submissions) }
+        ensures closed { self.new.closed ≡ self.old.closed }
+    {
+        match &line {
+            Line::Conn { conn, words } => self.connections.open(*conn, *words),
+            Line::Submit { .. } => self.submissions += 1,
+            Line::Attach {
+                conn,
+                at,
+                name,
+                policy,
+            } => {
+                let link = Link {
+                    name: name.copied(alloc)?,
+                    kind: kind_at(declared, *policy),
+                };
+                self.connections.attach(*conn, *at, link)?;
+            }
+            Line::Detach { conn, name } => self.connections.detach(*conn, name.as_slice()),
+            Line::Store { .. }
+            | Line::Race { .. }
+            | Line::Upgrade { .. }
+            | Line::Moment { .. }
+            | Line::Turn { .. }
+            | Line::Send { .. }
+            | Line::Drain { .. } => {}
+        }
+        self.lines.push(line)?;
+        Ok(())
+    }
+}

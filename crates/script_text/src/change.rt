@@ -1,0 +1,191 @@
+//! What the first line of a text says, with the lines of its block where it has one.
+
+ghost use Rattle.std.specs.Prelude.{◌≡◌, ◌∷◌, [], ◌≤◌, ◌<◌, true, false, Some, None, List, ℕ, IfSome, MatchOption, MatchResult, length};
+ghost use Rattle.mrpc_table.specs.Lines.{pieces_of, words_of};
+ghost use Rattle.mrpc_table.specs.Valid.{IsValid};
+ghost use Rattle.mrpc_table.specs.declared.limits.TheConstants.{MAX_LOADS};
+ghost use Rattle.policy_blocks.specs.Blocks.{is_skipped};
+ghost use Rattle.policy_blocks.specs.Items.{item_form, Declares};
+ghost use Rattle.script_words.specs.Meanings.{meanings_of};
+ghost use Rattle.script_words.specs.Forms.{form_in};
+ghost use Rattle.script_text.specs.Changes.{seen, IsKept, IsSaidBy, IsFlawOf, IsChange, IsSaidChange, IsLineFault, IsItemFault, IsStopOf};
+ghost use Rattle.script_text.specs.Words.{IsSaid};
+ghost use Rattle.script_text.specs.declared.limits.TheConstants.{MAX_WORK};
+
+use crate::body::{Body, Flaw};
+use crate::laws::one_laws;
+use crate::script::Line;
+use memchr::memchr;
+use mrpc_table::Table;
+use policy_blocks::{Declarations, Item, ItemForm, ItemLines, read_item};
+use script_words::{Form, Said, ScriptFault, ScriptReason, form_of, judge};
+use std::alloc::Global;
+
+/// What a line says.
+#[derive(Drop)]
+pub(crate) enum Change {
+    /// Nothing: it is empty, or a comment.
+    Nothing,
+    /// With the lines of its block, a tenant or a policy.
+    Item(Item),
+    /// Something that is done.
+    Line(Line),
+    /// It closes the script.
+    Close,
+}
+
+/// The first line of a text, without its line feed, and what stands behind it; none where no line ends in the text.
+/// (As `cut` does it for words, which are short; the search for a line feed looks at many bytes at once.)
+fn cut_line(text: &[u8]) -> Option<(&[u8], &[u8])>
+    ensures parts { MatchOption result (pieces_of text.now ≡ text.now ∷ [])
+        (λ p. pieces_of text.now ≡ p.0.now ∷ pieces_of p.1.now) }
+    ensures shorter { IfSome result (λ p. length p.1.now < length text.now) }
+{
+    let at = memchr(b'\n', text)?;
+    Some((&text[..at], &text[at + 1..]))
+}
+
+/// Whether a line is empty, or begins with `#`.
+fn is_skipped(line: &[u8]) -> bool
+    ensures { result ≡ is_skipped line.now }
+{
+    matches!(line, [] | [b'#', ..])
+}
+
+/// The fault of the first line of what is left.
+fn fault(reason: ScriptReason) -> ScriptFault
+    ensures { result ≡ ScriptFault.At 1 reason }
+{
+    ScriptFault::At { line: 1, reason }
+}
+
+/// What words of a form say that begin no item, or what stands against them, but for `close` before them.
+fn change_of(
+    alloc: Global,
+    loads: u64,
+    declared: &Declarations,
+    body: &Body,
+    form: Form,
+    words: &[Said<'_>],
+) -> Result<Change, Flaw>
+    requires small { loads ≤ MAX_LOADS }
+    requires kept { IsKept loads declared.now body.now }
+    requires few { body.now.submissions ≤ MAX_WORK }
+    requires words { (line : List ℕ) × IsSaid form line (meanings_of words.now) }
+    requires item { item_form form ≡ None }
+    ensures { MatchResult result (IsSaidBy loads declared.now body.now form (meanings_of words.now))
+        (IsFlawOf loads declared.now body.now form (meanings_of words.now)) }
+{
+    match form {
+        Form::Close => Ok(Change::Close),
+        _ => match body.line_of(alloc, loads, declared, form, words) {
+            Ok(line) => Ok(Change::Line(line)),
+            Err(flaw) => Err(flaw),
+        },
+    }
+}
+
+/// What a line of a form says that begins no item, or what stands against it.
+fn said(
+    alloc: Global,
+    loads: u64,
+    declared: &Declarations,
+    body: &Body,
+    form: Form,
+    line: &[u8],
+) -> Result<Change, ScriptFault>
+    requires small { loads ≤ MAX_LOADS }
+    requires kept { IsKept loads declared.now body.now }
+    requires few { body.now.submissions ≤ MAX_WORK }
+    requires form { form_in (words_of line.now) ≡ Some form }
+    requires item { item_form form ≡ None }
+    ensures { MatchResult result (IsSaidChange loads (seen declared.now body.now) line.now)
+        (IsLineFault loads (seen declared.now body.now) line.now) }
+{
+    one_laws();
+    let words = match judge(form.sorts(), line) {
+        Ok(words) => words,
+        Err(reason) => return Err(fault(reason)),
+    };
+    match change_of(alloc, loads, declared, body, form, words.as_slice()) {
+        Ok(change) => {
+            if body.closed {
+                return Err(fault(ScriptReason::After));
+            }
+            Ok(change)
+        }
+        Err(Flaw::Reason(reason)) => Err(fault(reason)),
+        Err(Flaw::Memory) => Err(ScriptFault::Memory),
+    }
+}
+
+/// The item that lines begin, and the text that is left behind it; behind `close`, its first line is at fault.
+fn item<'a>(
+    alloc: Global,
+    table: &Table,
+    declared: &Declarations,
+    closed: bool,
+    lines: ItemLines<'a>,
+) -> Result<(Item, &'a [u8]), ScriptFault>
+    requires { IsValid table.now }
+    ensures { MatchResult result (λ r. (closed ≡ false) × Declares table.now true declared.now lines.entry.form
+        lines.entry.line.now lines.entry.behind.now r.0 r.1.now) (IsItemFault table.now declared.now closed
+        lines.entry.form lines.entry.line.now lines.entry.behind.now) }
+{
+    match read_item(alloc, table, declared, lines, true) {
+        Ok((item, left)) => {
+            if closed {
+                return Err(fault(ScriptReason::After));
+            }
+            Ok((item, left))
+        }
+        Err(ScriptFault::At { line, reason }) => {
+            if closed && line > 1 {
+                return Err(fault(ScriptReason::After));
+            }
+            Err(ScriptFault::At { line, reason })
+        }
+        Err(ScriptFault::Memory) => Err(ScriptFault::Memory),
+    }
+}
+
+/// What the first line of a text says behind these, with the lines of its block where it has one, and what is left
+/// behind them; or what is wrong with it. Lines of a fault are counted from 1 at that line.
+pub(crate) fn first_change<'a>(
+    alloc: Global,
+    loads: u64,
+    table: &Table,
+    declared: &Declarations,
+    body: &Body,
+    text: &'a [u8],
+) -> Result<(Change, &'a [u8]), ScriptFault>
+    requires table { IsValid table.now }
+    requires small { loads ≤ MAX_LOADS }
+    requires kept { IsKept loads declared.now body.now }
+    requires few { body.now.submissions ≤ MAX_WORK }
+    requires some { 0 < length text.now }
+    ensures { MatchResult result (λ r. IsChange loads table.now (seen declared.now body.now) text.now r.0 r.1.now)
+        (IsStopOf loads table.now (seen declared.now body.now) text.now) }
+{
+    one_laws();
+    let Some((line, behind)) = cut_line(text) else {
+        return Err(fault(ScriptReason::Word));
+    };
+    if is_skipped(line) {
+        return Ok((Change::Nothing, behind));
+    }
+    let Some(form) = form_of(line) else {
+        return Err(fault(ScriptReason::Word));
+    };
+    if let Some(form) = ItemForm::of_form(form) {
+        let lines = ItemLines { form, line, behind };
+        return match item(alloc, table, declared, body.closed, lines) {
+            Ok((item, left)) => Ok((Change::Item(item), left)),
+            Err(fault) => Err(fault),
+        };
+    }
+    match said(alloc, loads, declared, body, form, line) {
+        Ok(change) => Ok((change, behind)),
+        Err(fault) => Err(fault),
+    }
+}

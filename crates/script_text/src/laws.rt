@@ -1,0 +1,37 @@
+//! Laws of scripts and their texts. These functions do nothing; their clauses hold.
+
+ghost use Rattle.std.specs.Prelude.{◌≡◌, ◌⊎◌, ℕ, List};
+ghost use Rattle.script_words.specs.declared.fault.ScriptReason.{ScriptReason};
+ghost use Rattle.script_text.specs.Known.{Laws};
+ghost use Rattle.script_text.specs.Lines.{IsScript};
+ghost use Rattle.script_text.specs.Texts.{Spells, IsFault};
+ghost use Rattle.script_text.specs.declared.script.Script.{Script};
+
+use policy_blocks::{one_item, stays_sound};
+use script_head::one_front;
+use script_words::one_judgement;
+
+/// A text spells one script, or it has one fault, and never both.
+pub fn one_script()
+    ensures script { (text : List ℕ) (s t : Script) → Spells text s → Spells text t → s ≡ t }
+    ensures fault { (text : List ℕ) (m n : ℕ) (r q : ScriptReason) → IsFault text m r → IsFault text n q
+        → (m ≡ n) × (r ≡ q) }
+    ensures not_both { (text : List ℕ) (s : Script) (line : ℕ) (r : ScriptReason) → Spells text s → IsFault text line r
+        → ⊥ }
+    ensures either { (text : List ℕ)
+        → ((s : Script) × Spells text s) ⊎ ((line : ℕ) × (r : ScriptReason) × IsFault text line r) }
+    // What holds of each script that a text spells.
+    ensures sound { (text : List ℕ) (s : Script) → Spells text s → IsScript s }
+{
+    one_front();
+    one_laws();
+}
+
+/// The laws of words and of items.
+pub(crate) fn one_laws()
+    ensures { Laws }
+{
+    one_judgement();
+    one_item();
+    stays_sound();
+}
