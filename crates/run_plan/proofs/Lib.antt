@@ -1,0 +1,3 @@
+mod Middle
+mod Peers
+mod Rows

@@ -1,0 +1,130 @@
+-- The steps that come to the chain of a connection, and the policies that they name (this project's own).
+use Rattle.std.specs.Prelude.{◌≡◌, ℕ, ◌+◌, ◌==◌, List, [], ◌∷◌, ◌++◌, map, Option, Some, None, option_map, option_and_then, slice_get, unwrap_or}
+use Rattle.std.specs.List.{find}
+use Rattle.mrpc_table.specs.declared.table.Table.{Table}
+use Rattle.policy_access.specs.Texts as access
+use Rattle.policy_redact.specs.Texts as redact
+use Rattle.engine_core.specs.Chains.{Chain, Changes}
+use Rattle.engine_core.specs.declared.op.Op.{Op}
+use Rattle.engine_core.specs.declared.op.Op.TheVariants as op
+use Rattle.engine_core.specs.declared.policy.Policy.{Policy}
+use Rattle.engine_core.specs.declared.policy.Policy.TheVariants as policy
+use Rattle.policy_blocks.specs.declared.item.NamedPolicy.{NamedPolicy}
+use Rattle.run_plan.specs.declared.application.Application.{Application}
+use Rattle.run_plan.specs.declared.application.OwnPolicy.{OwnPolicy}
+use Rattle.run_plan.specs.declared.application.OwnSchema.{OwnSchema}
+use Rattle.run_plan.specs.declared.operator.Operator.{Operator}
+use Rattle.run_plan.specs.declared.operator.Step.{Step}
+use Rattle.run_plan.specs.declared.operator.StepLine.{StepLine}
+use Rattle.run_plan.specs.declared.operator.StepLine.TheVariants as line
+use Rattle.run_plan.specs.declared.plan.Plan.{Plan}
+
+-- ---- policies by their places
+
+-- the name under which a policy is declared
+abbrev pub label_at : List NamedPolicy → ℕ → Option (List ℕ)
+label_at policies place = option_map (λ p. p.name) (slice_get policies place)
+
+-- a policy as it was read under the plan's table, and under a table of an application's own
+abbrev pub policy_at : List NamedPolicy → ℕ → Option Policy
+policy_at policies place = option_map (λ p. p.policy) (slice_get policies place)
+
+abbrev pub own_policy_in : List OwnPolicy → ℕ → Option OwnPolicy
+own_policy_in own place = find (λ p. p.place == place) own
+
+abbrev pub own_policy_at : List OwnPolicy → ℕ → Option Policy
+own_policy_at own place = option_map (λ p. p.policy) (own_policy_in own place)
+
+-- the table by which an application binds
+abbrev pub table_by : Table → Option OwnSchema → Table
+table_by shared None = shared
+table_by shared (Some own) = own.table
+
+abbrev pub table_of : Plan → Application → Table
+table_of plan app = table_by plan.table app.own
+
+-- a policy of the plan, as it judges on an application's connection
+abbrev pub policy_by : List NamedPolicy → Option OwnSchema → ℕ → Option Policy
+policy_by shared None place = policy_at shared place
+policy_by shared (Some own) place = own_policy_at own.policies place
+
+abbrev pub policy_of : Plan → Application → ℕ → Option Policy
+policy_of plan app place = policy_by plan.declared.policies app.own place
+
+-- ---- policies under tables
+
+-- a policy was read under the table, if it depends on one
+abbrev pub IsReadUnder : Table → Policy → Type 0
+IsReadUnder T (policy.Access p) = (lines : List (List ℕ)) × access.IsTextOf T lines p
+IsReadUnder T (policy.Redact p) = (lines : List (List ℕ)) × redact.IsTextOf T lines p
+IsReadUnder T _ = Unit {0}
+
+-- two policies say the same, each under its table: they have the same lines, if they have any
+abbrev pub SaysTheSame : (T : Table) → Policy → (U : Table) → Policy → Type 0
+SaysTheSame T (policy.Access p) U (policy.Access q) =
+    (lines : List (List ℕ)) × access.IsTextOf T lines p × access.IsTextOf U lines q
+SaysTheSame T (policy.Redact p) U (policy.Redact q) =
+    (lines : List (List ℕ)) × redact.IsTextOf T lines p × redact.IsTextOf U lines q
+SaysTheSame T p U q = p ≡ q
+
+-- ---- steps
+
+-- the step that a line stands for, on the connection of an application; none where it names no policy that is there
+abbrev pub with_policy : (List ℕ → Policy → Op) → Option (List ℕ) → Option Policy → Option Op
+with_policy f (Some label) (Some policy) = Some (f label policy)
+with_policy f _ _ = None
+
+abbrev pub op_of : Plan → Application → StepLine → Option Op
+op_of plan app (line.Attach at name place) =
+    with_policy (op.Attach at name) (label_at plan.declared.policies place) (policy_of plan app place)
+op_of plan app (line.Detach name) = Some (op.Detach name)
+op_of plan app (line.Upgrade name place) =
+    with_policy (op.Upgrade name) (label_at plan.declared.policies place) (policy_of plan app place)
+
+-- the attachment at a place of the chain with which an application's connection begins
+abbrev pub attaching : ℕ → List ℕ → Policy → Op
+attaching at label policy = op.Attach at label label policy
+
+abbrev pub attachment_of : Plan → Application → ℕ → Option Op
+attachment_of plan app at =
+    option_and_then (λ place. with_policy (attaching at) (label_at plan.declared.policies place) (policy_of plan app place))
+    (slice_get app.chain at)
+
+-- attachments in order from a place of the chain on, each under its own name
+abbrev pub chained : List NamedPolicy → ℕ → List ℕ → List StepLine
+chained policies at [] = []
+chained policies at (place ∷ places) =
+    line.Attach at (unwrap_or (label_at policies place) []) place ∷ chained policies (at + 1) places
+
+-- the steps of operators on a connection
+abbrev pub steps_in : Option Operator → List Step
+steps_in None = []
+steps_in (Some operator) = operator.steps
+
+abbrev pub operator_in : List Operator → ℕ → Option Operator
+operator_in operators conn = find (λ operator. operator.conn == conn) operators
+
+abbrev pub steps_on : List Operator → ℕ → List Step
+steps_on operators conn = steps_in (operator_in operators conn)
+
+-- all that comes to the chain of an application's connection, in order: its own attachments, and then the steps
+abbrev pub lines_on : Plan → Application → List StepLine
+lines_on plan app =
+    chained plan.declared.policies 0 app.chain ++ map (λ step. step.line) (steps_on plan.operators app.conn)
+
+-- ---- chains
+
+abbrev pub empty_chain : Chain
+empty_chain = record { entries = []; attached = 0 }
+
+-- the steps change the chain, one after another, and none is refused
+abbrev pub Changing : Chain → List Op → Chain → Type 0
+Changing before [] after = after ≡ before
+Changing before (op ∷ ops) after = (next : Chain) × Changes before op next × Changing next ops after
+
+-- the lines stand for steps of which the chain refuses none
+pub record NeverRefuses (plan : Plan) (app : Application) (lines : List StepLine) : Type 0 where
+  pub ops : List Op
+  pub stand_for : map (op_of plan app) lines ≡ map Some ops
+  pub after : Chain
+  pub change : Changing empty_chain ops after

@@ -1,0 +1,103 @@
+-- What a plan promises to those who run it (this project's own).
+use Rattle.std.specs.Prelude.{◌≡◌, ℕ, ◌*◌, ◌<◌, ◌≤◌, List, length, map, sum, All, Contains, Some, IfSome, slice_get}
+use Rattle.mrpc_table.specs.Names.{IsName, IsFullName}
+use Rattle.mrpc_table.specs.Valid.{IsValid, Ascends, AreDistinct}
+use Rattle.mrpc_table.specs.declared.limits.TheConstants.{MAX_LOADS}
+use Rattle.mrpc_table.specs.declared.table.Table.{Table}
+use Rattle.engine_core.specs.Policies.{IsAccess}
+use Rattle.engine_core.specs.declared.policy.Policy.{Policy}
+use Rattle.engine_core.specs.declared.policy.Policy.TheVariants.{Quota}
+use Rattle.policy_blocks.specs.Declarations.{IsSound}
+use Rattle.policy_blocks.specs.declared.item.NamedPolicy.{NamedPolicy}
+use Rattle.policy_blocks.specs.declared.item.Tenant.{Tenant}
+use Rattle.app_stub.specs.Programs.{IsClientProgram, IsServerProgram, submits_of}
+use Rattle.run_plan.specs.Chains.{policy_at, policy_of, IsReadUnder, SaysTheSame, lines_on, NeverRefuses}
+use Rattle.run_plan.specs.Ports.{IsIn, IsPort, ArePaired, connections_of}
+use Rattle.run_plan.specs.declared.application.Application.{Application}
+use Rattle.run_plan.specs.declared.application.OwnPolicy.{OwnPolicy}
+use Rattle.run_plan.specs.declared.application.OwnSchema.{OwnSchema}
+use Rattle.run_plan.specs.declared.application.Role.{Role}
+use Rattle.run_plan.specs.declared.application.Role.TheVariants as role
+use Rattle.run_plan.specs.declared.limits.TheConstants.{MAX_CONNECTIONS, MAX_WORK, MAX_WORKERS}
+use Rattle.run_plan.specs.declared.operator.Operator.{Operator}
+use Rattle.run_plan.specs.declared.operator.StepLine.{StepLine}
+use Rattle.run_plan.specs.declared.operator.StepLine.TheVariants as line
+use Rattle.run_plan.specs.declared.plan.Plan.{Plan}
+
+-- ---- programs
+
+-- the program of a role is one of its kind, for a heap of so many words
+abbrev pub HasProgram : ℕ → Role → Type 0
+HasProgram words (role.Client program) = IsClientProgram words program
+HasProgram words (role.Server program) = IsServerProgram words program
+HasProgram words role.Echo = Unit {0}
+
+-- how many calls a client submits
+abbrev pub submissions : Role → ℕ
+submissions (role.Client program) = length (submits_of 0 program)
+submissions _ = 0
+
+-- each call of a client counts twice, for its reply, with as many loads as a call has at most
+abbrev pub work : ℕ → List Application → ℕ
+work loads apps = 2 * sum (map (λ app. submissions app.role) apps) * loads
+
+-- ---- policies
+
+-- the window of a quota is that of its tenant
+abbrev pub HasWindow : List Tenant → Policy → Type 0
+HasWindow tenants (Quota tenant per cap) = (t : Tenant) × (slice_get tenants tenant ≡ Some t) × (per ≡ t.per)
+HasWindow tenants _ = Unit {0}
+
+-- a policy of an application's own was read under its table, and says what the plan's policy at the place says
+pub record IsOwnPolicy (shared : Table) (policies : List NamedPolicy) (own : Table) (p : OwnPolicy) : Type 0 where
+  pub there : Policy
+  pub found : policy_at policies p.place ≡ Some there
+  pub same : SaysTheSame shared there own p.policy
+
+pub record IsOwnSchema (plan : Plan) (own : OwnSchema) : Type 0 where
+  pub table : IsValid own.table
+  pub places : Ascends (λ p q. p.place < q.place) own.policies
+  pub policies : All (IsOwnPolicy plan.table plan.declared.policies own.table) own.policies
+
+-- the place names an access policy, as it judges on an application's connection
+pub record IsInbound (plan : Plan) (app : Application) (place : ℕ) : Type 0 where
+  pub there : Policy
+  pub found : policy_of plan app place ≡ Some there
+  pub access : IsAccess there
+
+-- ---- operators
+
+abbrev pub HasNames : StepLine → Type 0
+HasNames (line.Attach at name place) = IsName name
+HasNames (line.Detach name) = IsName name
+HasNames (line.Upgrade name place) = IsName name
+
+pub record IsOperator (plan : Plan) (operator : Operator) : Type 0 where
+  pub conn : Contains (connections_of plan.applications) operator.conn
+  pub counts : Ascends (λ step next. step.count ≤ next.count) operator.steps
+  pub names : All (λ step. HasNames step.line) operator.steps
+
+-- ---- applications and plans
+
+pub record IsApplication (plan : Plan) (app : Application) : Type 0 where
+  pub port : IsPort app
+  pub program : HasProgram app.heap app.role
+  pub own : IfSome app.own (IsOwnSchema plan)
+  pub inbound : IfSome app.inbound (IsInbound plan app)
+  pub chain : NeverRefuses plan app (lines_on plan app)
+
+pub record IsPlan (plan : Plan) : Type 0 where
+  pub service : IsFullName plan.service
+  pub loads : IsIn 1 MAX_LOADS plan.loads
+  pub workers : IsIn 1 MAX_WORKERS plan.workers
+  pub table : IsValid plan.table
+  pub declared : IsSound plan.declared
+  pub read : All (λ p. IsReadUnder plan.table p.policy) plan.declared.policies
+  pub windows : All (λ p. HasWindow plan.declared.tenants p.policy) plan.declared.policies
+  pub few : length plan.applications ≤ MAX_CONNECTIONS
+  pub connections : AreDistinct (connections_of plan.applications)
+  pub applications : All (IsApplication plan) plan.applications
+  pub pairs : ArePaired plan.applications plan.links
+  pub operator_of : AreDistinct (map (λ operator. operator.conn) plan.operators)
+  pub operators : All (IsOperator plan) plan.operators
+  pub work : work plan.loads plan.applications ≤ MAX_WORK

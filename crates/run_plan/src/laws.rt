@@ -1,0 +1,26 @@
+//! Laws of plans. These functions do nothing; their clauses hold.
+
+ghost use Rattle.std.specs.Prelude.{◌≡◌, ◌≢◌, ◌∷◌, ◌++◌, ℕ, List, Some, Contains, map};
+ghost use Rattle.engine_core.specs.Chains.{Chain, Changes};
+ghost use Rattle.engine_core.specs.declared.op.Op.{Op};
+ghost use Rattle.run_plan.specs.Chains.{Changing, empty_chain, lines_on, op_of};
+ghost use Rattle.run_plan.specs.Plans.{IsPlan};
+ghost use Rattle.run_plan.specs.Ports.{connections_of, peer_in};
+ghost use Rattle.run_plan.specs.declared.application.Application.{Application};
+ghost use Rattle.run_plan.specs.declared.operator.StepLine.{StepLine};
+ghost use Rattle.run_plan.specs.declared.plan.Plan.{Plan};
+
+/// Each step that comes to a connection's chain stands for one, and changes what the steps before it made.
+pub fn chains_never_refuse()
+    ensures { (plan : Plan) (app : Application) (front back : List StepLine) (line : StepLine) → IsPlan plan
+        → Contains plan.applications app → lines_on plan app ≡ front ++ line ∷ back
+        → (ops : List Op) × (op : Op) × (before after : Chain) × (map (op_of plan app) front ≡ map Some ops)
+        × (op_of plan app line ≡ Some op) × Changing empty_chain ops before × Changes before op after }
+{}
+
+/// Each connection of a plan talks to another one, which talks to it.
+pub fn peers_are_mutual()
+    ensures { (plan : Plan) (conn : ℕ) → IsPlan plan → Contains (connections_of plan.applications) conn
+        → (peer : ℕ) × (peer_in plan.links conn ≡ Some peer) × (peer_in plan.links peer ≡ Some conn)
+        × Contains (connections_of plan.applications) peer × (conn ≢ peer) }
+{}

@@ -1,0 +1,17 @@
+//! The limits of a run, which the definitions share.
+
+/// How many connections a run has at most. They are numbered from 1.
+pub const MAX_CONNECTIONS: u32 = 16;
+
+/// How many workers a run has at most.
+pub const MAX_WORKERS: u64 = 8;
+
+/// How many calls a ring holds at most.
+pub const MAX_RING: u64 = 1024;
+
+/// The largest weight of a connection.
+pub const MAX_WEIGHT: u64 = 100;
+
+/// How many loads a run makes at most: its calls, each of a client counted twice for its reply, times the limit of one
+/// call.
+pub const MAX_WORK: u64 = 16_777_216;

@@ -1,0 +1,90 @@
+//! Plans, and what is found in them.
+
+ghost use Rattle.std.specs.Prelude.{◌≡◌};
+ghost use Rattle.std.specs.Option.{option_copied};
+ghost use Rattle.run_plan.specs.Chains.{operator_in};
+ghost use Rattle.run_plan.specs.Ports.{application_in, link_in, other_end, peer_in};
+
+use crate::application::Application;
+use crate::operator::Operator;
+use mrpc_table::{Name, Sequence, Table};
+use policy_blocks::Declarations;
+
+/// Two connections that talk to each other.
+#[derive(Clone, Copy)]
+pub struct Pair {
+    pub a: u32,
+    pub b: u32,
+}
+
+/// What a run is told.
+#[derive(Drop)]
+pub struct Plan {
+    /// The full name of the service that all connections bind to.
+    pub service: Name,
+    /// How many loads a copy makes at most, 1 to 16384.
+    pub loads: u64,
+    /// How many threads serve the connections, 1 to 8.
+    pub workers: u64,
+    /// Whether connections that are ready get rounds by their weights.
+    pub weighted: bool,
+    /// The table of the plan's schema.
+    pub table: Table,
+    /// The tenants, and the policies as they were read under that table.
+    pub declared: Declarations,
+    pub applications: Sequence<Application>,
+    pub links: Sequence<Pair>,
+    /// At most one of each connection.
+    pub operators: Sequence<Operator>,
+}
+
+impl Plan {
+    /// The application on a connection; none where no application has it.
+    pub fn application(&self, conn: u32) -> Option<&Application>
+        ensures { option_copied result ≡ application_in self.now.applications conn }
+    {
+        self.applications
+            .as_slice()
+            .iter()
+            .find(|app| app.conn == conn)
+    }
+
+    /// The link of a connection; none where it stands in no link.
+    pub fn link(&self, conn: u32) -> Option<&Pair>
+        ensures { option_copied result ≡ link_in self.now.links conn }
+    {
+        self.links
+            .as_slice()
+            .iter()
+            .find(|link| link.a == conn || link.b == conn)
+    }
+
+    /// The connection to which another one talks; none where it stands in no link.
+    pub fn peer(&self, conn: u32) -> Option<u32>
+        ensures { result ≡ peer_in self.now.links conn }
+    {
+        match self.link(conn) {
+            None => None,
+            Some(link) => Some(link.other_end(conn)),
+        }
+    }
+
+    /// The operator of a connection; none where it has none.
+    pub fn operator(&self, conn: u32) -> Option<&Operator>
+        ensures { option_copied result ≡ operator_in self.now.operators conn }
+    {
+        self.operators
+            .as_slice()
+            .iter()
+            .find(|operator| operator.conn == conn)
+    }
+}
+
+impl Pair {
+    /// The end that isn't this connection.
+    pub fn other_end(&self, conn: u32) -> u32
+        ensures { result ≡ other_end conn self.now }
+    {
+        if self.a == conn { self.b } else { self.a }
+    }
+}

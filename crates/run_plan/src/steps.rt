@@ -1,0 +1,138 @@
+//! The steps that come to the chain of a connection.
+
+ghost use Rattle.std.specs.Prelude.{◌≡◌, Some, IfOk, IsSome};
+ghost use Rattle.std.specs.Option.{option_copied};
+ghost use Rattle.run_plan.specs.Chains.{attachment_of, label_at, op_of, policy_at, policy_of, table_of, steps_on};
+
+use crate::application::Application;
+use crate::operator::{Step, StepLine};
+use crate::plan::Plan;
+use engine_core::{Op, Policy};
+use mrpc_table::{Memory, Name, Table};
+use std::alloc::Global;
+
+impl Plan {
+    /// The table by which an application of this plan binds, and by which its connection copies and judges.
+    pub fn table_of<'a>(&'a self, app: &'a Application) -> &'a Table
+        ensures { result.now ≡ table_of self.now app.now }
+    {
+        match &app.own {
+            None => &self.table,
+            Some(own) => &own.table,
+        }
+    }
+
+    /// The name under which the policy at a place is declared, counted from 0; none where there is none.
+    pub fn label(&self, place: usize) -> Option<&Name>
+        ensures { option_copied result ≡ label_at self.now.declared.policies place }
+    {
+        self.declared
+            .policies()
+            .get(place)
+            .map(|policy| &policy.name)
+    }
+
+    /// The policy at a place, as it judges on the connection of an application; none where there is none. It takes time
+    /// in proportion to the policies of an application's own schema.
+    pub fn policy_of<'a>(&'a self, app: &'a Application, place: usize) -> Option<&'a Policy>
+        ensures { option_copied result ≡ policy_of self.now app.now place }
+    {
+        match &app.own {
+            None => self.shared_policy(place),
+            Some(own) => match own.policy(place) {
+                None => None,
+                Some(policy) => Some(&policy.policy),
+            },
+        }
+    }
+
+    /// The policy at a place, as it was read under the plan's table.
+    fn shared_policy(&self, place: usize) -> Option<&Policy>
+        ensures { option_copied result ≡ policy_at self.now.declared.policies place }
+    {
+        self.declared
+            .policies()
+            .get(place)
+            .map(|policy| &policy.policy)
+    }
+
+    /// The steps of operators on a connection, in order.
+    pub fn steps(&self, conn: u32) -> &[Step]
+        ensures { result.now ≡ steps_on self.now.operators conn }
+    {
+        match self.operator(conn) {
+            None => &[],
+            Some(operator) => operator.steps.as_slice(),
+        }
+    }
+
+    /// The step that a line stands for, on the connection of an application, for its chain. A plan has the policies that
+    /// its lines name.
+    pub fn step(&self, alloc: Global, app: &Application, line: &StepLine) -> Result<Op, Memory>
+        requires { IsSome (op_of self.now app.now line.now) }
+        ensures { IfOk result (λ op. op_of self.now app.now line.now ≡ Some op) }
+    {
+        match line {
+            StepLine::Attach { at, name, policy } => {
+                let (label, policy) = self.named(alloc, app, *policy)?;
+                Ok(Op::Attach {
+                    at: *at,
+                    name: name.copied(alloc)?,
+                    label,
+                    policy,
+                })
+            }
+            StepLine::Detach { name } => Ok(Op::Detach {
+                name: name.copied(alloc)?,
+            }),
+            StepLine::Upgrade { name, policy } => {
+                let (label, policy) = self.named(alloc, app, *policy)?;
+                Ok(Op::Upgrade {
+                    name: name.copied(alloc)?,
+                    label,
+                    policy,
+                })
+            }
+        }
+    }
+
+    /// The name and the policy at a place, for an application.
+    fn named(
+        &self,
+        alloc: Global,
+        app: &Application,
+        place: usize,
+    ) -> Result<(Name, Policy), Memory>
+        requires label { IsSome (label_at self.now.declared.policies place) }
+        requires policy { IsSome (policy_of self.now app.now place) }
+        ensures label { IfOk result (λ r. label_at self.now.declared.policies place ≡ Some r.0) }
+        ensures policy { IfOk result (λ r. policy_of self.now app.now place ≡ Some r.1) }
+    {
+        let Some(label) = self.label(place) else {
+            unreachable!()
+        };
+        let Some(policy) = self.policy_of(app, place) else {
+            unreachable!()
+        };
+        Ok((label.copied(alloc)?, policy.copied(alloc)?))
+    }
+
+    /// The attachment at a place of the chain with which an application's connection begins. A plan has the policies
+    /// that its chains name.
+    pub fn attachment(&self, alloc: Global, app: &Application, at: u32) -> Result<Op, Memory>
+        requires { IsSome (attachment_of self.now app.now at) }
+        ensures { IfOk result (λ op. attachment_of self.now app.now at ≡ Some op) }
+    {
+        let Some(place) = app.chain.as_slice().get(at as usize) else {
+            unreachable!()
+        };
+        let (label, policy) = self.named(alloc, app, *place)?;
+        let name = label.copied(alloc)?;
+        Ok(Op::Attach {
+            at,
+            name,
+            label,
+            policy,
+        })
+    }
+}
