@@ -6,7 +6,7 @@ use Rattle.std.proofs.lemmas.List.{get_or_append_left, length-append, map_push}
 use Rattle.std.proofs.Math.Seq.{get_or-append_seam}
 use Rattle.engine_core.specs.declared.op.Op.{Op as Step}
 use Rattle.engine_core.specs.declared.op.Op.TheVariants.{Detach}
-use Rattle.call_history.specs.Records.{IsNamed, name_in, rule_in, step_at, told_by}
+use Rattle.call_history.specs.Records.{HasRule, IsNamed, name_in, rule_in, step_at, told_by}
 use Rattle.call_history.specs.declared.happening.Cause.TheVariants as cause
 use Rattle.call_history.specs.declared.happening.Happening.{Happening}
 use Rattle.call_history.specs.declared.happening.Happening.TheVariants as what
@@ -18,7 +18,7 @@ use Rattle.call_history.specs.declared.record.Refusal.TheVariants as by
 stays-at : (steps : List Step) (step : Step) (place : ℕ) → place < length steps → step_at (steps ++ step ∷ []) place ≡ step_at steps place
 stays-at steps step place within = get_or_append_left steps (step ∷ []) (Detach []) place within
 
-tells-still : (steps : List Step) (step : Step) (r : Record) → IsNamed (length steps) r → told_by (steps ++ step ∷ []) r ≡ told_by steps r
+tells-still : (steps : List Step) (step : Step) (r : Record) → IsNamed steps r → told_by (steps ++ step ∷ []) r ≡ told_by steps r
 tells-still steps step (Took call) named = refl
 tells-still steps step (Away method number addr) named = refl
 tells-still steps step (Op place) named = ap what.Op (stays-at steps step place named)
@@ -29,20 +29,20 @@ tells-still steps step (Counted seq place) named = ap (λ (s : Step). what.Count
 tells-still steps step (Redacted seq place version) named = ap (λ (s : Step). what.Redacted seq (name_in s) version) (stays-at steps step place named)
 tells-still steps step (Sent seq bytes) named = refl
 tells-still steps step (Refused seq by.Malformed) named = refl
-tells-still steps step (Refused seq (by.Access place version rule)) named = ap (λ (s : Step). what.Refused seq (cause.Access (name_in s) version (rule_in s rule))) (stays-at steps step place named)
+tells-still steps step (Refused seq (by.Access place version rule)) named = ap (λ (s : Step). what.Refused seq (cause.Access (name_in s) version (rule_in s rule))) (stays-at steps step place named.0)
 tells-still steps step (Refused seq (by.Rate place level cost)) named = ap (λ (s : Step). what.Refused seq (cause.Rate (name_in s) level cost)) (stays-at steps step place named)
 tells-still steps step (Refused seq (by.Quota place ticket cap)) named = ap (λ (s : Step). what.Refused seq (cause.Quota (name_in s) ticket cap)) (stays-at steps step place named)
 tells-still steps step (Refused seq by.Transport) named = refl
 
-tell-still : (steps : List Step) (step : Step) (records : List Record) → All (IsNamed (length steps)) records
+tell-still : (steps : List Step) (step : Step) (records : List Record) → All (IsNamed steps) records
     → map (told_by (steps ++ step ∷ [])) records ≡ map (told_by steps) records
 tell-still steps step [] named = refl
 tell-still steps step (r ∷ records) named =
-    ap (λ (x : Happening). x ∷ map (told_by (steps ++ step ∷ [])) records) (tells-still steps step r (All-head (IsNamed (length steps)) r records named))
-    ∙ ap (λ (xs : List Happening). told_by steps r ∷ xs) (tell-still steps step records (All-tail (IsNamed (length steps)) r records named))
+    ap (λ (x : Happening). x ∷ map (told_by (steps ++ step ∷ [])) records) (tells-still steps step r (All-head (IsNamed steps) r records named))
+    ∙ ap (λ (xs : List Happening). told_by steps r ∷ xs) (tell-still steps step records (All-tail (IsNamed steps) r records named))
 
 -- the record of one more step tells that step
-pub operated : (steps more : List Step) (step : Step) (place : ℕ) (records now : List Record) (before : List Happening) → All (IsNamed (length steps)) records
+pub operated : (steps more : List Step) (step : Step) (place : ℕ) (records now : List Record) (before : List Happening) → All (IsNamed steps) records
     → more ≡ steps ++ step ∷ [] → now ≡ records ++ Op place ∷ [] → place ≡ length steps → before ≡ map (told_by steps) records
     → map (told_by more) now ≡ before ++ what.Op step ∷ []
 operated steps more step place records now before named steps_are records_are place_is before_is =
@@ -57,28 +57,35 @@ operated steps more step place records now before named steps_are records_are pl
 
 -- ---- each record names a step
 
-named-still : (few many : ℕ) (r : Record) → few ≤ many → IsNamed few r → IsNamed many r
-named-still few many (Took call) more named = tt
-named-still few many (Away method number addr) more named = tt
-named-still few many (Op place) more named = omega (arith, more, named)
-named-still few many (Moment ms) more named = tt
-named-still few many (Charged seq place level) more named = omega (arith, more, named)
-named-still few many (Drawn seq place window ticket) more named = omega (arith, more, named)
-named-still few many (Counted seq place) more named = omega (arith, more, named)
-named-still few many (Redacted seq place version) more named = omega (arith, more, named)
-named-still few many (Sent seq bytes) more named = tt
-named-still few many (Refused seq by.Malformed) more named = tt
-named-still few many (Refused seq (by.Access place version rule)) more named = omega (arith, more, named)
-named-still few many (Refused seq (by.Rate place level cost)) more named = omega (arith, more, named)
-named-still few many (Refused seq (by.Quota place ticket cap)) more named = omega (arith, more, named)
-named-still few many (Refused seq by.Transport) more named = tt
+longer : (steps : List Step) (step : Step) (place : ℕ) → place < length steps → place < length (steps ++ step ∷ [])
+longer steps step place within = omega (arith, within, length-append steps (step ∷ []))
+
+named-still : (steps : List Step) (step : Step) (r : Record) → IsNamed steps r → IsNamed (steps ++ step ∷ []) r
+named-still steps step (Took call) named = tt
+named-still steps step (Away method number addr) named = tt
+named-still steps step (Op place) named = longer steps step place named
+named-still steps step (Moment ms) named = tt
+named-still steps step (Charged seq place level) named = longer steps step place named
+named-still steps step (Drawn seq place window ticket) named = longer steps step place named
+named-still steps step (Counted seq place) named = longer steps step place named
+named-still steps step (Redacted seq place version) named = longer steps step place named
+named-still steps step (Sent seq bytes) named = tt
+named-still steps step (Refused seq by.Malformed) named = tt
+named-still steps step (Refused seq (by.Access place version rule)) named = (
+  longer steps step place named.0,
+  subst (λ (s : Step). HasRule s rule) (sym (stays-at steps step place named.0)) named.1,
+)
+named-still steps step (Refused seq (by.Rate place level cost)) named = longer steps step place named
+named-still steps step (Refused seq (by.Quota place ticket cap)) named = longer steps step place named
+named-still steps step (Refused seq by.Transport) named = tt
 
 -- so do those with the record of one more step
-pub named-operated : (steps more : List Step) (step : Step) (place : ℕ) (records now : List Record) → All (IsNamed (length steps)) records
-    → more ≡ steps ++ step ∷ [] → now ≡ records ++ Op place ∷ [] → place ≡ length steps → All (IsNamed (length more)) now
+pub named-operated : (steps more : List Step) (step : Step) (place : ℕ) (records now : List Record) → All (IsNamed steps) records
+    → more ≡ steps ++ step ∷ [] → now ≡ records ++ Op place ∷ [] → place ≡ length steps → All (IsNamed more) now
 named-operated steps more step place records now named steps_are records_are place_is =
-    let longer : length more ≡ length steps + 1 = ap length steps_are ∙ length-append steps (step ∷ []) in
-    subst (λ (rs : List Record). All (IsNamed (length more)) rs) (sym records_are)
-    (All-push (IsNamed (length more)) records (Op place)
-    (All-weaker (IsNamed (length steps)) (IsNamed (length more)) (λ r. named-still (length steps) (length more) r (omega (arith, longer))) records named)
-    (omega (arith, longer, place_is)))
+    let by_one : length more ≡ length steps + 1 = ap length steps_are ∙ length-append steps (step ∷ []) in
+    subst (λ (rs : List Record). All (IsNamed more) rs) (sym records_are)
+    (All-push (IsNamed more) records (Op place)
+    (All-weaker (IsNamed steps) (IsNamed more)
+    (λ r h. subst (λ (ss : List Step). IsNamed ss r) (sym steps_are) (named-still steps step r h)) records named)
+    (omega (arith, by_one, place_is)))

@@ -1,9 +1,9 @@
 -- What the records of a small history tell, worked out by hand.
-use Rattle.std.proofs.Common.{◌≡◌, List, [], ◌∷◌, codes, map, refl, reverse}
+use Rattle.std.proofs.Common.{◌≡◌, List, [], ◌∷◌, codes, map, refl, reverse, arith}
 use Rattle.engine_core.specs.declared.op.Op.{Op as Step}
 use Rattle.engine_core.specs.declared.op.Op.TheVariants.{Attach, Detach, Upgrade}
 use Rattle.engine_core.specs.declared.policy.Policy.TheVariants.{Access}
-use Rattle.call_history.specs.Records.{told_by}
+use Rattle.call_history.specs.Records.{IsNamed, told_by}
 use Rattle.call_history.specs.declared.happening.Cause.TheVariants as cause
 use Rattle.call_history.specs.declared.happening.Happening.TheVariants as what
 use Rattle.call_history.specs.declared.record.Record.{Record}
@@ -24,6 +24,20 @@ told-upgraded = refl
 -- behind the last rule the default
 told-default : told_by steps (Refused 1 (by.Access 2 2 1)) ≡ what.Refused 1 (cause.Access acl 2 (codes "default"))
 told-default = refl
+
+-- a refusal names a rule of the policy that a step puts in, or its default; there is no rule behind it, and none of a
+-- policy without rules
+named-rule : IsNamed steps (Refused 1 (by.Access 2 2 0))
+named-rule = (omega arith, omega arith)
+
+named-default : IsNamed steps (Refused 1 (by.Access 2 2 1))
+named-default = (omega arith, omega arith)
+
+not-named-behind : IsNamed steps (Refused 1 (by.Access 2 2 2)) → ⊥
+not-named-behind named = absurd (omega (arith, named.1))
+
+not-named-kind : IsNamed steps (Refused 1 (by.Access 1 2 0)) → ⊥
+not-named-kind named = named.1
 
 told-rate : told_by steps (Refused 2 (by.Rate 1 0 1000)) ≡ what.Refused 2 (cause.Rate rl 0 1000)
 told-rate = refl

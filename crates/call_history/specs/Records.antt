@@ -1,8 +1,10 @@
 -- How happenings are kept: a record names an entry by the operator's step that put its policy there (this project's
 -- own).
-use Rattle.std.specs.Prelude.{ℕ, ◌<◌, List, [], get_or}
+use Rattle.std.specs.Prelude.{ℕ, ◌<◌, ◌≤◌, List, [], get_or, length}
 use Rattle.engine_core.specs.declared.op.Op.{Op as Step}
 use Rattle.engine_core.specs.declared.op.Op.TheVariants.{Attach, Detach, Upgrade}
+use Rattle.engine_core.specs.declared.policy.Policy.{Policy}
+use Rattle.engine_core.specs.declared.policy.Policy.TheVariants.{Access}
 use Rattle.call_history.specs.Events.{rule_of}
 use Rattle.call_history.specs.declared.happening.Cause.{Cause}
 use Rattle.call_history.specs.declared.happening.Cause.TheVariants as cause
@@ -57,14 +59,25 @@ told_by steps (Redacted seq step version) = what.Redacted seq (name_in (step_at 
 told_by steps (Sent seq bytes) = what.Sent seq bytes
 told_by steps (Refused seq why) = what.Refused seq (cause_of steps why)
 
--- the step that a record names is one of so many
-abbrev pub IsNamed : ℕ → Record → Type 0
-IsNamed steps (Op step) = step < steps
-IsNamed steps (Charged seq step level) = step < steps
-IsNamed steps (Drawn seq step window ticket) = step < steps
-IsNamed steps (Counted seq step) = step < steps
-IsNamed steps (Redacted seq step version) = step < steps
-IsNamed steps (Refused seq (by.Access step version rule)) = step < steps
-IsNamed steps (Refused seq (by.Rate step level cost)) = step < steps
-IsNamed steps (Refused seq (by.Quota step ticket cap)) = step < steps
+-- the policy is one of rules, and has one at a place; the number of rules stands for the default
+abbrev pub IsRuleOf : Policy → ℕ → Type 0
+IsRuleOf (Access policy) rule = rule ≤ length policy.rules
+IsRuleOf _ rule = ⊥
+
+-- so is the policy that a step puts in
+abbrev pub HasRule : Step → ℕ → Type 0
+HasRule (Attach at name label policy) rule = IsRuleOf policy rule
+HasRule (Detach name) rule = ⊥
+HasRule (Upgrade name label policy) rule = IsRuleOf policy rule
+
+-- the step that a record names is one of these, and so is the rule one of the policy that it puts in
+abbrev pub IsNamed : List Step → Record → Type 0
+IsNamed steps (Op step) = step < length steps
+IsNamed steps (Charged seq step level) = step < length steps
+IsNamed steps (Drawn seq step window ticket) = step < length steps
+IsNamed steps (Counted seq step) = step < length steps
+IsNamed steps (Redacted seq step version) = step < length steps
+IsNamed steps (Refused seq (by.Access step version rule)) = (step < length steps) × HasRule (step_at steps step) rule
+IsNamed steps (Refused seq (by.Rate step level cost)) = step < length steps
+IsNamed steps (Refused seq (by.Quota step ticket cap)) = step < length steps
 IsNamed steps _ = Unit {0}

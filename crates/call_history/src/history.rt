@@ -36,7 +36,7 @@ impl Model for History {
       step_room = vec_capacity h.steps - length h.steps.items;
     } };
 
-    ghost invariant = { λ h. All (IsNamed (length h.steps.items)) h.records.items };
+    ghost invariant = { λ h. All (IsNamed h.steps.items) h.records.items };
 }
 
 impl History {
@@ -95,7 +95,7 @@ impl History {
     /// Adds a record, for which there is room. It takes no memory.
     pub fn push(&mut self, what: Record)
         requires room { 0 < self.old.room }
-        requires named { IsNamed (length self.old.steps) what }
+        requires named { IsNamed self.old.steps what }
         ensures steps { self.new.steps ≡ self.old.steps }
         ensures happenings { self.new.happenings ≡ self.old.happenings ++ told_by self.old.steps what ∷ [] }
         ensures room { self.old.room ≤ self.new.room + 1 }
@@ -117,11 +117,12 @@ impl History {
         self.records.is_empty()
     }
 
-    /// The record of the happening at a place, from 0.
+    /// The record of the happening at a place, from 0. A step that it names is there, and so is a rule, in the policy
+    /// that the step puts in; so `step` and the policy give the names that the happening tells.
     pub fn at(&self, place: usize) -> &Record
         requires { place < length self.now.happenings }
         ensures tells { slice_get self.now.happenings place ≡ Some (told_by self.now.steps result.now) }
-        ensures named { IsNamed (length self.now.steps) result.now }
+        ensures named { IsNamed self.now.steps result.now }
     {
         &self.records[place]
     }

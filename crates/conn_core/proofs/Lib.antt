@@ -17,6 +17,7 @@ mod Placing
 mod Recorded
 mod Records
 mod Rooms
+mod Ruled
 mod SentAll
 mod Spending
 mod Taken

@@ -19,6 +19,8 @@ use Rattle.engine_core.specs.declared.outcome.Noted.{Noted}
 use Rattle.engine_core.specs.declared.outcome.Noted.TheVariants as notes
 use Rattle.engine_core.specs.declared.outcome.Outcome.{Outcome}
 use Rattle.engine_core.specs.declared.outcome.Outcome.TheVariants as outcomes
+use Rattle.engine_core.specs.declared.outcome.Why.{Why}
+use Rattle.engine_core.specs.declared.outcome.Why.TheVariants.{Denied, Short, Over}
 use Rattle.engine_core.specs.declared.policy.Policy.TheVariants.{Redact}
 use Rattle.frame_transport.specs.declared.format.TheConstants.{MAX_PAYLOAD}
 use Rattle.graph_copy.specs.Answers.{loads_of}
@@ -28,7 +30,7 @@ use Rattle.chain_upgrade.specs.Chains.{ChainParts, chain_of}
 use Rattle.call_history.specs.Behind.{chain, copied, moment, taken}
 use Rattle.call_history.specs.Draining.{SendsSome}
 use Rattle.call_history.specs.Events.{Comes, Course, cause_of, fails}
-use Rattle.call_history.specs.Records.{Kept, step_at}
+use Rattle.call_history.specs.Records.{HasRule, Kept, step_at}
 use Rattle.call_history.specs.Loads.{IsLoaded, Loads}
 use Rattle.call_history.specs.Rules.{IsTakenBy, Under, payload}
 use Rattle.call_history.specs.declared.happening.Cause.TheVariants as cause
@@ -112,6 +114,16 @@ told_turn e seq (outcomes.Passed n) = told_note e.name seq n
 told_turn e seq (outcomes.Held left cost) = []
 told_turn e seq (outcomes.Refused n why) = told_note e.name seq n ++ what.Refused seq (cause_of e why) ∷ []
 told_turn e seq outcomes.Redacted = what.Redacted seq e.name e.version ∷ []
+
+-- the rule of a refusal, if it has one, is one of the policy that a step puts in
+abbrev pub GivesRule : Op → Why → Type 0
+GivesRule step (Denied rule) = HasRule step rule
+GivesRule step (Short level cost) = Unit {0}
+GivesRule step (Over ticket cap) = Unit {0}
+
+abbrev pub RefusesBy : Op → Outcome → Type 0
+RefusesBy step (outcomes.Refused n why) = GivesRule step why
+RefusesBy step _ = Unit {0}
 
 -- how many records a note takes, and a turn
 abbrev pub records_of : Noted → ℕ

@@ -7,7 +7,7 @@ ghost use Rattle.chain_upgrade.specs.Chains.{OnTurn};
 ghost use Rattle.call_history.specs.Events.{cause_of};
 ghost use Rattle.call_history.specs.Records.{IsNamed, cause_of as cause_by, name_in, step_at};
 ghost use Rattle.call_history.specs.declared.record.Record.TheVariants.{Refused};
-ghost use Rattle.conn_core.specs.Kept.{PutsIn, records_in, records_of, told_failure, told_note, told_turn};
+ghost use Rattle.conn_core.specs.Kept.{GivesRule, PutsIn, RefusesBy, records_in, records_of, told_failure, told_note, told_turn};
 
 use call_history::{History, Record, Refusal};
 use chain_upgrade::Turned;
@@ -17,6 +17,7 @@ use engine_core::{CallRow, Noted, Why};
 pub(crate) fn record_turn(history: &mut History, step: usize, version: u32, turned: Turned)
     requires step { step < length history.old.steps }
     requires room { OnTurn turned (λ seq outcome. records_in outcome ≤ history.old.room) }
+    requires rule { OnTurn turned (λ seq outcome. RefusesBy (step_at history.old.steps step) outcome) }
     ensures steps { history.new.steps ≡ history.old.steps }
     ensures idle { turned ≡ Turned.Idle → history.new ≡ history.old }
     ensures told { OnTurn turned (λ seq outcome. (e : Entry) → PutsIn (step_at history.old.steps step) e
@@ -61,7 +62,8 @@ fn record_note(history: &mut History, step: usize, seq: u32, noted: Noted)
 fn refusal(step: usize, version: u32, why: Why) -> Refusal
     ensures cause { (steps : List Op) (e : Entry) → PutsIn (step_at steps step) e → e.version ≡ version
         → cause_by steps result ≡ cause_of e why }
-    ensures named { (steps seq : ℕ) → step < steps → IsNamed steps (Refused seq result) }
+    ensures named { (steps : List Op) (seq : ℕ) → step < length steps → GivesRule (step_at steps step) why
+        → IsNamed steps (Refused seq result) }
 {
     match why {
         Why::Denied { rule } => Refusal::Access {

@@ -5,6 +5,14 @@ use Rattle.conn_core.proofs.KeptNext.{kept-failed-as, step-from}
 use Rattle.conn_core.proofs.Rooms.{room-fates}
 use Rattle.conn_core.proofs.conn.Conn.fail.Goals as goal
 
+pub returns-clause-failed : goal.returns-clause-failed
+returns-clause-failed c = step-from c.args.self.now _ _ _ _ _ _ _ c.self.view_is
+    (kept-failed-as c.events_keep.ensures.event _ _ _ c.self.inside.chain c.drop_all.new.self _ c.refuse_all.new.history
+    _ _ _ _ c.self.invariant c.drop_all.ensures
+    c.refuse_all.ensures.steps
+    (c.refuse_all.ensures.told ∙ ap (λ (calls : List StandingCall). c.self.inside.history.happenings
+    ++ told_failure calls) c.calls.ensures) c.is_chain.ensures)
+
 pub refuse_all-requires : goal.refuse_all-requires
 refuse_all-requires c = record {
   room = omega (arith, ap length c.calls.ensures, room-fates _ _ _ c.self.invariant.room);
@@ -16,11 +24,3 @@ invariant_of-self c = (kept-failed-as c.events_keep.ensures.event _ _ _ c.self.i
     c.refuse_all.ensures.steps
     (c.refuse_all.ensures.told ∙ ap (λ (calls : List StandingCall). c.self.inside.history.happenings
     ++ told_failure calls) c.calls.ensures) c.is_chain.ensures).kept
-
-pub returns-clause-failed : goal.returns-clause-failed
-returns-clause-failed c = step-from c.args.self.now _ _ _ _ _ _ _ c.self.view_is
-    (kept-failed-as c.events_keep.ensures.event _ _ _ c.self.inside.chain c.drop_all.new.self _ c.refuse_all.new.history
-    _ _ _ _ c.self.invariant c.drop_all.ensures
-    c.refuse_all.ensures.steps
-    (c.refuse_all.ensures.told ∙ ap (λ (calls : List StandingCall). c.self.inside.history.happenings
-    ++ told_failure calls) c.calls.ensures) c.is_chain.ensures)

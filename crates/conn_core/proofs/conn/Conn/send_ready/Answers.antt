@@ -7,28 +7,6 @@ use Rattle.conn_core.proofs.KeptNext.{step-from}
 use Rattle.conn_core.proofs.KeptSent.{hands-left, head-has-room, head-is-short, head-of-table, left-frames, left-kept}
 use Rattle.conn_core.proofs.conn.Conn.send_ready.Goals as goal
 
-pub hand-requires-clause-fits : goal.hand-requires-clause-fits
-hand-requires-clause-fits g c =
-    head-of-table c.standing_calls_have_forms.ensures.forms _ _ _ c.self.inside.chain _ _ _ _ _ c.in-Some.head.now
-    c.call.result.now c.self.invariant c.in-Some.ensures.call c.call.ensures
-
-pub hand-requires-clause-short : goal.hand-requires-clause-short
-hand-requires-clause-short g c =
-    head-is-short _ _ _ c.self.inside.chain _ _ _ _ _ c.in-Some.head.now c.call.result.now c.self.invariant
-    c.in-Some.ensures.call c.call.ensures
-
-pub leave-seq-requires-clause-room : goal.leave-seq-requires-clause-room
-leave-seq-requires-clause-room g c =
-    head-has-room _ _ _ c.self.inside.chain _ _ _ _ _ c.in-Some.head.now c.self.invariant c.in-Some.ensures.call
-
-pub invariant_of-self : goal.invariant_of-self
-invariant_of-self g c = (left-kept c.events_keep.ensures.event _ _ _ c.self.inside.chain c.leave-seq.new.chain _
-    c.leave-seq.new.history _ _ _ _ c.leave-seq.result _ c.in-Some.head.now c.self.invariant
-    c.leave-seq.ensures c.in-Some.ensures.call c.in-Some.ensures.ready
-    (ap (λ (b : List ℕ). 16 + length b)
-    (c.as_slice.ensures ∙ c.in-Done.ensures.encoded refl ∙ ap (payload c.self.inside.table.now) c.call.ensures))
-    c.is_chain.ensures).kept
-
 pub returns-in-Done-clause-sent : goal.returns-in-Done-clause-sent
 returns-in-Done-clause-sent g c = (
   16 + length c.as_slice.result.now,
@@ -61,3 +39,25 @@ returns-in-Failed-clause-handed g c =
     c.self.inside.history c.self.inside.ended)
     c.fail.new.self c.fail.ensures.same.table c.fail.ensures.same.conn c.fail.ensures.failed ∙ ap frames c.self.view_is)
     (c.in-Failed.ensures.kept (λ is. absurd cc))
+
+pub hand-requires-clause-fits : goal.hand-requires-clause-fits
+hand-requires-clause-fits g c =
+    head-of-table c.standing_calls_have_forms.ensures.forms _ _ _ c.self.inside.chain _ _ _ _ _ c.in-Some.head.now
+    c.call.result.now c.self.invariant c.in-Some.ensures.call c.call.ensures
+
+pub hand-requires-clause-short : goal.hand-requires-clause-short
+hand-requires-clause-short g c =
+    head-is-short _ _ _ c.self.inside.chain _ _ _ _ _ c.in-Some.head.now c.call.result.now c.self.invariant
+    c.in-Some.ensures.call c.call.ensures
+
+pub leave-seq-requires-clause-room : goal.leave-seq-requires-clause-room
+leave-seq-requires-clause-room g c =
+    head-has-room _ _ _ c.self.inside.chain _ _ _ _ _ c.in-Some.head.now c.self.invariant c.in-Some.ensures.call
+
+pub invariant_of-self : goal.invariant_of-self
+invariant_of-self g c = (left-kept c.events_keep.ensures.event _ _ _ c.self.inside.chain c.leave-seq.new.chain _
+    c.leave-seq.new.history _ _ _ _ c.leave-seq.result _ c.in-Some.head.now c.self.invariant
+    c.leave-seq.ensures c.in-Some.ensures.call c.in-Some.ensures.ready
+    (ap (λ (b : List ℕ). 16 + length b)
+    (c.as_slice.ensures ∙ c.in-Done.ensures.encoded refl ∙ ap (payload c.self.inside.table.now) c.call.ensures))
+    c.is_chain.ensures).kept

@@ -1,9 +1,11 @@
 use Rattle.std.proofs.Common.{length, ap, arith}
 use Rattle.engine_core.specs.Engines.{EngineParts}
+use Rattle.call_history.specs.Records.{step_at}
 use Rattle.conn_core.specs.Connections.{Connection}
 use Rattle.conn_core.specs.Kept.{seen}
 use Rattle.conn_core.proofs.KeptTurned.{of-table}
 use Rattle.conn_core.proofs.Lists.{map-at}
+use Rattle.conn_core.proofs.Ruled.{turn-by}
 use Rattle.conn_core.proofs.TurnTold.{aligned, draws-behind, kept-behind, parts-behind, step-put, steps-behind, turn-has-room, turned-kept}
 use Rattle.conn_core.proofs.conn.Conn.turn.Goals as goal
 
@@ -39,6 +41,18 @@ record_turn-requires-clause-room g c = turn-has-room (record {
     c.self.inside.conn c.self.inside.table.now c.self.inside.limit c.self.inside.chain c.turn-turned.new.self
     c.self.inside.history c.self.inside.ended c.self.inside.steps.items
     c.self.inside.accepted c.self.inside.moment c.args.at c.turn-turned.result c.self.invariant
+    c.turn-turned.ensures.turn
+
+pub record_turn-requires-clause-rule : goal.record_turn-requires-clause-rule
+record_turn-requires-clause-rule g c = turn-by (step_at c.self.inside.history.steps c.index-step.result.now)
+    c.engine.result.now c.self.inside.chain c.turn-turned.new.self c.args.at c.self.inside.moment c.turn-turned.result
+    c.engine.ensures
+    (step-put (seen c.self.inside.conn c.self.inside.table.now c.self.inside.limit c.self.inside.chain
+    c.self.inside.history c.self.inside.ended)
+    c.self.inside.steps.items c.self.inside.history c.self.inside.accepted c.self.inside.moment c.args.at
+    c.index-step.result.now c.engine.result.now.entry c.self.invariant
+    (map-at (λ (e : EngineParts). e.entry) c.self.inside.chain.engines c.args.at c.engine.result.now c.engine.ensures)
+    c.index-step.ensures).put
     c.turn-turned.ensures.turn
 
 pub invariant_of-self : goal.invariant_of-self
