@@ -3,6 +3,7 @@ use Rattle.std.specs.Prelude.{◌≡◌, ℕ, ◌+◌, ◌==◌, List, [], ◌�
 use Rattle.std.specs.List.{find}
 use Rattle.mrpc_table.specs.declared.table.Table.{Table}
 use Rattle.policy_access.specs.Texts as access
+use Rattle.policy_access.specs.Verdict.{AccessPolicy}
 use Rattle.policy_redact.specs.Texts as redact
 use Rattle.engine_core.specs.Chains.{Chain, Changes}
 use Rattle.engine_core.specs.declared.op.Op.{Op}
@@ -50,6 +51,15 @@ policy_by shared (Some own) place = own_policy_at own.policies place
 
 abbrev pub policy_of : Plan → Application → ℕ → Option Policy
 policy_of plan app place = policy_by plan.declared.policies app.own place
+
+-- an access policy; none where a policy is of another kind
+abbrev pub access_in : Option Policy → Option AccessPolicy
+access_in (Some (policy.Access p)) = Some p
+access_in _ = None
+
+-- the access policy that judges what an application is delivered
+abbrev pub inbound_of : Plan → Application → Option AccessPolicy
+inbound_of plan app = option_and_then (λ place. access_in (policy_of plan app place)) app.inbound
 
 -- ---- policies under tables
 

@@ -2,13 +2,14 @@
 
 ghost use Rattle.std.specs.Prelude.{◌≡◌, Some, IfOk, IsSome};
 ghost use Rattle.std.specs.Option.{option_copied};
-ghost use Rattle.run_plan.specs.Chains.{attachment_of, label_at, op_of, policy_at, policy_of, table_of, steps_on};
+ghost use Rattle.run_plan.specs.Chains.{access_in, attachment_of, inbound_of, label_at, op_of, policy_at, policy_of, table_of, steps_on};
 
 use crate::application::Application;
 use crate::operator::{Step, StepLine};
 use crate::plan::Plan;
 use engine_core::{Op, Policy};
 use mrpc_table::{Memory, Name, Table};
+use policy_access::Access;
 use std::alloc::Global;
 
 impl Plan {
@@ -54,6 +55,17 @@ impl Plan {
             .policies()
             .get(place)
             .map(|policy| &policy.policy)
+    }
+
+    /// The access policy that judges what an application is delivered; none where it has none. It takes time as
+    /// [`Plan::policy_of`] does.
+    pub fn inbound_of<'a>(&'a self, app: &'a Application) -> Option<&'a Access>
+        ensures { option_copied result ≡ inbound_of self.now app.now }
+    {
+        match app.inbound {
+            None => None,
+            Some(place) => access_in(self.policy_of(app, place)),
+        }
     }
 
     /// The steps of operators on a connection, in order.
@@ -134,5 +146,15 @@ impl Plan {
             label,
             policy,
         })
+    }
+}
+
+/// The access policy, if this is one.
+fn access_in<'a>(policy: Option<&'a Policy>) -> Option<&'a Access>
+    ensures { option_copied result ≡ access_in (option_copied policy.entry) }
+{
+    match policy {
+        Some(Policy::Access(access)) => Some(access),
+        _ => None,
     }
 }
