@@ -64,7 +64,7 @@ fn told_of_step(step: &Op) -> Told<'_> {
 
 // What the refusal of a call tells.
 fn told_of_refusal(history: &History, seq: u32, by: Refusal) -> Told<'_>
-    requires { IsNamed (length history.now.steps) (Refused seq by) }
+    requires { IsNamed history.now.steps (Refused seq by) }
 {
     match by {
         Refusal::Malformed => Told::Malformed(seq),
