@@ -3,7 +3,7 @@ use Rattle.std.proofs.Common.{◌≡◌, ◌≢◌, ℕ, suc, ◌+◌, ◌*◌, 
 use Rattle.std.specs.Prelude.{option_map, unwrap_or}
 use Rattle.std.proofs.lemmas.Bool.{ne_eqb}
 use Rattle.std.proofs.lemmas.Bool.Decides.{eqb_tells}
-use Rattle.map_entries.specs.Sorted.{items_of_entry}
+use Rattle.mrpc_table.specs.SortedEntries.{items_of_entry}
 use Rattle.mrpc_table.specs.Node.{Node, no_fields, one, Item, Items, no_items, item}
 use Rattle.mrpc_table.specs.Normal.{fields_of, field_at, kind_at}
 use Rattle.mrpc_table.specs.View.{item_of, items_of, content_of}

@@ -2,7 +2,7 @@
 
 ghost use Rattle.std.specs.Prelude.{◌≡◌, ◌≢◌, ◌⊎◌, ◌+◌, ℕ, Bool, true, List, [], ◌∷◌, IfOk, OnOk, IsTrue};
 ghost use Rattle.std.specs.Option.{option_map};
-ghost use Rattle.map_entries.specs.Last.{last_of_each};
+ghost use Rattle.mrpc_table.specs.MapEntries.{last_of_each};
 ghost use Rattle.mrpc_table.specs.Node.{Node, no_fields};
 ghost use Rattle.mrpc_table.specs.Normal.{fields_of};
 ghost use Rattle.mrpc_table.specs.Valid.{IsValid};
@@ -19,7 +19,7 @@ use crate::look_up::{field_of, next_slot};
 use crate::order::in_order;
 use crate::role::{Shape, shape_of};
 use graph_form::oneofs_of;
-use map_entries::last_of_each;
+use mrpc_table::last_of_each;
 use mrpc_table::{
     Bytes, Entries, FieldValue, Kind, Label, MAX_DEPTH, Memory, Numbered, Table, Tree, Value,
     Values,

@@ -13,7 +13,7 @@ use Rattle.mrpc_table.specs.declared.table.Label.{Label}
 use Rattle.mrpc_table.specs.declared.table.Label.TheVariants.{Plain, Optional, Repeated, Packed, Map, Member}
 use Rattle.mrpc_table.specs.declared.table.Field.{Field}
 use Rattle.mrpc_table.specs.declared.table.Table.{Table}
-use Rattle.map_entries.specs.Last.{last_of_each}
+use Rattle.mrpc_table.specs.MapEntries.{last_of_each}
 use Rattle.graph_form.specs.declared.reason.Reason.TheVariants.{Address, Case, Depth}
 use Rattle.graph_form.specs.Roles.{value, run_address, link, count, elements_address, entry_count, entries_address, case_word, Expected, behind, plain_role, optional_role, slot_role, is_member, own_slots, oneofs_of, slots_from, cases_from, node_words, elements_from, entries_from, element_words}
 use Rattle.graph_form.specs.Placed.{Placed, nothing, first, word, IsFine, AreSound, IsSound}

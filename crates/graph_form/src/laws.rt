@@ -12,7 +12,7 @@ ghost use Rattle.graph_form.specs.Malformed.{OffendsFirst, IsMalformed, Outcome,
 ghost use Rattle.graph_form.specs.declared.reason.Reason.{Reason};
 ghost use Rattle.graph_form.specs.declared.reason.Reason.TheVariants.{Loads, NoMethod};
 
-use map_entries::kept_entries_are_normal;
+use mrpc_table::kept_entries_are_normal;
 
 /// The type, the address and the loads determine a placed tree.
 pub fn loads_determine_placed_tree()

@@ -1,7 +1,7 @@
 //! Graphs in words: how an unmarshalled message lies in a heap of 64-bit words, which words are
 //! loaded for it and in which order, which of them offend, and which tree they are.
 //!
-//! The layout is this project's own. It stands on `mrpc_table` and `map_entries`; its one contract for the layers
+//! The layout is this project's own. It stands on `mrpc_table`; its one contract for the layers
 //! above: a type, an address and the loads determine the placed tree.
 #![tactic(auto)]
 

@@ -16,7 +16,7 @@ use Rattle.mrpc_table.specs.declared.table.Label.TheVariants.{Plain, Optional, R
 use Rattle.mrpc_table.specs.declared.table.Field.{Field}
 use Rattle.mrpc_table.specs.declared.table.Table.{Table}
 use Rattle.mrpc_table.specs.declared.tree.Value.{Value}
-use Rattle.map_entries.specs.Last.{key_cmp, with_pair, last_of_each}
+use Rattle.mrpc_table.specs.MapEntries.{key_cmp, with_pair, last_of_each}
 use Rattle.graph_form.specs.Roles.{behind, count, entry_count, elements_address, entries_address, plain_role, slot_role, is_member, element_words}
 use Rattle.graph_form.specs.Placed.{Placed, Word, word}
 use Rattle.graph_form.specs.Forgotten.{slot_content, plain_item, elements_at, entries_at}

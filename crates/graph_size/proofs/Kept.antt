@@ -5,7 +5,7 @@ use Rattle.std.specs.declared.cmp.Ordering.TheVariants.{Less, Equal, Greater}
 use Rattle.mrpc_table.specs.Node.{Item, Pairs, no_pairs, pair}
 use Rattle.mrpc_table.specs.declared.table.Kind.{Kind}
 use Rattle.mrpc_table.specs.declared.table.Table.{Table}
-use Rattle.map_entries.specs.Last.{key_cmp, with_pair, last_of_each}
+use Rattle.mrpc_table.specs.MapEntries.{key_cmp, with_pair, last_of_each}
 use Rattle.wire_base.specs.Encoding.{tag, delimited, item_bytes, entries_bytes}
 use Rattle.mrpc_table.specs.WireTypes.{wire_len, wire_type_of}
 

@@ -12,7 +12,7 @@ use Rattle.mrpc_table.specs.declared.table.Label.{Label}
 use Rattle.mrpc_table.specs.declared.table.Label.TheVariants.{Plain, Optional, Repeated, Packed, Map, Member}
 use Rattle.mrpc_table.specs.declared.table.Field.{Field}
 use Rattle.mrpc_table.specs.declared.table.Table.{Table}
-use Rattle.map_entries.specs.Last.{last_of_each}
+use Rattle.mrpc_table.specs.MapEntries.{last_of_each}
 use Rattle.wire_base.specs.Encoding.{tag, delimited, label_at, is_packed, fields_bytes, content_bytes, item_bytes, joined_bytes, records_bytes, entries_bytes, encoding}
 use Rattle.mrpc_table.specs.Words.{key_kind}
 use Rattle.mrpc_table.specs.WireTypes.{wire_len, wire_type_of}

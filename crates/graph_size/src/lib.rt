@@ -3,7 +3,7 @@
 //! A graph of which at most 16384 words are loaded has an encoding of at most 16 bytes for each of them, so whoever
 //! passes it on can tell beforehand what room it takes. The crate has no code. It stands on `graph_form`, which says
 //! what is loaded of a graph and which tree that is, on `wire_base`, which says how a tree is encoded, and on
-//! `mrpc_table` and `map_entries`; its one contract for the layers above is the law below.
+//! `mrpc_table`; its one contract for the layers above is the law below.
 #![tactic(auto)]
 
 ghost use Rattle.std.specs.Prelude.{ℕ, ◌*◌, ◌≤◌, length};

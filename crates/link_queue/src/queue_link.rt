@@ -196,7 +196,7 @@ impl<'r, R: Wait> QueueLink<'r, R> {
 }
 
 impl<'r, R: Wait> Link for QueueLink<'r, R> {
-    ghost use Rattle.std.specs.Prelude.{◌≡◌, Some, true};
+    ghost use Rattle.std.specs.Prelude.{◌≡◌, Some, true, ⊤};
     ghost use mathlib.Core.List.{IsPrefix};
 
     ghost handed = { λ l. l.handed };
@@ -214,6 +214,9 @@ impl<'r, R: Wait> Link for QueueLink<'r, R> {
 
     // It has the same two queues, of as many frames at most.
     ghost since = { λ old new. (new.forward ≡ old.forward) × (new.backward ≡ old.backward) × (new.most ≡ old.most) };
+
+    // A refusal tells no more.
+    ghost refused = { λ _ _ _. ⊤ };
 
     fn send(&mut self, frame: &[u8]) -> Handed
         // A send fails only once it has learnt that the inner link failed.

@@ -32,6 +32,9 @@ impl Link for Wanting {
 
     ghost since = { λ old new. new.in_receives ≡ old.in_receives };
 
+    // A refusal tells no more.
+    ghost refused = { λ _ _ _. ⊤ };
+
     fn send(&mut self, _frame: &[u8]) -> Handed {
         Handed::Memory
     }

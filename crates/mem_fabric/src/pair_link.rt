@@ -183,7 +183,7 @@ impl<'r, R: Wait> PairLink<'r, R> {
 }
 
 impl<'r, R: Wait> Link for PairLink<'r, R> {
-    ghost use Rattle.std.specs.Prelude.{Some};
+    ghost use Rattle.std.specs.Prelude.{Some, ⊤};
     ghost use mathlib.Core.List.{IsPrefix};
 
     ghost handed = { λ l. l.handed };
@@ -202,6 +202,9 @@ impl<'r, R: Wait> Link for PairLink<'r, R> {
     // It has the same two queues, and the same calls are to fail.
     ghost since = { λ old new. (new.outward ≡ old.outward) × (new.inward ≡ old.inward)
         × (new.failing_sends ≡ old.failing_sends) × (new.failing_receives ≡ old.failing_receives) };
+
+    // A refusal tells no more.
+    ghost refused = { λ _ _ _. ⊤ };
 
     fn send(&mut self, frame: &[u8]) -> Handed
         // A send fails exactly where its number is listed, or the sending side was ended.

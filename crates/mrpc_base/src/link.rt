@@ -52,6 +52,9 @@ pub trait Link {
     /// That the second is the first, later on: whatever a link was once, each call leaves it so.
     ghost since: { Self → Self → Type 0 };
 
+    /// What a failed send of a frame tells of the link before and after the call.
+    ghost refused: { Self → List ℕ → Self → Type 0 };
+
     /// Hands a frame over.
     fn send(&mut self, frame: &[u8]) -> Handed
         ensures appended { result ≡ Handed.Done → handed self.new ≡ handed self.old ++ frame.now ∷ [] }
@@ -59,6 +62,7 @@ pub trait Link {
         ensures same_given { given self.new ≡ given self.old }
         ensures same_ended { ended self.new ≡ ended self.old }
         ensures same_link { (first : Self) → since first self.old → since first self.new }
+        ensures refused { result ≡ Handed.Failed → refused self.old frame.now self.new }
 
         ensures cause { HasCause (result ≡ Handed.Failed) (faults self.old) (faults self.new) };
 

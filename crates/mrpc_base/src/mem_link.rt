@@ -149,7 +149,7 @@ impl MemLink {
 }
 
 impl Link for MemLink {
-    ghost use Rattle.std.specs.Prelude.{◌≡◌, ◌≢◌, Some, [], slice_get};
+    ghost use Rattle.std.specs.Prelude.{◌≡◌, ◌≢◌, ◌⊎◌, Contains, IsTrue, Some, [], slice_get};
 
     ghost handed = { λ l. l.handed };
 
@@ -166,6 +166,9 @@ impl Link for MemLink {
     // What it was made with stays.
     ghost since = { λ old new. (new.lengths ≡ old.lengths) × (new.failing_sends ≡ old.failing_sends)
         × (new.failing_receives ≡ old.failing_receives) };
+
+    // Its number is listed, or the sending side was ended.
+    ghost refused = { λ old _ new. Contains old.failing_sends new.sends ⊎ IsTrue old.finished };
 
     fn send(&mut self, frame: &[u8]) -> Handed
         // A send fails exactly where its number is listed, or the sending side was ended.

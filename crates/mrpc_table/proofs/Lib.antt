@@ -3,6 +3,9 @@ mod ContentLemmas
 mod Cuts
 mod FieldLemmas
 mod FitLemmas
+mod MapKeeping
+mod MapOrder
+mod MapRising
 mod PathFinding
 mod PathRows
 mod PathWays

@@ -4,6 +4,7 @@ pub mod FirstFault
 pub mod Falls
 pub mod Fits
 pub mod Lines
+pub mod MapEntries
 pub mod Names
 pub mod Node
 pub mod NodeCode
@@ -13,6 +14,7 @@ pub mod PathTrees
 pub mod PathWords
 pub mod PolicyLines
 pub mod Scalars
+pub mod SortedEntries
 pub mod Text
 pub mod Valid
 pub mod View

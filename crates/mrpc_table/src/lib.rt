@@ -11,7 +11,9 @@
 //! by dots, of which each but the last is a message ([`PathWord::read`], [`PathWord::resolve`], [`message_behind`];
 //! `specs/PathWords.antt`, `PathFields.antt`, `PathTrees.antt`). [`Lines`] are the lines of a policy and [`RuleFault`]
 //! says why they are no text of one (`specs/PolicyLines.antt`, over `FirstFault.antt`). All texts of the project are
-//! read with one vocabulary of lines and words (`specs/Lines.antt`).
+//! read with one vocabulary of lines and words (`specs/Lines.antt`). A map's entries come in any order, and with equal
+//! keys, from bytes as from words; [`last_of_each`] brings them into the order of a message in normal form
+//! (`specs/MapEntries.antt`).
 #![tactic(auto)]
 
 mod call;
@@ -21,6 +23,8 @@ mod field_number;
 mod field_search;
 mod hexadecimal;
 mod limits;
+mod map_entries;
+mod map_laws;
 mod memory;
 mod normal;
 mod path;
@@ -43,6 +47,8 @@ pub use limits::{
     MAX_FIELDS, MAX_FILES, MAX_FULL_NAME, MAX_HEAP, MAX_LOADS, MAX_MESSAGES, MAX_METHODS, MAX_NAME,
     MAX_PATH, MAX_TEXT, MAX_VALUES, MIN_HEAP,
 };
+pub use map_entries::last_of_each;
+pub use map_laws::kept_entries_are_normal;
 pub use memory::Memory;
 pub use normal::fits;
 pub use path::{Path, PathWord};

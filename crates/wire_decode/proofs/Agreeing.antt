@@ -8,7 +8,7 @@ use Rattle.mrpc_table.specs.declared.table.Label.{Label}
 use Rattle.mrpc_table.specs.declared.table.Label.TheVariants.{Plain, Optional, Repeated, Packed, Map, Member}
 use Rattle.mrpc_table.specs.declared.table.Field.{Field}
 use Rattle.mrpc_table.specs.declared.table.Table.{Table}
-use Rattle.map_entries.specs.Last.{last_of_each}
+use Rattle.mrpc_table.specs.MapEntries.{last_of_each}
 use Rattle.wire_decode.specs.Words.{is_list, is_map}
 use Rattle.wire_decode.specs.Reads.{Reads, read_end, is_message, entry_fields, numbers}
 use Rattle.wire_decode.specs.Merged.{contents_of, items_in, values_in, singles_in, joined, last_value, singular, element, entry, present, present_if_set, some_items, some_pairs, field_content, counted, with_content}

@@ -17,7 +17,7 @@ use Rattle.mrpc_table.specs.declared.table.Table.{Table}
 use Rattle.wire_base.specs.Encoding.{label_at, is_packed, encoding}
 use Rattle.wire_decode.specs.Reads.{Reads, read_end, is_message}
 use Rattle.wire_decode.specs.Merges.{Merges}
-use Rattle.map_entries.specs.Last.{key_cmp, with_pair, last_of_each}
+use Rattle.mrpc_table.specs.MapEntries.{key_cmp, with_pair, last_of_each}
 use Rattle.wire_decode.specs.Merged.{contents_of, items_in, items_from, values_in, join_fields, is_default, default_of, singular, element, part, entry, present, present_if_set, some_items, some_pairs, field_content, with_content, with_fields, merged}
 use Rattle.wire_decode.proofs.WireLaws.{ReadsBack}
 use Rattle.wire_decode.proofs.Adding.{contents-here}

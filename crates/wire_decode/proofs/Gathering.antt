@@ -8,7 +8,7 @@ use Rattle.mrpc_table.specs.declared.table.Kind.{Kind}
 use Rattle.mrpc_table.specs.declared.table.Kind.TheVariants.{Message as OfMessage}
 use Rattle.mrpc_table.specs.declared.table.Label.TheVariants.{Plain, Optional, Repeated, Packed, Map, Member}
 use Rattle.wire_decode.specs.Merged.{items_in, values_in, singles_in, join_fields, joined, last_value, singular, element, entry, present, present_if_set, some_items, some_pairs}
-use Rattle.map_entries.specs.Last.{last_of_each}
+use Rattle.mrpc_table.specs.MapEntries.{last_of_each}
 use Rattle.wire_decode.specs.Gathered.{single_form, IsBoth, IsJoined, AreSingles, are_both, is_second, is_first}
 use Rattle.wire_decode.specs.declared.gather.Form.{Form}
 use Rattle.wire_decode.specs.declared.gather.Form.TheVariants.{Listed, Joined, Last}

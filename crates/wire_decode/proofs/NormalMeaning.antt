@@ -20,7 +20,7 @@ use Rattle.wire_decode.proofs.Merging.{element-same, merged-suc}
 use Rattle.wire_decode.proofs.WordForms.{AreBytes}
 use Rattle.wire_decode.proofs.Sound.{SoundNode, SoundValue, SoundEntry, reads-sound, join-sound, AllContents, AllValues, AllEntries, contents-sound, singles-sound, values-sound, entries-sound, room-inside, joined-sound}
 use Rattle.wire_decode.proofs.UsableTables.{AreFieldsFrom, IsUsableTable, IsRest, rest-start, rest-first, rest-more}
-use Rattle.map_entries.specs.Last.{last_of_each}
+use Rattle.mrpc_table.specs.MapEntries.{last_of_each}
 use Rattle.wire_decode.proofs.Plainness.{not_message}
 use Rattle.std.specs.List.{AllByRecursion}
 use Rattle.wire_decode.proofs.Members.{counted-no_rivals, members-one}

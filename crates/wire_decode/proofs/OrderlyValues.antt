@@ -20,7 +20,7 @@ use Rattle.wire_base.specs.Records.{RecordAt, TagAt, PayloadAt}
 use Rattle.wire_base.specs.declared.records.Record.{Record}
 use Rattle.wire_base.specs.declared.records.Payload.{Payload}
 use Rattle.wire_base.specs.declared.records.Payload.TheVariants.{Varint, I64, I32, Len}
-use Rattle.map_entries.specs.Last.{last_of_each}
+use Rattle.mrpc_table.specs.MapEntries.{last_of_each}
 use Rattle.wire_decode.specs.Words.{word_of, number_in, payload_type, is_map, is_list, may_be_packed, AreElements}
 use Rattle.wire_decode.specs.Reads.{read_end, read_known, holds_number, holds_piece, holds_text, holds_octets, holds_message, holds_entry, HasRoom, is_message, numbers}
 use Rattle.wire_decode.specs.Merged.{items_in, values_in, join_fields, merged, with_content, field_content, singular, element, entry, present, present_if_set, some_items, some_pairs, default_of}

@@ -11,7 +11,7 @@ use Rattle.mrpc_table.specs.declared.table.Label.{Label}
 use Rattle.mrpc_table.specs.declared.table.Label.TheVariants.{Map}
 use Rattle.mrpc_table.specs.declared.table.Field.{Field}
 use Rattle.mrpc_table.specs.declared.table.Table.{Table}
-use Rattle.map_entries.specs.Last.{last_of_each}
+use Rattle.mrpc_table.specs.MapEntries.{last_of_each}
 use Rattle.mrpc_table.specs.WireTypes.{wire_type_of}
 use Rattle.wire_base.specs.Records.{AreRecords}
 use Rattle.wire_base.specs.declared.records.Record.{Record}

@@ -18,7 +18,7 @@ ghost use Rattle.wire_decode.specs.Reads.{Reads};
 ghost use Rattle.wire_decode.specs.Faults.{IsFirstFault};
 ghost use Rattle.wire_decode.specs.declared.fault.DecodeReason.{DecodeReason};
 
-use map_entries::kept_entries_are_normal;
+use mrpc_table::kept_entries_are_normal;
 use wire_base::{payload_or_reason, record_or_fault, varint_is_read_back};
 
 /// Bytes have one meaning.

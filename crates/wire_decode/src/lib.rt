@@ -5,7 +5,7 @@
 //! were taken back ([`Spare`]). Others are read in one pass into the contents of their records, in order; then each
 //! field has its value from its own records, and the tree comes with its fields by ascending number. All takes time in
 //! proportion to the bytes, but for sorting records and the entries of maps. `specs/Meaning.antt` says what bytes mean,
-//! rule by rule, and `specs/Faults.antt` which fault is the first one. It stands on `mrpc_table`, `map_entries` and
+//! rule by rule, and `specs/Faults.antt` which fault is the first one. It stands on `mrpc_table` and
 //! `wire_base`. The layers above use one contract: the answer is the meaning, or the first fault exactly where there is
 //! no meaning.
 #![tactic(auto)]

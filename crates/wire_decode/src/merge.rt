@@ -3,10 +3,10 @@
 
 ghost use Rattle.std.specs.Prelude.{◌≡◌, ℕ, ◌<◌, length, IfOk, IsTrue, Some, true, map, option_map, List, [], ◌∷◌, ◌++◌, OnOk};
 ghost use Rattle.mrpc_table.specs.View.{item_of, content_of, node_of, pairs_of};
-ghost use Rattle.map_entries.specs.Last.{last_of_each};
+ghost use Rattle.mrpc_table.specs.MapEntries.{last_of_each};
 ghost use Rattle.wire_decode.specs.Merged.{contents_of, join_fields, with_content, merged, field_content, singular, element, entry, some_items, some_pairs, present, present_if_set, is_default, joined, default_of, singles_in};
 ghost use Rattle.wire_decode.specs.Gathered.{MeansAll, finish_at, NeverFallFrom, IsGathered, form_of, finished_of, entry_of, part_of, IsWith};
-ghost use Rattle.map_entries.specs.Sorted.{items_of_entry};
+ghost use Rattle.mrpc_table.specs.SortedEntries.{items_of_entry};
 ghost use Rattle.mrpc_table.specs.Normal.{field_at};
 ghost use Rattle.mrpc_table.specs.declared.table.Field.{Field};
 ghost use Rattle.mrpc_table.specs.Ascending.{AllAscend, FieldsAscend};
@@ -15,7 +15,7 @@ ghost use Rattle.mrpc_table.specs.Node.{Item, field, no_fields};
 use crate::gather::{Form, add, form_of, joined_value, values_of};
 use crate::number::is_message;
 use crate::oneof::counted;
-use map_entries::last_of_each;
+use mrpc_table::last_of_each;
 use mrpc_table::{
     Bytes, Entries, Field, FieldValue, Kind, Label, Memory, Numbered, Table, Tree, Value, Values,
     find_field,

@@ -7,7 +7,7 @@ ghost use Rattle.mrpc_table.specs.View.{item_of, content_of, node_of};
 ghost use Rattle.mrpc_table.specs.declared.table.Kind.TheVariants.{Text, Octets, Message as OfMessage};
 ghost use Rattle.mrpc_table.specs.declared.table.Label.TheVariants.{Map};
 ghost use Rattle.mrpc_table.specs.Words.{is_numeric};
-ghost use Rattle.map_entries.specs.Sorted.{items_of_entry};
+ghost use Rattle.mrpc_table.specs.SortedEntries.{items_of_entry};
 ghost use Rattle.wire_base.specs.Records.{TagAt, PayloadAt};
 ghost use Rattle.mrpc_table.specs.WireTypes.{wire_type_of};
 ghost use Rattle.wire_base.specs.declared.records.Payload.{Payload};
@@ -20,7 +20,7 @@ use crate::merge::{many, pairs, present, present_if_set, push_content};
 use crate::number::word_of;
 use crate::read::{element, elements, is_text};
 use crate::reuse::Spare;
-use map_entries::last_of_each;
+use mrpc_table::last_of_each;
 use mrpc_table::{
     Entries, Field, FieldValue, Kind, Label, Numbered, Table, Tree, Value, Values, find_field,
 };

@@ -1,5 +1,5 @@
 use Rattle.std.proofs.Common.{◌≡◌, ◌+◌, ◌-◌, ◌*◌, ℕ, suc, length, drop, Some, true, false, refl, sym, ap, subst, ◌∙◌, arith, ⊎_elim, inl, inr}
-use Rattle.map_entries.specs.Last.{last_of_each}
+use Rattle.mrpc_table.specs.MapEntries.{last_of_each}
 use Rattle.mrpc_table.specs.Node.{Node, one, many, pairs}
 use Rattle.mrpc_table.specs.Normal.{fields_of}
 use Rattle.mrpc_table.specs.View.{item_of, items_of, pairs_of, node_of}

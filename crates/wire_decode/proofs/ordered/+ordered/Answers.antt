@@ -5,8 +5,8 @@ use Rattle.mrpc_table.specs.View.{item_of, node_of, pairs_of}
 use Rattle.mrpc_table.specs.declared.table.Field.{Field}
 use Rattle.mrpc_table.specs.declared.tree.FieldValue.{FieldValue}
 use Rattle.mrpc_table.specs.declared.tree.Value.{Value}
-use Rattle.map_entries.specs.Last.{last_of_each}
-use Rattle.map_entries.specs.Sorted.{items_of_entry}
+use Rattle.mrpc_table.specs.MapEntries.{last_of_each}
+use Rattle.mrpc_table.specs.SortedEntries.{items_of_entry}
 use Rattle.wire_decode.specs.Merged.{join_fields, with_content, some_pairs}
 use Rattle.wire_decode.specs.Ordered.{IsWhole, AreValues, AreEntries}
 use Rattle.wire_decode.proofs.Merging.{map-pushed}

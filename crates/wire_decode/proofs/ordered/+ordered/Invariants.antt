@@ -1,6 +1,6 @@
 use Rattle.std.proofs.Common.{◌+◌, ◌-◌, ◌*◌, ◌≤◌, length, map}
 use Rattle.mrpc_table.specs.View.{item_of, node_of}
-use Rattle.map_entries.specs.Sorted.{items_of_entry}
+use Rattle.mrpc_table.specs.SortedEntries.{items_of_entry}
 use Rattle.wire_decode.proofs.Orderly.{SoFar}
 use Rattle.wire_decode.proofs.OrderlyValues.{ValuesBefore, EntriesBefore}
 use Rattle.wire_decode.proofs.ordered.+ordered.Given as goal

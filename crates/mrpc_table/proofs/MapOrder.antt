@@ -11,7 +11,7 @@ use Rattle.mrpc_table.specs.Normal.{IsRun, IsBefore, AscendFrom, KeysAscend, IsI
 use Rattle.mrpc_table.specs.declared.table.Kind.{Kind}
 use Rattle.mrpc_table.specs.declared.table.Kind.TheVariants.{Text, Octets, Message as OfMessage}
 use Rattle.mrpc_table.specs.declared.table.Table.{Table}
-use Rattle.map_entries.specs.Last.{key_code, key_cmp, with_pair, last_of_each}
+use Rattle.mrpc_table.specs.MapEntries.{key_code, key_cmp, with_pair, last_of_each}
 
 abbrev pub IsNoMessage : Kind → Type 0
 IsNoMessage k = (i : ℕ) → k ≡ OfMessage i → ⊥

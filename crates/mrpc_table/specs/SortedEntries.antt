@@ -8,7 +8,7 @@ use Rattle.mrpc_table.specs.Node.{Item}
 use Rattle.mrpc_table.specs.View.{item_of}
 use Rattle.mrpc_table.specs.declared.tree.Value.{Value}
 use Rattle.mrpc_table.specs.declared.table.Kind.{Kind}
-use Rattle.map_entries.specs.Last.{key_code}
+use Rattle.mrpc_table.specs.MapEntries.{key_code}
 
 -- an entry as it is seen
 abbrev pub items_of_entry : Value × Value → Item × Item

@@ -5,8 +5,8 @@ use Rattle.mrpc_table.specs.Node.{Item, Pairs, pair}
 use Rattle.mrpc_table.specs.View.{item_of, pairs_of}
 use Rattle.mrpc_table.specs.declared.tree.Value.{Value}
 use Rattle.mrpc_table.specs.declared.table.Kind.{Kind}
-use Rattle.map_entries.specs.Last.{key_cmp, with_pair, last_of_each}
-use Rattle.map_entries.specs.Sorted.{items_of_entry, entry_cmp, KeysRise}
+use Rattle.mrpc_table.specs.MapEntries.{key_cmp, with_pair, last_of_each}
+use Rattle.mrpc_table.specs.SortedEntries.{items_of_entry, entry_cmp, KeysRise}
 
 put-less : (key : Kind) (k v l w : Item) (ps : Pairs) → key_cmp key k l ≡ Less → with_pair key k v (pair l w ps) ≡ pair k v (pair l w ps)
 put-less key k v l w ps h = ap (λ r. elim r [ Less ↦ pair k v (pair l w ps) | Equal ↦ pair l w ps | Greater ↦ pair l w (with_pair key k v ps) ]) h

@@ -5,10 +5,10 @@ use Rattle.std.proofs.lemmas.List.MinMax.{ranks_by}
 use Rattle.std.proofs.lemmas.Cmp.{nat_list_cmp_total}
 use Rattle.std.proofs.lemmas.Result.{IfOk-weaker}
 use Rattle.mrpc_table.specs.View.{pairs_of}
-use Rattle.map_entries.specs.Sorted.{code}
-use Rattle.map_entries.proofs.Keeping.{below, stable-made, made-pairs}
-use Rattle.map_entries.proofs.Rising.{rise-kept}
-use Rattle.map_entries.proofs.last_of_each.Goals as goal
+use Rattle.mrpc_table.specs.SortedEntries.{code}
+use Rattle.mrpc_table.proofs.MapKeeping.{below, stable-made, made-pairs}
+use Rattle.mrpc_table.proofs.MapRising.{rise-kept}
+use Rattle.mrpc_table.proofs.map_entries.last_of_each.Goals as goal
 
 pub last_of_sorted-requires : goal.last_of_sorted-requires
 last_of_sorted-requires c =

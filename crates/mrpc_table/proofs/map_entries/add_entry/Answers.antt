@@ -1,5 +1,5 @@
-use Rattle.map_entries.proofs.Keeping.{added-behind}
-use Rattle.map_entries.proofs.add_entry.Goals as goal
+use Rattle.mrpc_table.proofs.MapKeeping.{added-behind}
+use Rattle.mrpc_table.proofs.map_entries.add_entry.Goals as goal
 
 pub returns-in_ok-push-in-Some : goal.returns-in_ok-push-in-Some
 returns-in_ok-push-in-Some c =

@@ -7,7 +7,7 @@ ghost use Rattle.mrpc_table.specs.Normal.{IsItem, ArePairs, KeysAscend, item_dep
 ghost use Rattle.mrpc_table.specs.declared.table.Kind.{Kind};
 ghost use Rattle.mrpc_table.specs.declared.table.Kind.TheVariants.{Message};
 ghost use Rattle.mrpc_table.specs.declared.table.Table.{Table};
-ghost use Rattle.map_entries.specs.Last.{last_of_each};
+ghost use Rattle.mrpc_table.specs.MapEntries.{last_of_each};
 
 /// What is kept of some entries is in normal form where each key and each value is.
 pub fn kept_entries_are_normal()

@@ -3,10 +3,10 @@ use Rattle.std.proofs.lemmas.List.{map-id}
 use Rattle.std.proofs.lemmas.Iterator.Adapters.{YieldsList-from_vec}
 use Rattle.std.proofs.lemmas.Iterator.Consumers.{YieldsList-turn, YieldsList-so_far, YieldsList-end}
 use Rattle.mrpc_table.specs.declared.tree.Value.{Value}
-use Rattle.map_entries.specs.Last.{last_of_each}
-use Rattle.map_entries.specs.Sorted.{items_of_entry}
-use Rattle.map_entries.proofs.Keeping.{AllUpTo, kept-more, kept-made, sorted-up}
-use Rattle.map_entries.proofs.last_of_sorted.Goals as goal
+use Rattle.mrpc_table.specs.MapEntries.{last_of_each}
+use Rattle.mrpc_table.specs.SortedEntries.{items_of_entry}
+use Rattle.mrpc_table.proofs.MapKeeping.{AllUpTo, kept-more, kept-made, sorted-up}
+use Rattle.mrpc_table.proofs.map_entries.last_of_sorted.Goals as goal
 
 pub loop-entry-preserved : goal.loop-entry-preserved
 loop-entry-preserved c =

@@ -11,8 +11,8 @@ use Rattle.mrpc_table.specs.Node.{Pairs, pair}
 use Rattle.mrpc_table.specs.View.{item_of, pairs_of}
 use Rattle.mrpc_table.specs.declared.tree.Value.{Value}
 use Rattle.mrpc_table.specs.declared.table.Kind.{Kind}
-use Rattle.map_entries.specs.Last.{with_pair, last_of_each}
-use Rattle.map_entries.specs.Sorted.{items_of_entry, code, entry_cmp, AreSorted, IsEntryAdded, replaced, appended}
+use Rattle.mrpc_table.specs.MapEntries.{with_pair, last_of_each}
+use Rattle.mrpc_table.specs.SortedEntries.{items_of_entry, code, entry_cmp, AreSorted, IsEntryAdded, replaced, appended}
 
 abbrev E : Type 0
 E = Value × Value

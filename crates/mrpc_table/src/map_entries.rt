@@ -1,20 +1,15 @@
 //! The entries of a map: each key once, by ascending key, with the value of its last entry.
 //!
-//! A map's entries may come in any order, and with equal keys, from bytes as from words; this crate brings them into
-//! the order of a message in normal form. `specs/Last.antt` says what comes. It stands on `mrpc_table`. The layers
-//! above use one contract: what is kept of a list of entries is what that definition says.
-#![tactic(auto)]
+//! A map's entries may come in any order, and with equal keys, from bytes as from words; they are brought into the
+//! order of a message in normal form, as `specs/MapEntries.antt` says.
 
 ghost use Rattle.std.specs.Prelude.{◌≡◌, [], ◌∷◌, ◌++◌, if◌then◌else◌, map, IfOk, OnOk, IsTrue};
 ghost use Rattle.std.specs.Ordering.{is_eq};
 ghost use Rattle.mrpc_table.specs.View.{item_of, pairs_of};
-ghost use Rattle.map_entries.specs.Last.{last_of_each, key_cmp};
-ghost use Rattle.map_entries.specs.Sorted.{AreSorted, KeysRise, IsEntryAdded, items_of_entry};
+ghost use Rattle.mrpc_table.specs.MapEntries.{last_of_each, key_cmp};
+ghost use Rattle.mrpc_table.specs.SortedEntries.{AreSorted, KeysRise, IsEntryAdded, items_of_entry};
 
-mod laws;
-
-pub use laws::kept_entries_are_normal;
-use mrpc_table::{Entries, Kind, Memory, Value};
+use crate::{Entries, Kind, Memory, Value};
 use std::alloc::Global;
 use std::cmp::Ordering;
 

@@ -1,5 +1,5 @@
-use Rattle.map_entries.proofs.Order.{last-kinds, last-ascend, last-depth, last-some}
-use Rattle.map_entries.proofs.laws.kept_entries_are_normal.Goals as goal
+use Rattle.mrpc_table.proofs.MapOrder.{last-kinds, last-ascend, last-depth, last-some}
+use Rattle.mrpc_table.proofs.map_laws.kept_entries_are_normal.Goals as goal
 
 pub returns-clause-kinds : goal.returns-clause-kinds
 returns-clause-kinds c = last-kinds

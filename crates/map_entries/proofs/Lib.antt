@@ -1,3 +1,0 @@
-mod Keeping
-mod Order
-mod Rising
