@@ -1,5 +1,6 @@
 mod Found
 mod Fronts
+mod Gained
 mod HeaderBytes
 mod Joints
 mod KeptFacts

@@ -1,6 +1,10 @@
 -- What contracts see of a link over a sink.
-use Rattle.std.specs.Prelude.{ℕ, Bool, List}
+use Rattle.std.specs.Prelude.{◌≡◌, ℕ, Bool, List, ◌++◌, Option}
+use Rattle.std.specs.List.{flat_map}
 use Rattle.std.specs.Borrow.{GName}
+use Rattle.std.specs.Io.KnownBytes.{Appends}
+use Rattle.mrpc_base.specs.Faults.{Rose}
+use Rattle.mrpc_base.specs.Writing.{AppendsFront}
 use Rattle.frame_transport.specs.declared.byte_link.ByteLink.{ByteLink}
 
 -- the sink, as the link leaves it
@@ -18,3 +22,23 @@ frames_of link = link.handed.frames
 -- whether it has answered that the other side has finished
 abbrev pub has_ended : {W : Type 0} → ByteLink W → Bool
 has_ended link = link.ended
+
+-- how many sends have failed
+abbrev pub failures_of : {W : Type 0} → ByteLink W → ℕ
+failures_of link = link.failures
+
+-- the second link is the first, later on: it is over the same sink, and as long as no send has failed, the sink gained
+-- exactly the frames that were handed over since, one behind another, and none of its writes failed
+pub record IsLater {W : Type 0} (written : W → Option (List ℕ)) (faults : W → ℕ) (old new : ByteLink W) : Type 0 where
+  pub same_sink : sink_name new ≡ sink_name old
+  pub more : List (List ℕ)
+  pub handed : frames_of new ≡ frames_of old ++ more
+  pub gained : failures_of new ≡ 0 → Appends (written (sink_of old)) (written (sink_of new)) (flat_map (λ frame. frame) more)
+  pub same_faults : failures_of new ≡ 0 → faults (sink_of new) ≡ faults (sink_of old)
+
+-- a frame was refused: a front of it was written, and not all of it, since a write failed
+pub record IsRefused {W : Type 0} (written : W → Option (List ℕ)) (faults : W → ℕ) (old : ByteLink W) (frame : List ℕ)
+    (new : ByteLink W) : Type 0 where
+  pub same_sink : sink_name new ≡ sink_name old
+  pub front : AppendsFront (written (sink_of old)) (written (sink_of new)) frame
+  pub rose : Rose (faults (sink_of old)) (faults (sink_of new))

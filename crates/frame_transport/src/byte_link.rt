@@ -3,7 +3,7 @@ ghost use Rattle.std.specs.Prelude.{◌≡◌, ◌≢◌, ◌≤◌, [], ◌∷�
 ghost use Rattle.std.specs.Io.KnownBytes.{Appends};
 ghost use Rattle.mrpc_base.specs.Faults.{HasCause};
 ghost use Rattle.mrpc_base.specs.Writing.{AppendsFront};
-ghost use Rattle.frame_transport.specs.Links.{sink_of, sink_name, frames_of, has_ended};
+ghost use Rattle.frame_transport.specs.Links.{sink_of, sink_name, frames_of, has_ended, failures_of, IsLater, IsRefused};
 
 use crate::handed::HandedFrames;
 use mrpc_base::{Came, Handed, Link, Sink, write_all};
@@ -14,6 +14,8 @@ use mrpc_base::{Came, Handed, Link, Sink, write_all};
 pub struct ByteLink<'a, W> {
     sink: &'a mut W,
     handed: HandedFrames,
+    // How many sends have failed; it stands still at 2^64 - 1.
+    failures: u64,
     ended: bool,
 }
 
@@ -23,11 +25,13 @@ impl<'a, W: Sink> ByteLink<'a, W> {
         ensures same_sink { sink_name result ≡ sink.entry.ghost_name }
         ensures untouched { sink_of result ≡ sink.old }
         ensures handed { frames_of result ≡ [] }
+        ensures failures { failures_of result ≡ 0 }
         ensures ended { has_ended result ≡ false }
     {
         ByteLink {
             sink,
             handed: HandedFrames::new(),
+            failures: 0,
             ended: false,
         }
     }
@@ -48,10 +52,13 @@ impl<W: Sink> Link for ByteLink<'_, W> {
 
     ghost peer_finished = { λ _ _. ⊤ };
 
-    ghost faults = { λ link. W.faults (sink_of link) };
+    ghost faults = { failures_of };
 
-    // It writes into the same sink.
-    ghost since = { λ old new. sink_name new ≡ sink_name old };
+    // It writes into the same sink, which gained the frames that were handed over since, as long as no send failed.
+    ghost since = { IsLater W.written W.faults };
+
+    // A front of the frame is out, since a write failed.
+    ghost refused = { IsRefused W.written W.faults };
 
     fn send(&mut self, frame: &[u8]) -> Handed
         // The frame is out whole, or a write failed and a front of it is out, and not all of it.
@@ -69,8 +76,11 @@ impl<W: Sink> Link for ByteLink<'_, W> {
         ensures same_sink { sink_name self.new ≡ sink_name self.old }
 
         ensures cause { HasCause (result ≡ Handed.Failed) (W.faults (sink_of self.old)) (W.faults (sink_of self.new)) }
+        ensures counted { HasCause (result ≡ Handed.Failed) (failures_of self.old) (failures_of self.new) }
+        ensures raised { result ≡ Handed.Failed → failures_of self.new ≢ 0 }
     {
         if !write_all(self.sink, frame) {
+            self.failures = self.failures.saturating_add(1);
             return Handed::Failed;
         }
         self.handed = HandedFrames::with(&self.handed, frame);
@@ -81,6 +91,7 @@ impl<W: Sink> Link for ByteLink<'_, W> {
         ensures end { result ≡ Came.End }
         ensures ended { IsTrue (has_ended self.new) }
         ensures same_handed { frames_of self.new ≡ frames_of self.old }
+        ensures same_failures { failures_of self.new ≡ failures_of self.old }
         ensures untouched { sink_of self.new ≡ sink_of self.old }
         ensures same_sink { sink_name self.new ≡ sink_name self.old }
     {

@@ -1,10 +1,11 @@
 -- `receive` answers the end and leaves the sink, so no other answer's clause asks for anything. The sink stays the same.
-use Rattle.std.proofs.Common.{arith, ap, refl, ◌∙◌}
+use Rattle.std.proofs.Common.{arith, refl}
+use Rattle.frame_transport.proofs.Gained.{sent-later, idle-later}
 use Rattle.frame_transport.proofs.byte_link.ByteLinkLink.TheImpl.Goals as goal
 
 pub receive-tells : goal.receive-tells
 receive-tells g c =
-    let same_faults = ap g.W.Sink.faults c.ensures.untouched in record {
+    let same_faults = c.ensures.same_failures in record {
       count = rw c.ensures.end tt;
       appended = rw c.ensures.end tt;
       kept = rw c.ensures.end refl;
@@ -12,7 +13,8 @@ receive-tells g c =
       ends = λ _. c.ensures.ended;
       same_ended = λ other. absurd (other c.ensures.end);
       same_handed = c.ensures.same_handed;
-      same_link = λ first h. c.ensures.same_sink ∙ h;
+      same_link = λ first h. idle-later g.W.Sink.written g.W.Sink.faults first c.args.self.now c.new.self.now h
+          c.ensures.same_sink c.ensures.same_handed same_faults c.ensures.untouched;
       idle = λ e. cc;
       end = λ _. tt;
       cause = record { rose = λ e. cc; stays = λ _. same_faults; never_falls = omega (arith, same_faults) };
@@ -24,8 +26,11 @@ send-tells g c = record {
   kept = c.ensures.kept;
   same_given = refl;
   same_ended = c.ensures.same_ended;
-  same_link = λ first h. c.ensures.same_sink ∙ h;
-  cause = c.ensures.cause;
+  same_link = λ first h. sent-later g.W.Sink.written g.W.Sink.faults first c.args.self.now c.new.self.now c.args.frame.now c.result h
+      c.ensures.same_sink c.ensures.appended c.ensures.kept c.ensures.done c.ensures.counted c.ensures.cause c.ensures.raised
+      c.ensures.memory;
+  refused = λ failed. record { same_sink = c.ensures.same_sink; front = c.ensures.front failed; rose = c.ensures.cause.rose failed };
+  cause = c.ensures.counted;
 }
 
 pub finish-tells : goal.finish-tells
