@@ -19,10 +19,9 @@ use crate::look_up::{field_of, next_slot};
 use crate::order::in_order;
 use crate::role::{Shape, shape_of};
 use graph_form::oneofs_of;
-use mrpc_table::last_of_each;
 use mrpc_table::{
     Bytes, Entries, FieldValue, Kind, Label, MAX_DEPTH, Memory, Numbered, Table, Tree, Value,
-    Values,
+    Values, last_of_each,
 };
 use std::alloc::Global;
 

@@ -15,10 +15,9 @@ ghost use Rattle.mrpc_table.specs.Node.{Item, field, no_fields};
 use crate::gather::{Form, add, form_of, joined_value, values_of};
 use crate::number::is_message;
 use crate::oneof::counted;
-use mrpc_table::last_of_each;
 use mrpc_table::{
     Bytes, Entries, Field, FieldValue, Kind, Label, Memory, Numbered, Table, Tree, Value, Values,
-    find_field,
+    find_field, last_of_each,
 };
 use std::alloc::Global;
 

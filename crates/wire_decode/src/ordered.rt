@@ -20,9 +20,9 @@ use crate::merge::{many, pairs, present, present_if_set, push_content};
 use crate::number::word_of;
 use crate::read::{element, elements, is_text};
 use crate::reuse::Spare;
-use mrpc_table::last_of_each;
 use mrpc_table::{
     Entries, Field, FieldValue, Kind, Label, Numbered, Table, Tree, Value, Values, find_field,
+    last_of_each,
 };
 use std::alloc::Global;
 use wire_base::{read_delimited, read_tag};

@@ -10,6 +10,7 @@ send-tells g c =
       same_given = ap (λ l. Some l.given) same;
       same_ended = ap (λ l. l.ended) same;
       same_link = λ first h. (ap (λ l. l.forward) same ∙ h.0, ap (λ l. l.backward) same ∙ h.1, ap (λ l. l.most) same ∙ h.2);
+      refused = λ _. tt;
       cause = c.ensures.cause;
     }
 

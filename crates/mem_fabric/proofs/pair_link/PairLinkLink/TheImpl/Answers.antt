@@ -10,6 +10,7 @@ send-tells g c =
       same_given = ap (λ l. Some l.given) same;
       same_ended = ap (λ l. l.ended) same;
       same_link = λ first h. (ap (λ l. l.outward) same ∙ h.0, ap (λ l. l.inward) same ∙ h.1, ap (λ l. l.failing_sends) same ∙ h.2, ap (λ l. l.failing_receives) same ∙ h.3);
+      refused = λ _. tt;
       cause = c.ensures.cause;
     }
 
