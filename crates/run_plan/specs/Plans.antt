@@ -10,7 +10,7 @@ use Rattle.engine_core.specs.declared.policy.Policy.TheVariants.{Quota}
 use Rattle.policy_blocks.specs.Declarations.{IsSound}
 use Rattle.policy_blocks.specs.declared.item.NamedPolicy.{NamedPolicy}
 use Rattle.policy_blocks.specs.declared.item.Tenant.{Tenant}
-use Rattle.app_stub.specs.Programs.{IsClientProgram, IsServerProgram, submits_of}
+use Rattle.app_program.specs.Programs.{IsClientProgram, IsServerProgram, submits_of}
 use Rattle.run_plan.specs.Chains.{policy_at, policy_of, IsReadUnder, SaysTheSame, lines_on, NeverRefuses}
 use Rattle.run_plan.specs.Ports.{IsIn, IsPort, ArePaired, connections_of}
 use Rattle.run_plan.specs.declared.application.Application.{Application}
