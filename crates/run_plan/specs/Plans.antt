@@ -18,7 +18,7 @@ use Rattle.run_plan.specs.declared.application.OwnPolicy.{OwnPolicy}
 use Rattle.run_plan.specs.declared.application.OwnSchema.{OwnSchema}
 use Rattle.run_plan.specs.declared.application.Role.{Role}
 use Rattle.run_plan.specs.declared.application.Role.TheVariants as role
-use Rattle.run_plan.specs.declared.limits.TheConstants.{MAX_CONNECTIONS, MAX_WORK, MAX_WORKERS}
+use Rattle.run_plan.specs.declared.limits.TheConstants.{MAX_CONNECTIONS, MAX_STEPS, MAX_WORK, MAX_WORKERS}
 use Rattle.run_plan.specs.declared.operator.Operator.{Operator}
 use Rattle.run_plan.specs.declared.operator.StepLine.{StepLine}
 use Rattle.run_plan.specs.declared.operator.StepLine.TheVariants as line
@@ -76,6 +76,7 @@ pub record IsOperator (plan : Plan) (operator : Operator) : Type 0 where
   pub conn : Contains (connections_of plan.applications) operator.conn
   pub counts : Ascends (λ step next. step.count ≤ next.count) operator.steps
   pub names : All (λ step. HasNames step.line) operator.steps
+  pub few : length operator.steps ≤ MAX_STEPS
 
 -- ---- applications and plans
 
