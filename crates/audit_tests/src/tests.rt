@@ -2,10 +2,11 @@
 
 ghost use Rattle.mrpc_table.specs.Valid.{IsValid};
 
-use audit_reading::{AuditFault, read_audit, read_line};
-use audit_text::Policies;
-use engine_core::Policy;
-use mrpc_table::{Bytes, Table};
+use audit_text::{AuditFault, append_record, read_audit, read_line};
+use call_history::{History, Record, Refusal};
+use engine_core::{Op, Policy};
+use mrpc_table::{Bytes, Name, Table};
+use policy_blocks::{Declarations, Item, NamedPolicy};
 use std::alloc::Global;
 use std::process::Abort;
 use table_text::read_table;
@@ -86,25 +87,26 @@ fn small_table(rt: &impl Abort, alloc: Global) -> Table
     read_table(alloc, SMALL).expect(rt, "a table")
 }
 
-fn counting(rt: &impl Abort, alloc: Global) -> Policies {
-    let mut policies = Policies::new(alloc);
-    let label = Bytes::from_slice(alloc, b"counting").expect(rt, "memory");
-    assert!(rt; !policies.is_known(label.as_slice()));
-    policies.declare(label, Policy::Count).expect(rt, "memory");
-    policies
+fn counting(rt: &impl Abort, alloc: Global) -> Declarations {
+    let declared = Declarations::new(alloc);
+    let item = Item::Policy(NamedPolicy {
+        name: Name::from_slice(alloc, b"counting").expect(rt, "memory"),
+        policy: Policy::Count,
+    });
+    declared.with(alloc, item).expect(rt, "memory")
 }
 
 #[test]
 fn lines_are_read(rt: HostRuntime) {
     let alloc = rt.alloc();
     let table = small_table(&rt, alloc);
-    let policies = counting(&rt, alloc);
+    let declared = counting(&rt, alloc);
     for line in &LINES {
-        let read = read_line(alloc, line, &table, &policies).expect(&rt, "memory");
+        let read = read_line(alloc, line, &table, &declared).expect(&rt, "memory");
         assert!(rt; read.is_some());
     }
     for line in &OTHERS {
-        let read = read_line(alloc, line, &table, &policies).expect(&rt, "memory");
+        let read = read_line(alloc, line, &table, &declared).expect(&rt, "memory");
         assert!(rt; read.is_none());
     }
 }
@@ -123,7 +125,7 @@ fn padded(rt: &impl Abort, alloc: Global, front: &[u8], byte: u8, count: usize) 
 fn long_lines_are_read(rt: HostRuntime) {
     let alloc = rt.alloc();
     let table = small_table(&rt, alloc);
-    let policies = counting(&rt, alloc);
+    let declared = counting(&rt, alloc);
     // A field of a mebibyte.
     let line = padded(
         &rt,
@@ -132,10 +134,10 @@ fn long_lines_are_read(rt: HostRuntime) {
         b'6',
         2097152,
     );
-    let read = read_line(alloc, line.as_slice(), &table, &policies).expect(&rt, "memory");
+    let read = read_line(alloc, line.as_slice(), &table, &declared).expect(&rt, "memory");
     assert!(rt; read.is_some());
     let line = padded(&rt, alloc, b"sent 1 1 ", b'9', 1000);
-    let read = read_line(alloc, line.as_slice(), &table, &policies).expect(&rt, "memory");
+    let read = read_line(alloc, line.as_slice(), &table, &declared).expect(&rt, "memory");
     assert!(rt; read.is_none());
 }
 
@@ -143,11 +145,43 @@ fn long_lines_are_read(rt: HostRuntime) {
 fn texts_are_read(rt: HostRuntime) {
     let alloc = rt.alloc();
     let table = small_table(&rt, alloc);
-    let policies = counting(&rt, alloc);
+    let declared = counting(&rt, alloc);
     let text = b"took 1 1 0 0 2 1 1 copy 089601\nsent 1 1 19\n";
-    let history = read_audit(alloc, text, &table, &policies).expect(&rt, "a history");
+    let history = read_audit(alloc, text, &table, &declared).expect(&rt, "a history");
     assert!(rt; history.len() == 2);
     let text = b"took 1 1 0 0 2 1 1 copy 089601\nstands 1 1 0 -\n";
-    let fault = read_audit(alloc, text, &table, &policies).err();
+    let fault = read_audit(alloc, text, &table, &declared).err();
     assert!(rt; fault == Some(AuditFault::Bad { line: 2 }));
+}
+
+// A kept history of one connection, and its text.
+#[test]
+fn kept_histories_are_written(rt: HostRuntime) {
+    let alloc = rt.alloc();
+    let table = small_table(&rt, alloc);
+    let mut history = History::new(alloc);
+    history.reserve(3).expect(&rt, "memory");
+    history.reserve_step().expect(&rt, "memory");
+    history.operate(Op::Attach {
+        at: 0,
+        name: Name::from_slice(alloc, b"c").expect(&rt, "memory"),
+        label: Name::from_slice(alloc, b"counting").expect(&rt, "memory"),
+        policy: Policy::Count,
+    });
+    history.push(Record::Counted { seq: 1, step: 0 });
+    history.push(Record::Refused {
+        seq: 2,
+        by: Refusal::Rate {
+            step: 0,
+            level: 9,
+            cost: 10,
+        },
+    });
+    let mut out = Bytes::new(alloc);
+    append_record(alloc, &mut out, 7, &history, 0, &table).expect(&rt, "memory");
+    append_record(alloc, &mut out, 7, &history, 1, &table).expect(&rt, "memory");
+    append_record(alloc, &mut out, 7, &history, 2, &table).expect(&rt, "memory");
+    assert!(rt;
+        out.as_slice() == b"op 7 attach 0 c counting\ncounted 7 1 c\nrefused 7 2 rate c 9 10\n"
+    );
 }

@@ -1,15 +1,8 @@
--- Policies that were declared, each under a label (this project's own).
-use Rattle.std.specs.Prelude.{ℕ, List, map, find, Option, option_map}
+-- The policy that a step of an operator names: by the label under which it was declared (this project's own).
+use Rattle.std.specs.Prelude.{ℕ, List, find, Option, option_map}
 use Rattle.std.specs.Str.{bytes_eq}
 use Rattle.engine_core.specs.declared.policy.Policy.{Policy}
+use Rattle.policy_blocks.specs.Declarations.{Declared}
 
--- policies with their labels, in the order in which they were declared
-abbrev pub Declared : Type 0
-Declared = List (List ℕ × Policy)
-
-abbrev pub labels : Declared → List (List ℕ)
-labels declared = map (λ d. d.0) declared
-
--- the policy that was declared under a label
 abbrev pub policy_under : List ℕ → Declared → Option Policy
-policy_under label declared = option_map (λ d. d.1) (find (λ d. bytes_eq d.0 label) declared)
+policy_under label declared = option_map (λ p. p.policy) (find (λ p. bytes_eq p.name label) declared.policies)

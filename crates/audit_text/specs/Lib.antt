@@ -1,4 +1,11 @@
+pub mod Copies
+pub mod Faults
+pub mod Kinds
 pub mod Labels
+pub mod LineWords
 pub mod Lines
 pub mod Pieces
+pub mod Reading
+pub mod Said
+pub mod Told
 pub mod Writable

@@ -1,23 +1,38 @@
 //! The audit text of histories: a line for each happening, and the lines of the calls that stand (this project's own
-//! format).
+//! format). It is written and read here.
 //!
-//! `specs/Lines.antt` says which line tells a happening, `specs/Writable.antt` which happenings a text can tell, under the
-//! [`Policies`] that were declared. It stands on histories, and on the encoding and its meaning. The layers above use two
-//! contracts: what is appended for a happening is its line, and a text tells one history.
+//! `specs/Lines.antt` says which line tells a happening, `specs/Writable.antt` which happenings a text can tell, under
+//! the policies that were declared. [`append_record`] and the others write lines. [`read_line`] cuts a line into words,
+//! which are read one after another: a copy's digits are decoded and encoded again, and the line is one of an acceptance
+//! only where it has the digits of that encoding. `specs/Told.antt` says which lines there are, and `specs/Faults.antt`
+//! which line of a text is the first that is none of a history. A line is written and read in time in proportion to it,
+//! but for the look-up of a policy by its label.
+//!
+//! It stands on histories, on what is declared, and on the encoding and its meaning. The layers above use three
+//! contracts: what is appended for a happening is its line; a text tells one history; and a line is read exactly where
+//! it is one that can be written, and a text exactly where it is that of a history that can be told.
 #![tactic(auto)]
 
-mod audit;
+mod copy;
 mod holding;
 mod laws;
-mod policies;
+mod line;
+mod reading;
+mod record;
+mod step;
+mod what;
+mod word;
+mod writing;
 
-pub use audit::{
-    append_audit_line, append_hex_word, append_stands_line, append_took_line, audit_line,
-    encoded_copy,
-};
 pub use holding::Holding;
 pub use laws::{
     a_line_is_cut_into_its_words, a_stands_line_tells_one_call, a_text_has_one_history,
     an_encoding_is_bytes, texts_go_on,
 };
-pub use policies::Policies;
+pub use line::{AuditLine, read_line};
+pub use reading::{AuditFault, read_audit};
+pub use record::append_record;
+pub use writing::{
+    append_audit_line, append_hex_word, append_stands_line, append_took_line, audit_line,
+    encoded_copy,
+};

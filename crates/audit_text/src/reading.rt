@@ -1,0 +1,126 @@
+//! The history that a text tells.
+
+ghost use Rattle.std.specs.Prelude.{◌≡◌, ◌≢◌, ◌+◌, ◌<◌, ◌≤◌, ◌++◌, ◌∷◌, ℕ, List, [], All, IfOk, IfErr, IfSome, MatchOption, MatchResult, length};
+ghost use Rattle.mrpc_table.specs.Valid.{IsValid};
+ghost use Rattle.call_history.specs.Legal.{History};
+ghost use Rattle.audit_text.specs.Lines.{audit, audit_line};
+ghost use Rattle.audit_text.specs.Writable.{IsWritable};
+ghost use Rattle.audit_text.specs.Faults.{FaultsAs, HasNoLine, IsFirstBad};
+ghost use Rattle.audit_text.specs.LineWords.{happening_in};
+ghost use Rattle.audit_text.specs.declared.reading.AuditFault.TheVariants.{Memory as NoMemory};
+
+use crate::laws::{a_line_is_cut_into_its_words, a_text_has_one_history};
+use crate::line::{AuditLine, read_line};
+use call_history::Happened;
+use mrpc_table::{Memory, Sequence, Table, cut};
+use policy_blocks::Declarations;
+use std::alloc::Global;
+use thiserror::Error;
+
+/// Why a text isn't read as a history.
+#[derive(Clone, Copy, Debug, PartialEq, Eq, Error)]
+pub enum AuditFault {
+    /// The text is that of no history: this line, counted from 1, is the first that is none of one.
+    #[error("line {line} is no line of a history")]
+    Bad { line: u64 },
+    /// No memory was found.
+    #[error("out of memory")]
+    Memory,
+}
+
+impl From<Memory> for AuditFault {
+    ghost from_gives = { λ _ fault. fault ≡ NoMemory };
+
+    fn from(_: Memory) -> AuditFault {
+        AuditFault::Memory
+    }
+}
+
+/// The place behind the first line feed of a text, or its end where there is none.
+fn line_end(text: &[u8]) -> usize
+    ensures first { (front behind : List ℕ) → text.now ≡ front ++ 10 ∷ behind → All (λ c. c ≢ 10) front
+        → result ≡ length front + 1 }
+    ensures within { result ≤ length text.now }
+    ensures some { text.now ≢ [] → 0 < result }
+{
+    match cut(text, b'\n') {
+        Some((line, _)) => line.len() + 1,
+        None => text.len(),
+    }
+}
+
+/// The first line of a text, with its line feed if it has one, and what stands behind it.
+fn first_line(text: &[u8]) -> (&[u8], &[u8])
+    ensures joined { text.now ≡ result.0.now ++ result.1.now }
+    ensures ends { (front behind : List ℕ) → text.now ≡ front ++ 10 ∷ behind → All (λ c. c ≢ 10) front
+        → (result.0.now ≡ front ++ 10 ∷ []) × (result.1.now ≡ behind) }
+    ensures smaller { text.now ≢ [] → length result.1.now < length text.now }
+{
+    let end = line_end(text);
+    (&text[..end], &text[end..])
+}
+
+/// The happening of a line, if it is one of a happening.
+fn happening_in(line: Option<AuditLine>) -> Option<Happened>
+    ensures { result ≡ happening_in line }
+{
+    match line {
+        Some(AuditLine::Happened(happened)) => Some(happened),
+        Some(AuditLine::Stands { .. }) => None,
+        None => None,
+    }
+}
+
+/// The happening whose line stands at the front of a text, and what stands behind it; none where no such line does.
+fn front_happening<'a>(
+    alloc: Global,
+    text: &'a [u8],
+    table: &Table,
+    declared: &Declarations,
+) -> Result<Option<(Happened, &'a [u8])>, Memory>
+    requires valid { IsValid table.now }
+    requires some { text.now ≢ [] }
+    ensures told { IfOk result (λ r. MatchOption r
+        (HasNoLine table.now declared.now text.now)
+        (λ p. (text.now ≡ audit_line table.now p.0 ++ p.1.now) × IsWritable table.now declared.now p.0)) }
+    ensures smaller { IfOk result (λ r. IfSome r (λ p. length p.1.now < length text.now)) }
+{
+    a_line_is_cut_into_its_words();
+    let (line, behind) = first_line(text);
+    match happening_in(read_line(alloc, line, table, declared)?) {
+        None => Ok(None),
+        Some(happened) => Ok(Some((happened, behind))),
+    }
+}
+
+/// The history that a text tells, under a table and the policies that were declared.
+///
+/// `Bad` comes exactly where the text is that of no history that can be told, with the first line that is none of one.
+/// `Memory` comes only where no memory was found.
+pub fn read_audit(
+    alloc: Global,
+    text: &[u8],
+    table: &Table,
+    declared: &Declarations,
+) -> Result<Sequence<Happened>, AuditFault>
+    requires { IsValid table.now }
+    ensures told { IfOk result (λ h. text.now ≡ audit table.now h) }
+    ensures writable { IfOk result (λ h. All (IsWritable table.now declared.now) h) }
+    ensures bad { IfErr result (FaultsAs (IsFirstBad table.now declared.now text.now)) }
+    ensures only { (h : History) → All (IsWritable table.now declared.now) h → text.now ≡ audit table.now h
+        → MatchResult result (λ k. k ≡ h) (λ fault. fault ≡ AuditFault.Memory) }
+{
+    a_text_has_one_history();
+    let mut history = Sequence::new(alloc);
+    let mut rest = text;
+    while !rest.is_empty() {
+        let Some((happened, behind)) = front_happening(alloc, rest, table, declared)? else {
+            return Err(AuditFault::Bad {
+                line: history.len() as u64 + 1,
+            });
+        };
+        history.push(happened)?;
+        rest = behind;
+    }
+    Ok(history)
+}

@@ -1,0 +1,189 @@
+//! The lines of what a history keeps.
+
+ghost use Rattle.std.specs.Prelude.{◌≡◌, ◌<◌, ◌∷◌, ◌++◌, codes, length, slice_get, OnOk, Some};
+ghost use Rattle.std.specs.Fmt.{decimal};
+ghost use Rattle.mrpc_table.specs.Text.{line};
+ghost use Rattle.mrpc_table.specs.Valid.{IsValid};
+ghost use Rattle.audit_text.specs.Lines.{audit_line, cause_words, FitsTable};
+ghost use Rattle.call_history.specs.Records.{cause_of, name_in, rule_in, step_at, told_by, HasRule, IsNamed, IsRuleOf};
+ghost use Rattle.call_history.specs.Events.{rule_of};
+ghost use Rattle.call_history.specs.declared.happening.Happening.{Happening};
+ghost use Rattle.call_history.specs.declared.record.Record.TheVariants.{Refused};
+
+use crate::writing::{
+    append_cause, append_name, append_note, append_numbers, append_step, append_took, begin,
+};
+use call_history::{History, Record, Refusal};
+use engine_core::{Op, Policy};
+use mrpc_table::{Bytes, Memory, Table};
+use std::alloc::Global;
+
+/// Appends the audit line of what happened at a place, from 0, of the history of a connection, with its line feed. No
+/// name is copied. The only error is `Memory`.
+pub fn append_record(
+    alloc: Global,
+    out: &mut Bytes,
+    conn: u32,
+    history: &History,
+    place: usize,
+    table: &Table,
+) -> Result<(), Memory>
+    requires valid { IsValid table.now }
+    requires there { place < length history.now.happenings }
+    requires fits { (what : Happening) → slice_get history.now.happenings place ≡ Some what → FitsTable table.now what }
+    ensures { (what : Happening) → slice_get history.now.happenings place ≡ Some what
+        → OnOk result (out.new ≡ out.old ++ audit_line table.now (record { conn = conn; what = what })) }
+{
+    append_kept(alloc, out, conn, history, history.at(place), table)
+}
+
+// The line of what a record tells.
+fn append_kept(
+    alloc: Global,
+    out: &mut Bytes,
+    conn: u32,
+    history: &History,
+    kept: &Record,
+    table: &Table,
+) -> Result<(), Memory>
+    requires valid { IsValid table.now }
+    requires named { IsNamed history.now.steps kept.now }
+    requires fits { FitsTable table.now (told_by history.now.steps kept.now) }
+    ensures { OnOk result (out.new ≡ out.old
+        ++ audit_line table.now (record { conn = conn; what = told_by history.now.steps kept.now })) }
+{
+    match kept {
+        Record::Took(call) => append_took(alloc, out, conn, call, table),
+        Record::Away {
+            method,
+            number,
+            addr,
+        } => append_numbers(
+            out,
+            b"away",
+            &[
+                u64::from(conn),
+                u64::from(*method),
+                u64::from(*number),
+                *addr,
+            ],
+        ),
+        Record::Op { step } => append_step(out, conn, history.step(*step)),
+        Record::Moment { ms } => append_numbers(out, b"moment", &[u64::from(conn), *ms]),
+        Record::Charged { seq, step, level } => {
+            append_note(
+                out,
+                b"charged",
+                conn,
+                *seq,
+                name_at(history, *step),
+                &[*level],
+            )
+        }
+        Record::Drawn {
+            seq,
+            step,
+            window,
+            ticket,
+        } => append_note(
+            out,
+            b"drawn",
+            conn,
+            *seq,
+            name_at(history, *step),
+            &[*window, *ticket],
+        ),
+        Record::Counted { seq, step } => {
+            append_note(out, b"counted", conn, *seq, name_at(history, *step), &[])
+        }
+        Record::Redacted { seq, step, version } => append_note(
+            out,
+            b"redacted",
+            conn,
+            *seq,
+            name_at(history, *step),
+            &[u64::from(*version)],
+        ),
+        Record::Sent { seq, bytes } => append_numbers(
+            out,
+            b"sent",
+            &[u64::from(conn), u64::from(*seq), *bytes],
+        ),
+        Record::Refused { seq, by } => append_kept_refusal(out, conn, history, *seq, *by),
+    }
+}
+
+// The line of a refusal.
+fn append_kept_refusal(
+    out: &mut Bytes,
+    conn: u32,
+    history: &History,
+    seq: u32,
+    by: Refusal,
+) -> Result<(), Memory>
+    requires { IsNamed history.now.steps (Refused seq by) }
+    ensures { OnOk result (out.new ≡ out.old
+        ++ line (codes "refused" ∷ decimal conn ∷ decimal seq ∷ cause_words (cause_of history.now.steps by))) }
+{
+    begin(out, b"refused", &[u64::from(conn), u64::from(seq)])?;
+    match by {
+        Refusal::Malformed => out.append(b" malformed")?,
+        Refusal::Access {
+            step,
+            version,
+            rule,
+        } => {
+            append_cause(
+                out,
+                b" access",
+                name_at(history, step),
+                &[u64::from(version)],
+            )?;
+            append_name(out, rule_at(history, step, rule))?;
+        }
+        Refusal::Rate { step, level, cost } => {
+            append_cause(out, b" rate", name_at(history, step), &[level, cost])?
+        }
+        Refusal::Quota { step, ticket, cap } => {
+            append_cause(out, b" quota", name_at(history, step), &[ticket, cap])?
+        }
+        Refusal::Transport => out.append(b" transport")?,
+    }
+    out.push(b'\n')
+}
+
+// The name in a step of an operator.
+fn name_at(history: &History, step: usize) -> &[u8]
+    requires { step < length history.now.steps }
+    ensures { result.now ≡ name_in (step_at history.now.steps step) }
+{
+    match history.step(step) {
+        Op::Attach { name, .. } => name.as_slice(),
+        Op::Detach { name } => name.as_slice(),
+        Op::Upgrade { name, .. } => name.as_slice(),
+    }
+}
+
+// The name of a rule of the policy that a step puts in.
+fn rule_at(history: &History, step: usize, rule: u32) -> &[u8]
+    requires there { step < length history.now.steps }
+    requires rule { HasRule (step_at history.now.steps step) rule }
+    ensures { result.now ≡ rule_in (step_at history.now.steps step) rule }
+{
+    match history.step(step) {
+        Op::Attach { policy, .. } => rule_name(policy, rule),
+        Op::Detach { .. } => b"",
+        Op::Upgrade { policy, .. } => rule_name(policy, rule),
+    }
+}
+
+// The name of a rule of a policy of rules.
+fn rule_name(policy: &Policy, rule: u32) -> &[u8]
+    requires { IsRuleOf policy.now rule }
+    ensures { result.now ≡ rule_of policy.now rule }
+{
+    match policy {
+        Policy::Access(access) => access.rule_name(rule).as_slice(),
+        _ => b"",
+    }
+}

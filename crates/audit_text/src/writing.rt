@@ -1,0 +1,328 @@
+//! The lines of happenings, and of calls that stand.
+
+ghost use Rattle.std.specs.Prelude.{◌≡◌, ◌∷◌, ◌++◌, [], codes, map, IfOk, OnOk};
+ghost use Rattle.std.specs.Fmt.{decimal};
+ghost use Rattle.mrpc_table.specs.Text.{line};
+ghost use Rattle.mrpc_table.specs.Valid.{IsValid};
+ghost use Rattle.mrpc_table.specs.declared.table.Table.{Table};
+ghost use Rattle.audit_text.specs.Lines.{audit_line, cause_words, encoding_of, hex_word, stands_line, step_words, FitsTable, FitsCall};
+ghost use Rattle.audit_text.specs.Pieces.{behind_spaces, note_line, told_copy};
+ghost use Rattle.call_history.specs.declared.happening.Happening.TheVariants.{Took};
+
+use crate::holding::Holding;
+use call_history::{Cause, Happened, Happening, Taken, TookCopy};
+use engine_core::Op;
+use mrpc_table::{Bytes, Memory, Table};
+use std::alloc::Global;
+use wire_encode::encode;
+
+/// The audit line of a happening, with its line feed. The format is this project's own. The only error is `Memory`.
+pub fn audit_line(alloc: Global, happened: &Happened, table: &Table) -> Result<Bytes, Memory>
+    requires valid { IsValid table.now }
+    requires fits { FitsTable table.now happened.now.what }
+    ensures { IfOk result (λ line. line ≡ audit_line table.now happened.now) }
+{
+    let mut out = Bytes::new(alloc);
+    append_audit_line(alloc, &mut out, happened, table)?;
+    Ok(out)
+}
+
+/// Appends the audit line of a happening, with its line feed. The only error is `Memory`.
+pub fn append_audit_line(
+    alloc: Global,
+    out: &mut Bytes,
+    happened: &Happened,
+    table: &Table,
+) -> Result<(), Memory>
+    requires valid { IsValid table.now }
+    requires fits { FitsTable table.now happened.now.what }
+    ensures { OnOk result (out.new ≡ out.old ++ audit_line table.now happened.now) }
+{
+    let conn = happened.conn;
+    match &happened.what {
+        Happening::Took(call) => append_took(alloc, out, conn, call, table),
+        Happening::Away {
+            method,
+            number,
+            addr,
+        } => {
+            let numbers = [
+                u64::from(conn),
+                u64::from(*method),
+                u64::from(*number),
+                *addr,
+            ];
+            append_numbers(out, b"away", &numbers)
+        }
+        Happening::Op(step) => append_step(out, conn, step),
+        Happening::Moment { ms } => append_numbers(out, b"moment", &[u64::from(conn), *ms]),
+        Happening::Charged { seq, name, level } => append_note(
+            out,
+            b"charged",
+            conn,
+            *seq,
+            name.as_slice(),
+            &[*level],
+        ),
+        Happening::Drawn {
+            seq,
+            name,
+            window,
+            ticket,
+        } => append_note(
+            out,
+            b"drawn",
+            conn,
+            *seq,
+            name.as_slice(),
+            &[*window, *ticket],
+        ),
+        Happening::Counted { seq, name } => {
+            append_note(out, b"counted", conn, *seq, name.as_slice(), &[])
+        }
+        Happening::Redacted { seq, name, version } => append_note(
+            out,
+            b"redacted",
+            conn,
+            *seq,
+            name.as_slice(),
+            &[u64::from(*version)],
+        ),
+        Happening::Sent { seq, bytes } => append_numbers(
+            out,
+            b"sent",
+            &[u64::from(conn), u64::from(*seq), *bytes],
+        ),
+        Happening::Refused { seq, cause } => append_refusal(out, conn, *seq, cause),
+    }
+}
+
+// The line of an acceptance, whose copy is encoded for it.
+pub(crate) fn append_took(
+    alloc: Global,
+    out: &mut Bytes,
+    conn: u32,
+    call: &Taken,
+    table: &Table,
+) -> Result<(), Memory>
+    requires valid { IsValid table.now }
+    requires fits { FitsCall table.now call.now call.now.copy }
+    ensures { OnOk result (out.new ≡ out.old ++ audit_line table.now (record { conn = conn; what = Took call.now })) }
+{
+    let encoding = encoded_copy(alloc, call, table)?;
+    append_took_line(alloc, out, conn, call, encoding.as_slice())
+}
+
+/// The encoding of an accepted call's copy; nothing where the call is malformed. The only error is `Memory`.
+pub fn encoded_copy(alloc: Global, call: &Taken, table: &Table) -> Result<Bytes, Memory>
+    requires valid { IsValid table.now }
+    requires fits { FitsCall table.now call.now call.now.copy }
+    ensures { IfOk result (λ bytes. bytes ≡ encoding_of table.now call.now call.now.copy) }
+{
+    match &call.copy {
+        TookCopy::Copy { tree } => {
+            let message = table.message_at(call.method, call.number);
+            encode(alloc, tree, table, message)
+        }
+        TookCopy::Malformed { .. } => Ok(Bytes::new(alloc)),
+    }
+}
+
+/// Appends the audit line of an acceptance, with its line feed, where the encoding of the call's copy is at hand, as
+/// for its frame. So no tree is encoded twice. The only error is `Memory`.
+pub fn append_took_line(
+    alloc: Global,
+    out: &mut Bytes,
+    conn: u32,
+    call: &Taken,
+    encoding: &[u8],
+) -> Result<(), Memory>
+    ensures { (T : Table) → encoding.now ≡ encoding_of T call.now call.now.copy
+        → OnOk result (out.new ≡ out.old ++ audit_line T (record { conn = conn; what = Took call.now })) }
+{
+    let numbers = [
+        u64::from(conn),
+        u64::from(call.seq),
+        u64::from(call.method),
+        u64::from(call.number),
+        call.addr,
+        call.after,
+        call.count,
+    ];
+    begin(out, b"took", &numbers)?;
+    append_copy(alloc, out, &call.copy, encoding)?;
+    out.push(b'\n')
+}
+
+/// Appends the line of a call that stands in the queue of an engine, with its line feed: the engine's position on the
+/// chain and its name, which is `-` for the queue for transport, and the level and the cost at which it is held, if it
+/// is. The only error is `Memory`.
+pub fn append_stands_line(
+    out: &mut Bytes,
+    conn: u32,
+    seq: u32,
+    position: u32,
+    name: &[u8],
+    holding: Option<Holding>,
+) -> Result<(), Memory>
+    ensures { OnOk result (out.new ≡ out.old ++ stands_line conn seq position name.now holding) }
+{
+    let numbers = [u64::from(conn), u64::from(seq), u64::from(position)];
+    begin(out, b"stands", &numbers)?;
+    append_name(out, name)?;
+    if let Some(holding) = holding {
+        begin(out, b" held", &[holding.level, holding.cost])?;
+    }
+    out.push(b'\n')
+}
+
+/// Appends bytes in lower-case hexadecimal digits, or `-` where there is none, as a further word of a line. The only
+/// error is `Memory`.
+pub fn append_hex_word(alloc: Global, out: &mut Bytes, bytes: &[u8]) -> Result<(), Memory>
+    ensures { OnOk result (out.new ≡ out.old ++ 32 ∷ hex_word bytes.now) }
+{
+    out.push(b' ')?;
+    if bytes.is_empty() {
+        return out.push(b'-');
+    }
+    out.append_hex(alloc, bytes)
+}
+
+// A name, as a further word.
+pub(crate) fn append_name(out: &mut Bytes, name: &[u8]) -> Result<(), Memory>
+    ensures { OnOk result (out.new ≡ out.old ++ 32 ∷ name.now) }
+{
+    out.push(b' ')?;
+    out.append(name)
+}
+
+// What a line begins with, and numbers behind it.
+pub(crate) fn begin(out: &mut Bytes, front: &[u8], numbers: &[u64]) -> Result<(), Memory>
+    ensures { OnOk result (out.new ≡ out.old ++ (front.now ++ behind_spaces (map decimal numbers.now))) }
+{
+    out.append(front)?;
+    for number in numbers {
+        out.append_word(*number)?;
+    }
+    Ok(())
+}
+
+// A line of a word and numbers.
+pub(crate) fn append_numbers(out: &mut Bytes, word: &[u8], numbers: &[u64]) -> Result<(), Memory>
+    ensures { OnOk result (out.new ≡ out.old ++ line (word.now ∷ map decimal numbers.now)) }
+{
+    begin(out, word, numbers)?;
+    out.push(b'\n')
+}
+
+// The line of what an entry noted of a call.
+pub(crate) fn append_note(
+    out: &mut Bytes,
+    word: &[u8],
+    conn: u32,
+    seq: u32,
+    name: &[u8],
+    numbers: &[u64],
+) -> Result<(), Memory>
+    ensures { OnOk result (out.new ≡ out.old ++ note_line word.now conn seq name.now numbers.now) }
+{
+    begin(out, word, &[u64::from(conn), u64::from(seq)])?;
+    append_name(out, name)?;
+    begin(out, b"", numbers)?;
+    out.push(b'\n')
+}
+
+// The words that tell the copy of a call by its encoding, or why it has none.
+fn append_copy(
+    alloc: Global,
+    out: &mut Bytes,
+    copy: &TookCopy,
+    encoding: &[u8],
+) -> Result<(), Memory>
+    ensures { OnOk result (out.new ≡ out.old ++ behind_spaces (told_copy encoding.now copy.now)) }
+{
+    match copy {
+        TookCopy::Copy { .. } => {
+            out.append(b" copy")?;
+            append_hex_word(alloc, out, encoding)
+        }
+        TookCopy::Malformed {
+            reason,
+            place,
+            value,
+        } => {
+            out.append(b" malformed ")?;
+            begin(out, reason.word().as_bytes(), &[*place, *value])
+        }
+    }
+}
+
+// The line of an operator's step.
+pub(crate) fn append_step(out: &mut Bytes, conn: u32, step: &Op) -> Result<(), Memory>
+    ensures { OnOk result (out.new ≡ out.old ++ line (codes "op" ∷ decimal conn ∷ step_words step.now)) }
+{
+    begin(out, b"op", &[u64::from(conn)])?;
+    match step {
+        Op::Attach {
+            at,
+            name,
+            label,
+            ..
+        } => {
+            begin(out, b" attach", &[u64::from(*at)])?;
+            append_name(out, name.as_slice())?;
+            append_name(out, label.as_slice())?;
+        }
+        Op::Detach { name } => {
+            out.append(b" detach")?;
+            append_name(out, name.as_slice())?;
+        }
+        Op::Upgrade { name, label, .. } => {
+            out.append(b" upgrade")?;
+            append_name(out, name.as_slice())?;
+            append_name(out, label.as_slice())?;
+        }
+    }
+    out.push(b'\n')
+}
+
+// The line of a refusal.
+fn append_refusal(out: &mut Bytes, conn: u32, seq: u32, cause: &Cause) -> Result<(), Memory>
+    ensures { OnOk result (out.new
+        ≡ out.old ++ line (codes "refused" ∷ decimal conn ∷ decimal seq ∷ cause_words cause.now)) }
+{
+    begin(out, b"refused", &[u64::from(conn), u64::from(seq)])?;
+    match cause {
+        Cause::Malformed => out.append(b" malformed")?,
+        Cause::Access {
+            name,
+            version,
+            rule,
+        } => {
+            append_cause(out, b" access", name.as_slice(), &[u64::from(*version)])?;
+            append_name(out, rule.as_slice())?;
+        }
+        Cause::Rate { name, level, cost } => {
+            append_cause(out, b" rate", name.as_slice(), &[*level, *cost])?
+        }
+        Cause::Quota { name, ticket, cap } => {
+            append_cause(out, b" quota", name.as_slice(), &[*ticket, *cap])?
+        }
+        Cause::Transport => out.append(b" transport")?,
+    }
+    out.push(b'\n')
+}
+
+// A cause that an entry gives: its kind behind a space, the entry's name, and numbers.
+pub(crate) fn append_cause(
+    out: &mut Bytes,
+    kind: &[u8],
+    name: &[u8],
+    numbers: &[u64],
+) -> Result<(), Memory>
+    ensures { OnOk result (out.new ≡ out.old ++ (kind.now ++ behind_spaces (name.now ∷ map decimal numbers.now))) }
+{
+    out.append(kind)?;
+    append_name(out, name)?;
+    begin(out, b"", numbers)
+}
