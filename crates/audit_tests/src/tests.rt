@@ -5,7 +5,7 @@ ghost use Rattle.mrpc_table.specs.Valid.{IsValid};
 use audit_text::{AuditFault, append_record, read_audit, read_line};
 use call_history::{History, Record, Refusal};
 use engine_core::{Op, Policy};
-use mrpc_table::{Bytes, Name, Table};
+use mrpc_table::{Bytes, Name, Table, is_word};
 use policy_blocks::{Declarations, Item, NamedPolicy};
 use std::alloc::Global;
 use std::process::Abort;
@@ -181,7 +181,6 @@ fn kept_histories_are_written(rt: HostRuntime) {
     append_record(alloc, &mut out, 7, &history, 0, &table).expect(&rt, "memory");
     append_record(alloc, &mut out, 7, &history, 1, &table).expect(&rt, "memory");
     append_record(alloc, &mut out, 7, &history, 2, &table).expect(&rt, "memory");
-    assert!(rt;
-        out.as_slice() == b"op 7 attach 0 c counting\ncounted 7 1 c\nrefused 7 2 rate c 9 10\n"
-    );
+    let lines = b"op 7 attach 0 c counting\ncounted 7 1 c\nrefused 7 2 rate c 9 10\n";
+    assert!(rt; is_word(out.as_slice(), lines));
 }

@@ -1,14 +1,13 @@
 -- What a step adds to the loads of a connection's calls.
-use Rattle.std.proofs.Common.{◌≡◌, ◌≢◌, ℕ, List, [], ◌∷◌, ◌++◌, refl, ap, sym, subst}
+use Rattle.std.proofs.Common.{◌≡◌, ◌≢◌, ℕ, List, [], ◌∷◌, ◌++◌, refl, sym, subst}
 use Rattle.engine_core.specs.Chains.{Entry}
 use Rattle.engine_core.specs.declared.outcome.Noted.{Noted}
 use Rattle.engine_core.specs.declared.outcome.Noted.TheVariants as notes
 use Rattle.engine_core.specs.declared.outcome.Outcome.{Outcome}
 use Rattle.engine_core.specs.declared.outcome.Outcome.TheVariants as outcomes
-use Rattle.mrpc_table.specs.declared.table.Table.{Table}
 use Rattle.call_history.specs.Behind.{Behind, standing}
 use Rattle.call_history.specs.Draining.{at_rest, again, BeginsToDrain, Ending, Passes, SendsSome, Turns, begins_again, goes, is_held, is_idle, is_over, next, none, one, redacts}
-use Rattle.call_history.specs.Events.{Comes, Course, Event, accepted, accepts, changes, fails, has_turn, is_away, is_sent, link_failed, note_behind, refused_for_link, rises, sends, stays, takes, turned}
+use Rattle.call_history.specs.Events.{Comes, Course, Event, accepted, accepts, changes, has_turn, is_away, is_sent, link_failed, note_behind, refused_for_link, rises, sends, stays, takes, turned}
 use Rattle.call_history.specs.Loads.{AreSpelled, IsLoaded, Loads}
 use Rattle.call_history.specs.Rules.{Under}
 use Rattle.call_history.specs.declared.happening.Cause.TheVariants as cause
