@@ -12,7 +12,7 @@ use Rattle.shared_heap.specs.Fresh.{CallLoads, Fresh, Reading, word_of}
 use Rattle.descriptor_ring.specs.declared.descriptor.Descriptor.{Descriptor}
 use Rattle.app_stub.specs.Desks.{CopiesTo, left, made, PlacedReply}
 use Rattle.app_stub.specs.Echoing.{AllEchoes, Copying, Done, Echo, Echoed, Echoes, none_done, nothing, only_copy, replies, slice_at}
-use Rattle.app_stub.specs.Programs.{Submission}
+use Rattle.app_program.specs.Programs.{Submission}
 
 echoes_snoc : (e : Echo) (notices : List Descriptor) (d : Descriptor) (old mid new : Done)
     → AllEchoes e notices old mid → Echoes e d mid new → AllEchoes e (notices ++ d ∷ []) old new

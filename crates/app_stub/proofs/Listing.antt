@@ -3,9 +3,9 @@ use Rattle.std.proofs.Common.{◌≡◌, ℕ, zero, suc, ◌+◌, ◌*◌, ◌<�
 use Rattle.std.proofs.lemmas.List.{take_more}
 use Rattle.std.proofs.lemmas.List.Concat.{flat_map-cons}
 use Rattle.std.proofs.lemmas.Grind.{flat_map-append}
-use Rattle.app_stub.specs.declared.program.ProgramLine.{ProgramLine}
-use Rattle.app_stub.specs.declared.program.ProgramLine.TheVariants.{Store, Spin, Submit, Reclaim, Reply}
-use Rattle.app_stub.specs.Programs.{Submission, spun, line_stores, stores_of, line_submits, submits_of, line_reclaims, reclaims_of}
+use Rattle.app_program.specs.declared.program.ProgramLine.{ProgramLine}
+use Rattle.app_program.specs.declared.program.ProgramLine.TheVariants.{Store, Spin, Submit, Reclaim, Reply}
+use Rattle.app_program.specs.Programs.{Submission, spun, line_stores, stores_of, line_submits, submits_of, line_reclaims, reclaims_of}
 
 -- ---- spins
 

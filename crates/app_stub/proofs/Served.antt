@@ -3,8 +3,8 @@ use Rattle.std.proofs.Common.{◌≡◌, ℕ, ◌+◌, ◌*◌, ◌≤◌, List,
 use Rattle.std.proofs.lemmas.List.Concat.{flat_map-cons}
 use Rattle.std.proofs.lemmas.Grind.{flat_map-append}
 use Rattle.descriptor_ring.specs.declared.descriptor.Descriptor.{Descriptor}
-use Rattle.app_stub.specs.declared.program.ProgramLine.{ProgramLine}
-use Rattle.app_stub.specs.Programs.{Submission, stores_of}
+use Rattle.app_program.specs.declared.program.ProgramLine.{ProgramLine}
+use Rattle.app_program.specs.Programs.{Submission, stores_of}
 use Rattle.app_stub.specs.Serving.{served_stores, served_replies, all_served_stores, all_served_replies}
 
 all_served_stores-snoc : (lines : List ProgramLine) (notices : List Descriptor) (d : Descriptor)

@@ -16,7 +16,7 @@ use Rattle.app_stub.specs.declared.delivery.Delivery.{Delivery}
 use Rattle.app_stub.specs.declared.echoes.Desk.{Desk}
 use Rattle.app_stub.specs.declared.outgoing.Outgoing.{Outgoing}
 use Rattle.app_stub.specs.Echoing.{Echo, Copying, IsCopyOf, IsReplied, is_copied, slice_at}
-use Rattle.app_stub.specs.Programs.{Submission}
+use Rattle.app_program.specs.Programs.{Submission}
 
 abbrev pub echo_of : Table → Desk → Echo
 echo_of T desk = record { table = T; heap = desk.writer.heap.words; receive = desk.reader.heap.words; ring = desk.ring }

@@ -11,7 +11,7 @@ use Rattle.graph_place.specs.Size.{tree_words}
 use Rattle.graph_place.specs.Stored.{StandsIn}
 use Rattle.shared_heap.specs.Fresh.{CallLoads, Fresh, Reading, word_of}
 use Rattle.descriptor_ring.specs.declared.descriptor.Descriptor.{Descriptor}
-use Rattle.app_stub.specs.Programs.{Submission}
+use Rattle.app_program.specs.Programs.{Submission}
 use Rattle.app_stub.specs.Serving.{is_request, reply_to}
 
 -- ---- slices

@@ -2,5 +2,4 @@ pub mod Desks
 pub mod Echoing
 pub mod Pairing
 pub mod Ports
-pub mod Programs
 pub mod Serving

@@ -4,7 +4,7 @@ use Rattle.descriptor_ring.specs.Rings.{RingId}
 use Rattle.app_stub.specs.declared.port.AppEnd.{AppEnd}
 use Rattle.app_stub.specs.declared.port.AppPort.{AppPort}
 use Rattle.app_stub.specs.declared.port.AppSent.{AppSent}
-use Rattle.app_stub.specs.Programs.{Submission}
+use Rattle.app_program.specs.Programs.{Submission}
 use Rattle.app_stub.specs.Serving.{submission_of}
 
 -- a port at which nothing has happened: its rings are of its heaps

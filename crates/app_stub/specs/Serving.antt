@@ -1,8 +1,8 @@
 -- What an application makes of the notices that it takes.
 use Rattle.std.specs.Prelude.{ℕ, ◌+◌, ◌==◌, nat_lt, List, [], ◌∷◌, ◌++◌, Bool, ◌&&◌, if◌then◌else◌, length, take, flat_map}
 use Rattle.descriptor_ring.specs.declared.descriptor.Descriptor.{Descriptor}
-use Rattle.app_stub.specs.declared.program.ProgramLine.{ProgramLine}
-use Rattle.app_stub.specs.Programs.{Submission, stores_of, reply_address}
+use Rattle.app_program.specs.declared.program.ProgramLine.{ProgramLine}
+use Rattle.app_program.specs.Programs.{Submission, stores_of, reply_address}
 
 -- a descriptor, as the one who takes it sees it
 abbrev pub submission_of : Descriptor → Submission

@@ -3,15 +3,15 @@
 ghost use Rattle.std.specs.Prelude.{◌≡◌, ◌<◌, ◌≤◌, ◌+◌, ◌^◌, ◌++◌, ℕ, List, false, [], IfOk, OnOk, OnErr, IfSome, IfNone, IsTrue, length, map};
 ghost use Rattle.app_stub.specs.Pairing.{IsPaired};
 ghost use Rattle.app_stub.specs.Ports.{HasSent, IsNew, IsOfPort, TookAll};
-ghost use Rattle.app_stub.specs.Programs.{IsClientLine, IsClientProgram, line_reclaims, line_stores, line_submits, reclaims_of, stores_of, submits_of};
+ghost use Rattle.app_program.specs.Programs.{IsClientLine, IsClientProgram, line_reclaims, line_stores, line_submits, reclaims_of, stores_of, submits_of};
 ghost use Rattle.app_stub.specs.Serving.{blocks_of, submission_of};
 
 use crate::delivery::Delivery;
 use crate::lines::{call, store_line};
 use crate::outgoing::Outgoing;
 use crate::port::{AppEnd, AppPort, AppSent};
-use crate::program::{Program, ProgramLine};
 use crate::waiting::{self, Stopped};
+use app_program::{Program, ProgramLine};
 use descriptor_ring::NumberSender;
 use shared_heap::Writer;
 use std::sync::Wait;

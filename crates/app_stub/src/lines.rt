@@ -1,10 +1,10 @@
 // What lines of programs store, and the descriptors of calls.
 ghost use Rattle.std.specs.Prelude.{◌≡◌, ◌<◌, ◌≤◌, ◌+◌, ◌*◌, ◌^◌, ◌++◌, length};
 ghost use Rattle.descriptor_ring.specs.Rings.{IsOf};
-ghost use Rattle.app_stub.specs.Programs.{IsPlace, StoresIn, spun, line_stores};
+ghost use Rattle.app_program.specs.Programs.{IsPlace, StoresIn, spun, line_stores};
 ghost use Rattle.app_stub.specs.Serving.{submission_of};
 
-use crate::program::ProgramLine;
+use app_program::ProgramLine;
 use descriptor_ring::Descriptor;
 use mrpc_base::Stores;
 use shared_heap::Writer;

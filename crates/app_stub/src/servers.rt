@@ -2,15 +2,15 @@
 
 ghost use Rattle.std.specs.Prelude.{◌≡◌, ◌<◌, ◌≤◌, ◌+◌, ◌*◌, ◌^◌, ◌++◌, ℕ, List, false, [], IfOk, OnOk, OnErr, IfSome, IfNone, IsTrue, All, length, map};
 ghost use Rattle.app_stub.specs.Ports.{HasSent, IsNew, IsOfPort, TookAll};
-ghost use Rattle.app_stub.specs.Programs.{StoresIn, IsServerProgram, reply_address, stores_of};
+ghost use Rattle.app_program.specs.Programs.{StoresIn, IsServerProgram, reply_address, stores_of};
 ghost use Rattle.app_stub.specs.Serving.{all_served_replies, all_served_stores, blocks_of, can_be_answered, is_request, served_replies, served_stores, submission_of};
 
 use crate::delivery::Delivery;
 use crate::lines::{call, store_line};
 use crate::outgoing::Outgoing;
 use crate::port::{AppEnd, AppPort, AppSent};
-use crate::program::{MAX_REQUEST_STORES, Program, ProgramLine};
 use crate::waiting::{self, Stopped};
+use app_program::{MAX_REQUEST_STORES, Program, ProgramLine};
 use descriptor_ring::{Descriptor, Sender};
 use shared_heap::Writer;
 use std::sync::Wait;

@@ -3,7 +3,7 @@ ghost use Rattle.std.specs.Prelude.{◌≡◌, ◌++◌, [], List, IfSome, IsTru
 ghost use Rattle.std.specs.Thread.{IsSync};
 ghost use Rattle.descriptor_ring.specs.declared.descriptor.Descriptor.{Descriptor};
 ghost use Rattle.app_stub.specs.Ports.{HasSent, IsNew, IsOfPort, TookAll};
-ghost use Rattle.app_stub.specs.Programs.{IsClientProgram, IsServerProgram, reclaims_of, stores_of, submits_of};
+ghost use Rattle.app_program.specs.Programs.{IsClientProgram, IsServerProgram, reclaims_of, stores_of, submits_of};
 ghost use Rattle.app_stub.specs.Serving.{all_served_replies, all_served_stores, blocks_of, submission_of};
 ghost use Rattle.app_tests.specs.Services.{AreFresh, IsGiving, IsSideOf, IsTaking};
 ghost use Rattle.app_tests.specs.declared.port.TheConstants.{WORDS};
@@ -11,7 +11,8 @@ ghost use Rattle.app_tests.specs.declared.port.TheConstants.{WORDS};
 use crate::port::Service;
 use crate::service::{Served, serve};
 use crate::taking::Taking;
-use app_stub::{AppEnd, AppPort, AppSent, Program, client, server};
+use app_program::Program;
+use app_stub::{AppEnd, AppPort, AppSent, client, server};
 use descriptor_ring::NumberReceiver;
 use shared_heap::calls_are_fresh;
 use std::sync::Wait;

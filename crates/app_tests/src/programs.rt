@@ -1,12 +1,12 @@
 // Clients and servers beside a service, over rings of one item.
 ghost use Rattle.std.specs.Prelude.{◌≡◌, ◌≤◌, ◌+◌, All, IfOk, OnOk, length};
-ghost use Rattle.app_stub.specs.Programs.{IsClientLine, IsClientProgram, IsServerProgram, line_stores, stores_of};
+ghost use Rattle.app_program.specs.Programs.{IsClientLine, IsClientProgram, IsServerProgram, line_stores, stores_of};
 ghost use Rattle.app_tests.specs.declared.port.TheConstants.{WORDS};
 
 use crate::joining::{run_client, run_server};
 use crate::port::open_port;
 use crate::taking::Taking;
-use app_stub::{Program, ProgramLine};
+use app_program::{Program, ProgramLine};
 use mrpc_table::Memory;
 use std::alloc::Global;
 use std::process::Abort;

@@ -2,13 +2,14 @@
 ghost use Rattle.std.specs.Prelude.{◌≡◌, ◌≤◌, ◌<◌, ◌^◌, [], IfOk, length};
 ghost use Rattle.descriptor_ring.specs.Rings.{IsOf};
 ghost use Rattle.app_stub.specs.Ports.{IsNew};
-ghost use Rattle.app_stub.specs.Programs.{IsClientLine, IsClientProgram, line_stores};
+ghost use Rattle.app_program.specs.Programs.{IsClientLine, IsClientProgram, line_stores};
 ghost use Rattle.app_tests.specs.declared.port.TheConstants.{WORDS};
 
 use crate::port::{Service, open_port};
 use crate::programs::add;
 use crate::service::request;
-use app_stub::{AppPort, Program, ProgramLine, client};
+use app_program::{Program, ProgramLine};
+use app_stub::{AppPort, client};
 use descriptor_ring::{NumberSender, Sender};
 use mrpc_table::Memory;
 use shared_heap::Writer;

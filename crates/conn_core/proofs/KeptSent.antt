@@ -1,22 +1,25 @@
 -- What a connection's own fields keep when a call is sent.
 use Rattle.std.proofs.Common.{◌≡◌, ℕ, ◌+◌, ◌<◌, ◌≤◌, Bool, true, false, List, [], ◌∷◌, ◌++◌, length, reverse, slice_get, refl, ap, sym, ◌∙◌, subst, arith}
 use Rattle.std.specs.Prelude.{None, Some}
+use Rattle.std.proofs.lemmas.List.{length-map}
 use Rattle.mrpc_table.specs.Calls.{IsCallOf}
 use Rattle.mrpc_table.specs.declared.call.Call.{Call}
 use Rattle.mrpc_table.specs.declared.table.Table.{Table}
 use Rattle.frame_transport.specs.declared.format.TheConstants.{HEADER_LEN}
+use Rattle.engine_core.specs.Chains.{Chain}
+use Rattle.engine_core.specs.Engines.{EngineParts}
 use Rattle.engine_core.specs.Marks.{StandingCall}
 use Rattle.engine_core.specs.Moves.{Row, first_at}
 use Rattle.chain_upgrade.specs.Chains.{ChainParts, IsStandingChain}
-use Rattle.call_history.specs.Behind.{form}
-use Rattle.call_history.specs.Events.{sends}
+use Rattle.call_history.specs.Behind.{chain, form}
+use Rattle.call_history.specs.Events.{IsReady, sends}
 use Rattle.call_history.specs.Frames.{frame_of, frames_behind}
 use Rattle.call_history.specs.Records.{Kept}
 use Rattle.call_history.specs.Rules.{payload}
 use Rattle.call_history.specs.declared.happening.Happening.TheVariants.{Sent}
-use Rattle.conn_core.specs.Connections.{Connection, IsConnection, behind, frames}
+use Rattle.conn_core.specs.Connections.{Connection, IsConnection, behind, course, frames, under}
 use Rattle.conn_core.specs.Kept.{IsKept, Leaves, seen}
-use Rattle.conn_core.specs.Steps.{Hands}
+use Rattle.conn_core.specs.Steps.{FailsToSend, Hands}
 use Rattle.conn_core.proofs.Fitting.{EventsKeep}
 use Rattle.conn_core.proofs.Handed.{frames-sent, hands-one}
 use Rattle.conn_core.proofs.KeptNext.{Stepped, kept-sent}
@@ -64,6 +67,42 @@ pub head-has-room : (conn : ℕ) (T : Table) (limit : ℕ) (c : ChainParts) (his
     → 0 < history.room
 head-has-room conn T limit c history ended steps accepted ms s kept is =
     omega (arith, room-fates c.calls _ history.room kept.room, within-at c.calls 0 s is)
+
+-- it is ready, for a frame of so many bytes
+pub head-is-ready : (conn : ℕ) (T : Table) (limit : ℕ) (c : ChainParts) (history : Kept) (ended : Bool) (steps : List ℕ)
+    (accepted ms : ℕ) (s : StandingCall)
+    → IsKept (seen conn T limit c history ended) steps history accepted ms → slice_get c.calls 0 ≡ Some s
+    → first_at (length c.engines) c.row ≡ Some (s.call.seq, length c.engines)
+    → IsReady (under (seen conn T limit c history ended)) (course (seen conn T limit c history ended))
+    s.call.seq (HEADER_LEN + length (payload T s.call))
+head-is-ready conn T limit c history ended steps accepted ms s kept is first =
+    let old : Connection = seen conn T limit c history ended in
+    let long-chain : length c.engines ≡ length (chain (behind old)).entries =
+    sym (length-map c.engines (λ (e : EngineParts). e.entry)) ∙ ap
+    (λ (ch : Chain). length ch.entries) kept.connection.same_chain in
+    record {
+      first = subst (λ (n : ℕ). first_at n c.row ≡ Some (s.call.seq, n)) long-chain first;
+      sent = s.call;
+      is_form = all-at (λ (t : StandingCall). form conn t.call.seq (behind old)
+          ≡ Some t.call) c.calls 0 s is kept.connection.forms;
+      long = refl;
+    }
+
+-- the link fails at its frame
+pub fails-at-head : {L : Type 0} (Refused : L → List ℕ → L → Type 0) (before : Connection) (x y : L)
+    (conn : ℕ) (T : Table) (limit : ℕ) (c : ChainParts) (history : Kept) (ended : Bool) (steps : List ℕ)
+    (accepted ms : ℕ) (s : StandingCall) (call : Call)
+    → IsKept (seen conn T limit c history ended) steps history accepted ms → slice_get c.calls 0 ≡ Some s
+    → first_at (length c.engines) c.row ≡ Some (s.call.seq, length c.engines) → call ≡ s.call
+    → seen conn T limit c history ended ≡ before → Refused x (frame_of T call) y → FailsToSend Refused before x y
+unfolding head-is-ready
+fails-at-head Refused before x y conn T limit c history ended steps accepted ms s call kept is first same view refused =
+    subst (λ (b : Connection). FailsToSend Refused b x y) view (record {
+      seq = s.call.seq;
+      bytes = HEADER_LEN + length (payload T s.call);
+      ready = head-is-ready conn T limit c history ended steps accepted ms s kept is first;
+      refused = subst (λ (f : Call). Refused x (frame_of T f) y) same refused;
+    })
 
 -- ---- it is sent
 

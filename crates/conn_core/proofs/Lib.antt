@@ -2,6 +2,7 @@ mod Accepting
 mod Apart
 mod Changed
 mod Drawing
+mod Few
 mod Fitting
 mod Going
 mod Handed
@@ -19,6 +20,7 @@ mod Records
 mod Rooms
 mod Ruled
 mod SentAll
+mod Spelling
 mod Spending
 mod Taken
 mod Told

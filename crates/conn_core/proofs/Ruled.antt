@@ -1,11 +1,10 @@
 -- A turn that is refused by a rule names one of the policy that the engine's step put in.
-use Rattle.std.proofs.Common.{◌≡◌, ℕ, ◌≤◌, Bool, true, false, cond, List, length, nat_lt, refl, sym, subst, arith}
-use Rattle.std.specs.Prelude.{None, Option, Some, position, slice_get, unwrap_or}
+use Rattle.std.proofs.Common.{◌≡◌, ℕ, ◌≤◌, Bool, true, false, cond, length, nat_lt, refl, sym, subst, arith}
+use Rattle.std.specs.Prelude.{None, Option, Some, slice_get, unwrap_or}
 use Rattle.std.specs.List.{position_or_len}
 use Rattle.std.proofs.lemmas.Bool.{ltb-true}
 use Rattle.mrpc_table.specs.declared.call.Call.{Call}
 use Rattle.policy_access.specs.Verdict.{AccessPolicy, deciding_rule, matches, verdict}
-use Rattle.policy_access.specs.declared.rule.Rule.{Rule}
 use Rattle.engine_core.specs.Answers.{Answers, Past, allows, charges, counts, denies, draws, holds, is_clear, is_over, is_within, redacts, refuses, was_charged, was_counted}
 use Rattle.engine_core.specs.Chains.{Entry}
 use Rattle.engine_core.specs.Engines.{EngineParts}
@@ -16,7 +15,6 @@ use Rattle.engine_core.specs.declared.outcome.Outcome.{Outcome}
 use Rattle.engine_core.specs.declared.outcome.Why.{Why}
 use Rattle.engine_core.specs.declared.outcome.Why.TheVariants.{Denied, Short, Over}
 use Rattle.engine_core.specs.declared.policy.Policy.{Policy}
-use Rattle.engine_core.specs.declared.policy.Policy.TheVariants.{Access}
 use Rattle.call_history.specs.Records.{HasRule, IsRuleOf}
 use Rattle.chain_upgrade.specs.Chains.{ChainParts, HasTurn, OnTurn}
 use Rattle.chain_upgrade.specs.declared.turned.Turned.{Turned}

@@ -3,18 +3,22 @@ use Rattle.std.proofs.Common.{◌≡◌, ℕ, ◌+◌, ◌≤◌, inl, inr, not,
 use Rattle.std.specs.Prelude.{Some}
 use Rattle.std.proofs.lemmas.Bool.{eq-eqb, ne_eqb, cases_eq}
 use Rattle.std.proofs.lemmas.List.{append_assoc, append-nil}
+use Rattle.frame_transport.specs.declared.format.TheConstants.{HEADER_LEN}
 use Rattle.engine_core.specs.Moves.{Row, first_at, without_call}
-use Rattle.call_history.specs.Behind.{Behind, standing}
+use Rattle.call_history.specs.Behind.{Behind, form, standing}
 use Rattle.call_history.specs.Draining.{SendsSome, one}
-use Rattle.call_history.specs.Events.{Comes, Course, changes, fails, has_turn, is_away, is_sent, link_failed, refused_for_link, rises, sends, stays, takes}
-use Rattle.call_history.specs.Rules.{Under}
+use Rattle.call_history.specs.Events.{Comes, Course, IsReady, changes, fails, has_turn, is_away, is_sent, link_failed, refused_for_link, rises, sends, stays, takes}
+use Rattle.call_history.specs.Frames.{frame_of}
+use Rattle.call_history.specs.Rules.{Under, payload}
 use Rattle.call_history.specs.Tickets.{tickets_behind}
 use Rattle.call_history.specs.declared.happening.Cause.TheVariants as cause
 use Rattle.call_history.specs.declared.happening.Happening.TheVariants.{Refused, Sent}
 use Rattle.call_history.specs.declared.happening.Taken.{Taken}
-use Rattle.conn_core.specs.Connections.{Connection, behind, course, frames, under}
-use Rattle.conn_core.specs.Steps.{Hands, Sends, Steps}
-use Rattle.conn_core.proofs.Handed.{past-failed}
+use Rattle.conn_core.specs.Connections.{Connection, IsSame, behind, course, frames, under}
+use Rattle.conn_core.specs.Kept.{FailsBehind}
+use Rattle.conn_core.specs.Steps.{FailsToSend, Hands, Sends, Steps}
+use Rattle.conn_core.proofs.Handed.{frames-failed, past-failed}
+use Rattle.conn_core.proofs.TurnByTurn.{same-under}
 
 -- ---- a sending
 
@@ -125,3 +129,45 @@ hands-both a b c x y z ab bc = (
   bc.1 ∙ ap (λ fs. fs ++ bc.0) ab.1 ∙ append_assoc (frames a) ab.0 bc.0,
   bc.2 ∙ ap (λ fs. fs ++ bc.0) ab.2 ∙ append_assoc x ab.0 bc.0,
 )
+
+-- ---- a link that fails
+
+-- what is ready under one connection is so under the same one, later on
+abbrev pub ready-as : (a m : Connection) (c : Course) (seq bytes : ℕ) → IsSame a m → IsReady (under m) c seq bytes
+    → IsReady (under a) c seq bytes
+ready-as a m c seq bytes same ready = record {
+  first = ready.first;
+  sent = ready.sent;
+  is_form = subst (λ (n : ℕ). form n seq c.past ≡ Some ready.sent) same.conn ready.is_form;
+  long = ready.long ∙ ap (λ T. HEADER_LEN + length (payload T ready.sent)) same.table;
+}
+
+none-more : (frames more : List (List ℕ)) → frames ≡ frames ++ more → more ≡ []
+none-more [] more is = sym is
+none-more (frame ∷ frames) more is = none-more frames more cc
+
+-- where no frame is told, none is handed over
+pub handed-as-before : (before after : Connection) (x y : List (List ℕ)) → Hands before after x y
+    → frames after ≡ frames before → x ≡ y
+handed-as-before before after x y hands same =
+    sym (hands.2 ∙ ap (λ fs. x ++ fs) (none-more (frames before) hands.0 (sym same ∙ hands.1)) ∙ append-nil x)
+
+pub fails-behind : {L : Type 0} (Refuses : L → List ℕ → L → Type 0) (handed_of : L → List (List ℕ)) (faults_of : L → ℕ)
+    (Since : L → L → Type 0) (a m f : Connection) (x y z : L) → IsSame a m → IsSame m f
+    → SendsSome (under a) (course a) (course m) → Steps m fails f → FailsToSend Refuses m y z
+    → Hands m f (handed_of y) (handed_of z) → faults_of y ≡ faults_of x → ((first : L) → Since first x → Since first y)
+    → FailsBehind Refuses handed_of faults_of Since a f x z
+fails-behind Refuses handed_of faults_of Since a m f x y z same same' sent step fault hands faults since = record {
+  between = course m;
+  link = y;
+  sent = sent;
+  seq = fault.seq;
+  bytes = fault.bytes;
+  ready = ready-as a m (course m) fault.seq fault.bytes same fault.ready;
+  failed = subst (λ (u : Under). Comes u (course m) fails (course f)) (same-under a m same) step;
+  refused = subst (λ T. Refuses y (frame_of T fault.ready.sent) z) same.table fault.refused;
+  same_handed = handed-as-before m f (handed_of y) (handed_of z) hands
+      (frames-failed m f same'.table same'.conn step);
+  same_faults = faults;
+  since = since;
+}

@@ -1,19 +1,21 @@
 -- A whole drain, by its turns and its sendings.
-use Rattle.std.proofs.Common.{◌≡◌, ◌≢◌, ℕ, ◌++◌, List, length, map, ap, sym, ◌∙◌, subst}
+use Rattle.std.proofs.Common.{◌≡◌, ℕ, ◌++◌, List, length, map, ap, sym, ◌∙◌, subst}
 use Rattle.std.specs.Prelude.{None, Option, Some}
 use Rattle.std.proofs.lemmas.List.{length-map}
 use Rattle.engine_core.specs.Chains.{Chain}
 use Rattle.engine_core.specs.Engines.{EngineParts}
 use Rattle.engine_core.specs.Moves.{first_at}
 use Rattle.call_history.specs.Behind.{chain}
-use Rattle.call_history.specs.Draining.{BeginsToDrain, Drains, FailsToDrain, Passes, SendsSome}
+use Rattle.call_history.specs.Draining.{BeginsToDrain, Drains, Passes, SendsSome}
 use Rattle.call_history.specs.Events.{Comes, Course, IsCourse, fails}
+use Rattle.call_history.specs.Frames.{frame_of}
 use Rattle.call_history.specs.Places.{IsSettled}
 use Rattle.call_history.specs.Rules.{Under}
 use Rattle.call_history.specs.Tickets.{tickets_behind}
 use Rattle.conn_core.specs.Connections.{Connection, IsConnection, IsSame, behind, course, frames, under}
 use Rattle.conn_core.specs.Kept.{FailsBehind}
-use Rattle.conn_core.specs.Steps.{Draws, DrawsTickets, Hands}
+use Rattle.conn_core.specs.Steps.{Draws, DrawsTickets, FailsInDrain, Hands}
+use Rattle.conn_core.proofs.SentAll.{ready-as}
 use Rattle.conn_core.proofs.TurnByTurn.{same-under}
 
 pub begins : (a m : Connection) (now : Course) → IsSame a m → Passes (under a) 0 (course a) (course m)
@@ -29,10 +31,6 @@ as-many : (c : Connection) → IsConnection c → length c.chain.engines ≡ len
 as-many c h =
     sym (length-map c.chain.engines (λ (e : EngineParts). e.entry)) ∙ ap (λ (ch : Chain). length ch.entries) h.same_chain
 
-pub some-ready : (c : Connection) → IsConnection c → first_at (length c.chain.engines) c.chain.row ≢ None
-    → first_at (length (chain (course c).past).entries) (course c).row ≡ None → ⊥
-some-ready c h ready none = ready (subst (λ (n : ℕ). first_at n c.chain.row ≡ None) (sym (as-many c h)) none)
-
 pub drains : (a m f : Connection) → IsSame a m → Passes (under a) 0 (course a) (course m)
     → SendsSome (under m) (course m) (course f) → IsConnection f
     → first_at (length f.chain.engines) f.chain.row ≡ None → Drains (under a) (course a) (course f)
@@ -41,13 +39,22 @@ drains a m f same passes sent h none = record {
   none_ready = subst (λ (n : ℕ). first_at n f.chain.row ≡ None) (as-many f h) none;
 }
 
-pub fails-to-drain : (a m f : Connection) → IsSame a m → Passes (under a) 0 (course a) (course m)
-    → FailsBehind (under m) (course m) (course f) → FailsToDrain (under a) (course a) (course f)
-fails-to-drain a m f same passes behind = record {
-  between = behind.between;
-  begins = begins a m behind.between same passes behind.sent;
-  ready = behind.ready;
-  failed = subst (λ (u : Under). Comes u behind.between fails (course f)) (same-under a m same) behind.failed;
+pub fails-in-drain : {L : Type 0} (Refused : L → List ℕ → L → Type 0) (handed_of : L → List (List ℕ))
+    (faults_of : L → ℕ) (Since : L → L → Type 0) (a m f : Connection) (x y : L) → IsSame a m
+    → Passes (under a) 0 (course a) (course m) → FailsBehind Refused handed_of faults_of Since m f x y
+    → FailsInDrain Refused handed_of faults_of Since a f x y
+fails-in-drain Refused handed_of faults_of Since a m f x y same passes fault = record {
+  between = fault.between;
+  link = fault.link;
+  begins = begins a m fault.between same passes fault.sent;
+  seq = fault.seq;
+  bytes = fault.bytes;
+  ready = ready-as a m fault.between fault.seq fault.bytes same fault.ready;
+  failed = subst (λ (u : Under). Comes u fault.between fails (course f)) (same-under a m same) fault.failed;
+  refused = subst (λ T. Refused fault.link (frame_of T fault.ready.sent) y) same.table fault.refused;
+  same_handed = fault.same_handed;
+  same_faults = fault.same_faults;
+  since = fault.since;
 }
 
 -- a whole drain settles

@@ -11,7 +11,7 @@ use Rattle.engine_core.specs.Answers.{Answers, note}
 use Rattle.engine_core.specs.Chains.{Changes, Entry, new_entry, upgraded}
 use Rattle.engine_core.specs.Engines.{EngineParts}
 use Rattle.engine_core.specs.Marks.{StandingCall, past_of}
-use Rattle.engine_core.specs.Moves.{first_at, moved_by, place_of}
+use Rattle.engine_core.specs.Moves.{moved_by, place_of}
 use Rattle.engine_core.specs.Policies.{first_level, level_under}
 use Rattle.engine_core.specs.declared.op.Op.{Op}
 use Rattle.engine_core.specs.declared.op.Op.TheVariants.{Attach, Detach, Upgrade}
@@ -29,10 +29,11 @@ use Rattle.graph_copy.specs.declared.copying.CopyResult.TheVariants as results
 use Rattle.chain_upgrade.specs.Chains.{ChainParts, chain_of}
 use Rattle.call_history.specs.Behind.{chain, copied, moment, taken}
 use Rattle.call_history.specs.Draining.{SendsSome}
-use Rattle.call_history.specs.Events.{Comes, Course, cause_of, fails}
+use Rattle.call_history.specs.Events.{Comes, Course, IsReady, cause_of, fails}
+use Rattle.call_history.specs.Frames.{frame_of}
 use Rattle.call_history.specs.Records.{HasRule, Kept, step_at}
 use Rattle.call_history.specs.Loads.{IsLoaded, Loads}
-use Rattle.call_history.specs.Rules.{IsTakenBy, Under, payload}
+use Rattle.call_history.specs.Rules.{IsTakenBy, payload}
 use Rattle.call_history.specs.declared.happening.Cause.TheVariants as cause
 use Rattle.call_history.specs.declared.happening.Happening.{Happening}
 use Rattle.call_history.specs.declared.happening.Happening.TheVariants as what
@@ -40,7 +41,7 @@ use Rattle.call_history.specs.declared.happening.Taken.{Taken}
 use Rattle.call_history.specs.declared.happening.TookCopy.{TookCopy}
 use Rattle.call_history.specs.declared.happening.TookCopy.TheVariants.{Copy, Malformed}
 use Rattle.conn_core.specs.declared.answers.Ask.{Ask}
-use Rattle.conn_core.specs.Connections.{Connection, IsConnection, IsSame, behind, frames}
+use Rattle.conn_core.specs.Connections.{Connection, IsConnection, IsSame, behind, course, frames, under}
 use Rattle.conn_core.specs.Steps.{DrawsTickets, parts}
 
 -- ---- which step put its policy into an entry
@@ -249,9 +250,18 @@ pub record Went {Q : Type 0} (Knows : Q → ℕ → Type 0) (drawn_of : Q → �
   pub draws : DrawsTickets Knows drawn_of Since before after old new
   pub fewer : parts after ≤ parts before
 
--- some calls were sent, and then the link failed while a call was ready
-pub record FailsBehind (u : Under) (old new : Course) : Type 0 where
+-- Some calls were sent, and then the link failed at the frame of the first call that was ready. The words are those of
+-- `FailsInDrain`.
+pub record FailsBehind {L : Type 0} (Refused : L → List ℕ → L → Type 0) (handed_of : L → List (List ℕ))
+    (faults_of : L → ℕ) (Since : L → L → Type 0) (before after : Connection) (old new : L) : Type 0 where
   pub between : Course
-  pub sent : SendsSome u old between
-  pub ready : first_at (length (chain between.past).entries) between.row ≡ None → ⊥
-  pub failed : Comes u between fails new
+  pub link : L
+  pub sent : SendsSome (under before) (course before) between
+  pub seq : ℕ
+  pub bytes : ℕ
+  pub ready : IsReady (under before) between seq bytes
+  pub failed : Comes (under before) between fails (course after)
+  pub refused : Refused link (frame_of before.table ready.sent) new
+  pub same_handed : handed_of link ≡ handed_of new
+  pub same_faults : faults_of link ≡ faults_of old
+  pub since : (first : L) → Since first old → Since first link

@@ -10,7 +10,9 @@ use Rattle.engine_core.specs.declared.outcome.Outcome.{Outcome}
 use Rattle.engine_core.specs.declared.outcome.Outcome.TheVariants.{Passed, Held, Refused, Redacted}
 use Rattle.engine_core.specs.declared.policy.Policy.{Policy}
 use Rattle.graph_copy.specs.Copies.{OnlyLoads}
-use Rattle.call_history.specs.Events.{Comes, Event, accepts, sends}
+use Rattle.call_history.specs.Draining.{BeginsToDrain}
+use Rattle.call_history.specs.Events.{Comes, Course, Event, IsReady, accepts, fails, sends}
+use Rattle.call_history.specs.Frames.{frame_of}
 use Rattle.call_history.specs.Loads.{IsLoaded, Loads}
 use Rattle.call_history.specs.Tickets.{tickets_behind}
 use Rattle.call_history.specs.declared.happening.Taken.{Taken}
@@ -60,6 +62,32 @@ Sends before seq after = (bytes : ℕ) × Steps before (sends seq bytes) after
 abbrev pub Hands : Connection → Connection → List (List ℕ) → List (List ℕ) → Type 0
 Hands before after handed handed' =
     (more : List (List ℕ)) × (frames after ≡ frames before ++ more) × (handed' ≡ handed ++ more)
+
+-- A link failed at the frame of the first call that was ready. `Refused` says what its failed send of a frame tells.
+pub record FailsToSend {L : Type 0} (Refused : L → List ℕ → L → Type 0) (before : Connection)
+    (old new : L) : Type 0 where
+  pub seq : ℕ
+  pub bytes : ℕ
+  pub ready : IsReady (under before) (course before) seq bytes
+  pub refused : Refused old (frame_of before.table ready.sent) new
+
+-- A drain as far as it came, until the link failed at the frame of the first call that was ready: the calls that stood
+-- then are refused. `link` is the link before that send. `Refused` says what a failed send of a frame tells,
+-- `handed_of` what was handed over, `faults_of` how often the link had failed, and `Since` that the second is the
+-- first, later on.
+pub record FailsInDrain {L : Type 0} (Refused : L → List ℕ → L → Type 0) (handed_of : L → List (List ℕ))
+    (faults_of : L → ℕ) (Since : L → L → Type 0) (before after : Connection) (old new : L) : Type 0 where
+  pub between : Course
+  pub link : L
+  pub begins : BeginsToDrain (under before) (course before) between
+  pub seq : ℕ
+  pub bytes : ℕ
+  pub ready : IsReady (under before) between seq bytes
+  pub failed : Comes (under before) between fails (course after)
+  pub refused : Refused link (frame_of before.table ready.sent) new
+  pub same_handed : handed_of link ≡ handed_of new
+  pub same_faults : faults_of link ≡ faults_of old
+  pub since : (first : L) → Since first old → Since first link
 
 -- of the tickets of a tenant's window, where they are told, those were drawn that the history tells, and no others
 abbrev pub Draws : ℕ → ℕ → Connection → Connection → Option (List ℕ) → Option (List ℕ) → Type 0

@@ -68,11 +68,11 @@ impl<'t> Conn<'t> {
     ghost use Rattle.chain_upgrade.specs.Chains.{OnTurn, chain_of, refusal_in};
     ghost use Rattle.graph_copy.specs.Copies.{since};
     ghost use Rattle.call_history.specs.Behind.{taken};
-    ghost use Rattle.call_history.specs.Draining.{BeginsToDrain, Drains, FailsToDrain};
+    ghost use Rattle.call_history.specs.Draining.{BeginsToDrain, Drains};
     ghost use Rattle.call_history.specs.Events.{fails, operates, shows, turns, turns_away};
     ghost use Rattle.call_history.specs.Places.{IsSettled};
     ghost use Rattle.conn_core.specs.Connections.{IsConnection, IsSame, behind, course, under};
-    ghost use Rattle.conn_core.specs.Steps.{Accepts, DrawsTickets, Hands, IfPolicy, OnSent, Reads, Sends, Steps, parts, redactions};
+    ghost use Rattle.conn_core.specs.Steps.{Accepts, DrawsTickets, FailsInDrain, FailsToSend, Hands, IfPolicy, OnSent, Reads, Sends, Steps, parts, redactions};
 
     /// A connection without a call, of a number from 1 to 16, whose moment is 0 and whose chain is empty. All its calls
     /// are judged and encoded by this table, and each is taken by at most `limit` loads, 1 to 16384.
@@ -111,6 +111,16 @@ impl<'t> Conn<'t> {
         ensures { IsConnection self.now }
     {
         let _ = &self.chain;
+    }
+
+    /// A law; it does nothing. No number of a connection is larger than its history is long: at most so many calls were
+    /// accepted and so many policies attached, and none was upgraded more often.
+    pub fn numbers_are_few(&self)
+        ensures calls { length (taken (behind self.now)) ≤ length self.now.happenings }
+        ensures attachments { self.now.chain.attached ≤ length self.now.happenings }
+        ensures versions { All (λ e. e.entry.version ≤ length self.now.happenings) self.now.chain.engines }
+    {
+        self.is_connection();
     }
 
     // ---- calls
@@ -269,6 +279,7 @@ impl<'t> Conn<'t> {
             → first_at (length self.old.chain.engines) self.old.chain.row ≢ None }
         ensures sent { OnSent result (λ seq. Sends self.old seq self.new) }
         ensures failed { result ≡ Sending.Failed → Steps self.old fails self.new }
+        ensures refused { result ≡ Sending.Failed → FailsToSend L.refused self.old link.old link.new }
         ensures as_before { (result ≡ Sending.Nothing) ⊎ (result ≡ Sending.Memory) → self.new ≡ self.old }
         ensures untouched { result ≡ Sending.Nothing → link.new ≡ link.old }
         ensures same { IsSame self.old self.new }
@@ -313,7 +324,7 @@ impl<'t> Conn<'t> {
         ensures settled { result ≡ Drained.Done
             → IsSettled (under self.new) (behind self.new) (map (λ call. call.1) self.new.chain.row) }
         ensures failed { result ≡ Drained.Failed
-            → FailsToDrain (under self.old) (course self.old) (course self.new) }
+            → FailsInDrain L.refused L.handed L.faults L.since self.old self.new link.old link.new }
         ensures memory { result ≡ Drained.Memory
             → BeginsToDrain (under self.old) (course self.old) (course self.new) }
         ensures still_ready { result ≡ Drained.Memory

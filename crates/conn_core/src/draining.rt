@@ -65,7 +65,8 @@ pub(crate) fn send_all<L: Link>(alloc: Global, conn: &mut Conn, link: &mut L) ->
     ensures done { result ≡ Drained.Done → SendsSome (under conn.old) (course conn.old) (course conn.new) }
     ensures none_ready { result ≡ Drained.Done
         → first_at (length conn.new.chain.engines) conn.new.chain.row ≡ None }
-    ensures failed { result ≡ Drained.Failed → FailsBehind (under conn.old) (course conn.old) (course conn.new) }
+    ensures failed { result ≡ Drained.Failed
+        → FailsBehind L.refused L.handed L.faults L.since conn.old conn.new link.old link.new }
     ensures memory { result ≡ Drained.Memory → SendsSome (under conn.old) (course conn.old) (course conn.new) }
     ensures still_ready { result ≡ Drained.Memory
         → first_at (length conn.new.chain.engines) conn.new.chain.row ≢ None }

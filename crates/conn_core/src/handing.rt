@@ -36,6 +36,7 @@ pub(crate) fn hand<L: Link>(
     ensures given { L.given link.new ≡ L.given link.old }
     ensures link_ended { L.ended link.new ≡ L.ended link.old }
     ensures same_link { (first : L) → L.since first link.old → L.since first link.new }
+    ensures refused { result ≡ Handed.Failed → L.refused link.old (frame_of table.now call.now) link.new }
     ensures cause { HasCause (result ≡ Handed.Failed) (L.faults link.old) (L.faults link.new) }
 {
     match frame_for(alloc, payload, table, call) {

@@ -15,8 +15,10 @@ mod changing;
 mod conn;
 mod draining;
 mod handing;
+mod laws;
 mod noting;
 mod taking;
 
 pub use answers::{AcceptFault, Ask, Drained, Sending};
 pub use conn::Conn;
+pub use laws::loads_go_on;

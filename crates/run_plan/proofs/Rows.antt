@@ -4,9 +4,9 @@ use Rattle.std.proofs.lemmas.List.Elements.{All-nil, All-cons}
 use Rattle.mrpc_table.specs.Names.{IsName}
 use Rattle.mrpc_table.specs.Valid.{IsValid}
 use Rattle.mrpc_table.specs.declared.table.Table.{Table}
-use Rattle.app_stub.specs.declared.program.ProgramLine.{ProgramLine}
-use Rattle.app_stub.specs.declared.program.ProgramLine.TheVariants as program
-use Rattle.app_stub.specs.Programs.{IsClientLine, IsClientProgram}
+use Rattle.app_program.specs.declared.program.ProgramLine.{ProgramLine}
+use Rattle.app_program.specs.declared.program.ProgramLine.TheVariants as program
+use Rattle.app_program.specs.Programs.{IsClientLine, IsClientProgram}
 use Rattle.policy_blocks.specs.Declarations.{nothing}
 use Rattle.run_plan.specs.Chains.{empty_chain}
 use Rattle.run_plan.specs.Plans.{IsPlan, IsApplication, work}

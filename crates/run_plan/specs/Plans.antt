@@ -10,7 +10,7 @@ use Rattle.engine_core.specs.declared.policy.Policy.TheVariants.{Quota}
 use Rattle.policy_blocks.specs.Declarations.{IsSound}
 use Rattle.policy_blocks.specs.declared.item.NamedPolicy.{NamedPolicy}
 use Rattle.policy_blocks.specs.declared.item.Tenant.{Tenant}
-use Rattle.app_stub.specs.Programs.{IsClientProgram, IsServerProgram, submits_of}
+use Rattle.app_program.specs.Programs.{IsClientProgram, IsServerProgram, submits_of}
 use Rattle.run_plan.specs.Chains.{policy_at, policy_of, IsReadUnder, SaysTheSame, lines_on, NeverRefuses}
 use Rattle.run_plan.specs.Ports.{IsIn, IsPort, ArePaired, connections_of}
 use Rattle.run_plan.specs.declared.application.Application.{Application}
@@ -18,7 +18,7 @@ use Rattle.run_plan.specs.declared.application.OwnPolicy.{OwnPolicy}
 use Rattle.run_plan.specs.declared.application.OwnSchema.{OwnSchema}
 use Rattle.run_plan.specs.declared.application.Role.{Role}
 use Rattle.run_plan.specs.declared.application.Role.TheVariants as role
-use Rattle.run_plan.specs.declared.limits.TheConstants.{MAX_CONNECTIONS, MAX_WORK, MAX_WORKERS}
+use Rattle.run_plan.specs.declared.limits.TheConstants.{MAX_CONNECTIONS, MAX_STEPS, MAX_WORK, MAX_WORKERS}
 use Rattle.run_plan.specs.declared.operator.Operator.{Operator}
 use Rattle.run_plan.specs.declared.operator.StepLine.{StepLine}
 use Rattle.run_plan.specs.declared.operator.StepLine.TheVariants as line
@@ -76,6 +76,7 @@ pub record IsOperator (plan : Plan) (operator : Operator) : Type 0 where
   pub conn : Contains (connections_of plan.applications) operator.conn
   pub counts : Ascends (λ step next. step.count ≤ next.count) operator.steps
   pub names : All (λ step. HasNames step.line) operator.steps
+  pub few : length operator.steps ≤ MAX_STEPS
 
 -- ---- applications and plans
 

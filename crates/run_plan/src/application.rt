@@ -4,7 +4,7 @@ ghost use Rattle.std.specs.Prelude.{◌≡◌};
 ghost use Rattle.std.specs.Option.{option_copied};
 ghost use Rattle.run_plan.specs.Chains.{own_policy_in};
 
-use app_stub::Program;
+use app_program::Program;
 use engine_core::Policy;
 use mrpc_table::{Sequence, Table};
 

@@ -15,3 +15,7 @@ pub const MAX_WEIGHT: u64 = 100;
 /// How many loads a run makes at most: its calls, each of a client counted twice for its reply, times the limit of one
 /// call.
 pub const MAX_WORK: u64 = 16_777_216;
+
+/// How many steps an operator has at most, so that each number that a step raises stays in its range. No text of a
+/// scenario has as many.
+pub const MAX_STEPS: u64 = 16_777_216;

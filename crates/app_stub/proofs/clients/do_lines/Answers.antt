@@ -1,8 +1,8 @@
 use Rattle.std.proofs.Common.{arith, ap, length, length-take, take}
 use Rattle.std.proofs.lemmas.List.{length-map}
 use Rattle.std.proofs.lemmas.List.Folds.{length-flat_map-take}
-use Rattle.app_stub.specs.declared.program.ProgramLine.TheVariants.{Store}
-use Rattle.app_stub.specs.Programs.{line_stores, stores_of}
+use Rattle.app_program.specs.declared.program.ProgramLine.TheVariants.{Store}
+use Rattle.app_program.specs.Programs.{line_stores, stores_of}
 use Rattle.app_stub.specs.Serving.{submission_of}
 use Rattle.app_stub.proofs.Listing.{reclaims_few, reclaims_more, stores_more, submits_few, submits_further}
 use Rattle.app_stub.proofs.clients.do_lines.Goals as goal

@@ -1,5 +1,5 @@
 use Rattle.std.proofs.Common.{◌≡◌, take, map}
-use Rattle.app_stub.specs.Programs.{stores_of, submits_of, reclaims_of}
+use Rattle.app_program.specs.Programs.{stores_of, submits_of, reclaims_of}
 use Rattle.app_stub.specs.Serving.{submission_of}
 use Rattle.app_stub.proofs.clients.do_lines.Given as goal
 

@@ -1,5 +1,5 @@
 use Rattle.std.proofs.Common.{◌≡◌, ◌+◌, ◌*◌, ◌++◌, length}
-use Rattle.app_stub.specs.Programs.{spun}
+use Rattle.app_program.specs.Programs.{spun}
 use Rattle.app_stub.proofs.lines.spin.Given as goal
 
 abbrev pub invariant-loop : goal.invariant-loop

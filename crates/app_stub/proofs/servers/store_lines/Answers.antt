@@ -1,7 +1,7 @@
 use Rattle.std.proofs.Common.{arith, ap, length, length-append, take}
 use Rattle.std.proofs.lemmas.List.Folds.{length-flat_map-take}
-use Rattle.app_stub.specs.declared.program.ProgramLine.TheVariants.{Store}
-use Rattle.app_stub.specs.Programs.{line_stores, stores_of}
+use Rattle.app_program.specs.declared.program.ProgramLine.TheVariants.{Store}
+use Rattle.app_program.specs.Programs.{line_stores, stores_of}
 use Rattle.app_stub.proofs.servers.store_lines.Goals as goal
 
 pub store_line-requires-clause-few : goal.store_line-requires-clause-few

@@ -1,5 +1,5 @@
 use Rattle.std.proofs.Common.{◌≡◌, ◌++◌, take}
-use Rattle.app_stub.specs.Programs.{stores_of}
+use Rattle.app_program.specs.Programs.{stores_of}
 use Rattle.app_stub.proofs.servers.store_lines.Given as goal
 
 abbrev pub invariant-loop-line : goal.invariant-loop-line

@@ -1,6 +1,6 @@
 use Rattle.std.proofs.Common.{◌∙◌, sym, ap, map}
 use Rattle.descriptor_ring.specs.declared.descriptor.Descriptor.{Descriptor}
-use Rattle.app_stub.specs.Programs.{stores_of}
+use Rattle.app_program.specs.Programs.{stores_of}
 use Rattle.app_tests.proofs.joining.run_client.Goals as goal
 
 pub returns-clause-fresh : goal.returns-clause-fresh

@@ -1,5 +1,5 @@
 use Rattle.std.proofs.Common.{◌≡◌, ◌≤◌, ◌*◌, All, length}
-use Rattle.app_stub.specs.Programs.{IsClientLine, stores_of}
+use Rattle.app_program.specs.Programs.{IsClientLine, stores_of}
 use Rattle.app_tests.proofs.programs.client_program.Given as goal
 
 abbrev pub invariant-loop-number : goal.invariant-loop-number

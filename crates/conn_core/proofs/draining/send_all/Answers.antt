@@ -2,12 +2,9 @@ use Rattle.std.proofs.Common.{◌≢◌, inl, inr, length, refl, sym, ◌∙◌,
 use Rattle.std.specs.Prelude.{None}
 use Rattle.engine_core.specs.Moves.{first_at}
 use Rattle.call_history.specs.Draining.{SendsSome, none}
-use Rattle.call_history.specs.Events.{Comes, fails}
-use Rattle.call_history.specs.Rules.{Under}
 use Rattle.conn_core.specs.Connections.{Connection, course, under}
-use Rattle.conn_core.proofs.SentAll.{failed-tickets, fewer-standing, hands-both, sends-one, sent-tickets}
+use Rattle.conn_core.proofs.SentAll.{failed-tickets, fails-behind, fewer-standing, hands-both, sends-one, sent-tickets}
 use Rattle.conn_core.proofs.TurnByTurn.{same-trans, same-under}
-use Rattle.conn_core.proofs.Whole.{some-ready}
 use Rattle.conn_core.proofs.draining.send_all.Goals as goal
 
 pub calls-smaller : goal.calls-smaller
@@ -38,14 +35,12 @@ returns-in-Nothing-clause-done g c =
     (c.calls.invariant.0 (course c.calls.conn) (none (course c.calls.conn)))
 
 pub returns-in-Failed-clause-failed : goal.returns-in-Failed-clause-failed
-returns-in-Failed-clause-failed g c = λ is. record {
-  between = course c.calls.conn;
-  sent = c.calls.invariant.0 (course c.calls.conn) (none (course c.calls.conn));
-  ready = some-ready c.calls.conn c.is_connection.ensures (c.in-Failed.ensures.ready (inl refl));
-  failed = subst (λ (u : Under). Comes u (course c.calls.conn) fails (course c.send_ready.new.self))
-      (same-under c.args.conn.now c.calls.conn c.calls.invariant.1)
-      (c.in-Failed.ensures.failed refl);
-}
+returns-in-Failed-clause-failed g c = λ is.
+    fails-behind g.L.Link.refused g.L.Link.handed g.L.Link.faults g.L.Link.since c.args.conn.now c.calls.conn
+    c.send_ready.new.self c.args.link.now c.calls.link c.send_ready.new.link c.calls.invariant.1
+    c.in-Failed.ensures.same (c.calls.invariant.0 (course c.calls.conn) (none (course c.calls.conn)))
+    (c.in-Failed.ensures.failed refl) (c.in-Failed.ensures.refused refl) c.in-Failed.ensures.handed
+    c.calls.invariant.7 c.calls.invariant.6
 
 pub returns-in-Failed-clause-tickets : goal.returns-in-Failed-clause-tickets
 returns-in-Failed-clause-tickets g c =

@@ -4,7 +4,7 @@ use Rattle.conn_core.specs.Connections.{frames}
 use Rattle.conn_core.specs.Kept.{seen}
 use Rattle.conn_core.proofs.Handed.{frames-failed, hands-none}
 use Rattle.conn_core.proofs.KeptNext.{step-from}
-use Rattle.conn_core.proofs.KeptSent.{hands-left, head-has-room, head-is-short, head-of-table, left-frames, left-kept}
+use Rattle.conn_core.proofs.KeptSent.{fails-at-head, hands-left, head-has-room, head-is-short, head-of-table, left-frames, left-kept}
 use Rattle.conn_core.proofs.conn.Conn.send_ready.Goals as goal
 
 pub returns-in-Done-clause-sent : goal.returns-in-Done-clause-sent
@@ -39,6 +39,12 @@ returns-in-Failed-clause-handed g c =
     c.self.inside.history c.self.inside.ended)
     c.fail.new.self c.fail.ensures.same.table c.fail.ensures.same.conn c.fail.ensures.failed ∙ ap frames c.self.view_is)
     (c.in-Failed.ensures.kept (λ is. absurd cc))
+
+pub returns-in-Failed-clause-refused : goal.returns-in-Failed-clause-refused
+returns-in-Failed-clause-refused g c = λ is.
+    fails-at-head g.L.Link.refused c.args.self.now c.args.link.now c.hand.new.link _ c.self.inside.table.now _
+    c.self.inside.chain c.self.inside.history _ _ _ _ c.in-Some.head.now c.call.result.now c.self.invariant
+    c.in-Some.ensures.call c.in-Some.ensures.ready c.call.ensures c.self.view_is (c.in-Failed.ensures.refused refl)
 
 pub hand-requires-clause-fits : goal.hand-requires-clause-fits
 hand-requires-clause-fits g c =

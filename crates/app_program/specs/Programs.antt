@@ -1,8 +1,8 @@
 -- What a program stores, submits and gives back, in order, and which programs a client and a server may have.
 use Rattle.std.specs.Prelude.{◌≡◌, ℕ, zero, suc, ◌+◌, ◌<◌, ◌≤◌, ◌^◌, List, [], ◌∷◌, ◌++◌, All, length, flat_map}
-use Rattle.app_stub.specs.declared.program.ProgramLine.{ProgramLine}
-use Rattle.app_stub.specs.declared.program.ProgramLine.TheVariants.{Store, Spin, Submit, Reclaim, Reply}
-use Rattle.app_stub.specs.declared.program.TheConstants.{MAX_LINES, MAX_REQUEST_STORES, MAX_STORES}
+use Rattle.app_program.specs.declared.program.ProgramLine.{ProgramLine}
+use Rattle.app_program.specs.declared.program.ProgramLine.TheVariants.{Store, Spin, Submit, Reclaim, Reply}
+use Rattle.app_program.specs.declared.program.TheConstants.{MAX_LINES, MAX_REQUEST_STORES, MAX_STORES}
 
 -- a call, as an application asks for it: the method, 0 for a request and for a reply the number of the request that it
 -- answers, where its message begins in the heap, and how many stores the application made before

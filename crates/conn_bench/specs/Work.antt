@@ -1,0 +1,18 @@
+-- What holds of a connection that is worked on, with its heap and its tickets.
+use Rattle.std.specs.Prelude.{◌≡◌, ℕ, ◌<◌, ◌^◌, ◌+◌, All, length}
+use Rattle.mrpc_table.specs.Valid.{IsValid}
+use Rattle.mrpc_table.specs.declared.table.Table.{Table}
+use Rattle.call_history.specs.Behind.{taken}
+use Rattle.conn_core.specs.Connections.{Connection, behind}
+
+-- the table is valid, the heap has 32 words, and there is a tenant
+pub record IsWork (T : Table) (size known : ℕ) : Type 0 where
+  pub valid : IsValid T
+  pub words : size ≡ 32
+  pub tenant : 0 < known
+
+-- a connection with room in its numbers for another call, another attachment and another version of each entry
+pub record IsYoung (c : Connection) : Type 0 where
+  pub calls : length (taken (behind c)) + 1 < 2 ^ 32
+  pub attachments : c.chain.attached + 1 < 2 ^ 32
+  pub versions : All (λ e. e.entry.version + 1 < 2 ^ 32) c.chain.engines

@@ -1,0 +1,7 @@
+mod Followed
+mod GivenLaws
+mod Lines
+mod Rows
+mod Settled
+mod Sound
+mod Spelled

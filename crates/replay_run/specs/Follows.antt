@@ -1,0 +1,177 @@
+-- What follows from a script, line by line: what happens on its connections, by which loads, and where calls stand (this
+-- project's own).
+use Rattle.std.specs.Prelude.{◌≡◌, ℕ, List, [], ◌∷◌, ◌++◌, length, map, reverse, Some, None}
+use Rattle.mrpc_base.specs.Heap.{Race, word_after, stores_of, races_up_to, races_with}
+use Rattle.mrpc_table.specs.declared.call.Call.{Call}
+use Rattle.engine_core.specs.Moves.{first_at}
+use Rattle.engine_core.specs.declared.op.Op.{Op}
+use Rattle.engine_core.specs.declared.outcome.Outcome.{Outcome}
+use Rattle.graph_form.specs.Malformed.{ReadsBy}
+use Rattle.script_text.specs.Lines.{conn_of, op_in}
+use Rattle.script_text.specs.declared.script.Line.{Line}
+use Rattle.script_text.specs.declared.script.Line.TheVariants as line
+use Rattle.script_text.specs.declared.script.Script.{Script}
+use Rattle.call_history.specs.Behind.{chain}
+use Rattle.call_history.specs.Draining.{BeginsToDrain, Drains}
+use Rattle.call_history.specs.Events.{Course, Comes, IsReady, accepts, beginning, fails, operates, sends, shows, turns, turns_away}
+use Rattle.call_history.specs.Legal.{History}
+use Rattle.call_history.specs.Loads.{IsLoaded, Loads}
+use Rattle.call_history.specs.Rules.{Under}
+use Rattle.call_history.specs.declared.happening.Happened.{Happened}
+use Rattle.call_history.specs.declared.happening.Happening.{Happening}
+use Rattle.call_history.specs.declared.happening.Taken.{Taken}
+use Rattle.replay_run.specs.Tickets.{AreInTurn}
+
+-- A connection that was opened: its number, the words of its heap, the stores that were made to it so far, each a place
+-- and a value, the races that wait for its next submission, in the order in which they are made, what was loaded for its
+-- calls so far, and how far its course has come.
+pub record Opened : Type 0 where
+  pub conn : ℕ
+  pub words : ℕ
+  pub stores : List (ℕ × ℕ)
+  pub races : List Race
+  pub loads : Loads
+  pub course : Course
+
+-- where a script stands between two lines: the connections, in the order in which they were opened, and what happened on
+-- all of them
+pub record State : Type 0 where
+  pub opened : List Opened
+  pub history : History
+
+abbrev pub start : State
+start = record { opened = []; history = [] }
+
+-- a connection at its beginning
+abbrev pub new_one : (conn words : ℕ) → Opened
+new_one conn words =
+    record { conn = conn; words = words; stores = []; races = []; loads = []; course = beginning }
+
+-- under which its happenings are judged
+abbrev pub under : Script → ℕ → Under
+under s conn = record { conn = conn; table = s.table; limit = s.loads }
+
+-- ---- what a line makes of its connection
+
+-- load `number` of a submission, counted from 1, reads the stores before it and the races up to its number
+abbrev pub read_at : List (ℕ × ℕ) → List Race → (number place : ℕ) → ℕ
+read_at stores races number place = word_after (stores ++ stores_of (races_up_to number races)) place
+
+-- a submission has the races made, each before the load of its number and those of later numbers behind the last load
+abbrev pub submitted : Opened → Loads → Course → Opened
+submitted o own c = record {
+  conn = o.conn;
+  words = o.words;
+  stores = o.stores ++ stores_of o.races;
+  races = [];
+  loads = o.loads ++ own;
+  course = c;
+}
+
+-- the course of a connection has come to this one, and nothing else has changed
+abbrev pub come_to : Opened → Course → Opened
+come_to o c = record o { course = c }
+
+-- a line leads an open connection from one state to the next
+pub data Does (s : Script) (l : Line) (old new : Opened) : Type 0 where
+  stores : (place value : ℕ) → l ≡ line.Store old.conn place value
+      → new ≡ record old { stores = old.stores ++ (place, value) ∷ [] } → Does s l old new
+  -- the race waits for the next submission
+  races : (load place value : ℕ) → l ≡ line.Race old.conn load place value
+      → new ≡ record old { races = races_with old.races (record { load = load; place = place; value = value }) }
+      → Does s l old new
+  -- few enough calls stand: the next one is taken by loads of what is stored by then
+  submits : (call : Taken) (own : Loads) (c : Course) → l ≡ line.Submit old.conn call.method call.number call.addr
+      → call.after ≡ length old.stores → ReadsBy (read_at old.stores old.races) 1 own
+      → IsLoaded s.table old.words s.loads call own
+      → Comes (under s old.conn) old.course (accepts call) c → new ≡ submitted old own c → Does s l old new
+  -- as many calls stand as may: nothing is loaded, and the races are made all the same
+  is_away : (method number addr : ℕ) (c : Course) → l ≡ line.Submit old.conn method number addr
+      → Comes (under s old.conn) old.course (turns_away method number addr) c → new ≡ submitted old [] c
+      → Does s l old new
+  operates_on : (step : Op) (c : Course) → op_in s.declared.policies l ≡ Some step
+      → Comes (under s old.conn) old.course (operates step) c → new ≡ come_to old c → Does s l old new
+  shows_it : (ms : ℕ) (c : Course) → l ≡ line.Moment old.conn ms
+      → Comes (under s old.conn) old.course (shows ms) c → new ≡ come_to old c → Does s l old new
+  -- no call stands there
+  is_idle : (position : ℕ) → l ≡ line.Turn old.conn position → first_at position old.course.row ≡ None → new ≡ old
+      → Does s l old new
+  has_turn : (position seq : ℕ) (outcome : Outcome) (c : Course) → l ≡ line.Turn old.conn position
+      → Comes (under s old.conn) old.course (turns position seq outcome) c → new ≡ come_to old c → Does s l old new
+  -- no call is ready
+  none_ready : l ≡ line.Send old.conn
+      → first_at (length (chain old.course.past).entries) old.course.row ≡ None → new ≡ old → Does s l old new
+  is_sent : (seq bytes : ℕ) (c : Course) → l ≡ line.Send old.conn
+      → Comes (under s old.conn) old.course (sends seq bytes) c → new ≡ come_to old c → Does s l old new
+  drains : (c : Course) → l ≡ line.Drain old.conn → Drains (under s old.conn) old.course c → new ≡ come_to old c
+      → Does s l old new
+
+-- a line that sends may come so far: to its beginning, or behind turns and sendings of a drain
+pub data GetsTo (s : Script) (l : Line) (old : Opened) (c : Course) : Type 0 where
+  by_send : l ≡ line.Send old.conn → c ≡ old.course → GetsTo s l old c
+  by_drain : l ≡ line.Drain old.conn → BeginsToDrain (under s old.conn) old.course c → GetsTo s l old c
+
+-- A line that sends leads an open connection to the failing of its link: a call is ready, and it is this one, in its form;
+-- then all that stand are refused.
+pub record Fails (s : Script) (l : Line) (old : Opened) (tried : Call) (new : Opened) : Type 0 where
+  pub at : Course
+  pub gets : GetsTo s l old at
+  pub seq : ℕ
+  pub bytes : ℕ
+  pub ready : IsReady (under s old.conn) at seq bytes
+  pub is_tried : tried ≡ ready.sent
+  pub refused : Comes (under s old.conn) at fails new.course
+  pub same : new ≡ come_to old new.course
+
+-- ---- what a line makes of all connections
+
+abbrev pub on_connection : ℕ → Happening → Happened
+on_connection conn what = record { conn = conn; what = what }
+
+-- one connection is another one after a line, and what happened on it stands behind all that happened before
+pub record GoesOn (old : State) (one other : Opened) (new : State) : Type 0 where
+  pub front : List Opened
+  pub back : List Opened
+  pub before : old.opened ≡ front ++ one ∷ back
+  pub after : new.opened ≡ front ++ other ∷ back
+  pub piece : List Happening
+  pub past : other.course.past ≡ reverse piece ++ one.course.past
+  pub history : new.history ≡ old.history ++ map (on_connection one.conn) piece
+
+-- a line leads from a state to the next one
+pub data Step (s : Script) (old : State) (l : Line) (new : State) : Type 0 where
+  opens : (conn words : ℕ) → l ≡ line.Conn conn words
+      → new ≡ record { opened = old.opened ++ new_one conn words ∷ []; history = old.history } → Step s old l new
+  goes_on : (one other : Opened) → conn_of l ≡ one.conn → Does s l one other → GoesOn old one other new
+      → Step s old l new
+
+-- the lines lead from a state to another
+abbrev pub Leads : Script → State → List Line → State → Type 0
+Leads s old [] new = new ≡ old
+Leads s old (l ∷ lines) new = (next : State) × Step s old l next × Leads s next lines new
+
+-- ---- what follows
+
+-- this state follows from the script: its history, its loads, and where its calls stand
+pub record Follows (s : Script) (end : State) : Type 0 where
+  pub leads : Leads s start s.lines end
+  pub in_turn : AreInTurn end.history
+
+-- The lines lead up to a sending that fails: that of this call, in its form. The lines behind give nothing.
+pub record LeadsUntil (s : Script) (tried : Call) (end : State) : Type 0 where
+  pub lines : List Line
+  pub failing : Line
+  pub behind : List Line
+  pub order : s.lines ≡ lines ++ failing ∷ behind
+  pub before : State
+  pub leads : Leads s start lines before
+  pub one : Opened
+  pub other : Opened
+  pub on : conn_of failing ≡ one.conn
+  pub fails : Fails s failing one tried other
+  pub goes : GoesOn before one other end
+
+-- this state follows from the script up to a sending that fails
+pub record FollowsUntil (s : Script) (tried : Call) (end : State) : Type 0 where
+  pub until : LeadsUntil s tried end
+  pub in_turn : AreInTurn end.history

@@ -1,0 +1,5 @@
+pub mod Follows
+pub mod Running
+pub mod Sound
+pub mod Stands
+pub mod Tickets

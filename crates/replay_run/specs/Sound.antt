@@ -1,0 +1,20 @@
+-- What holds of each connection of a script, behind any of its lines (this project's own).
+use Rattle.std.specs.Prelude.{◌≡◌, ℕ, All}
+use Rattle.script_text.specs.declared.script.Script.{Script}
+use Rattle.call_history.specs.Behind.{chain}
+use Rattle.call_history.specs.Events.{Course, IsCourse}
+use Rattle.call_history.specs.Legal.{History, behind}
+use Rattle.call_history.specs.Loads.{AreSpelled}
+use Rattle.call_history.specs.Rules.{Under, Lets}
+use Rattle.replay_run.specs.Follows.{Opened, under}
+
+-- Its course is what happened on it: that is legal, the calls that stand are in its row, at places where they may stand.
+-- Its loads are those of its calls, and no others.
+pub record IsSoundOn (s : Script) (h : History) (o : Opened) : Type 0 where
+  pub past : o.course.past ≡ behind o.conn h
+  pub course : IsCourse (under s o.conn) o.course
+  pub spelled : AreSpelled s.table o.words s.loads (behind o.conn h) o.loads
+
+-- every entry of the chain lets a call pass, with nothing left to note
+abbrev pub IsAllowed : Under → Course → (seq : ℕ) → Type 0
+IsAllowed u c seq = All (Lets u c.past seq) (chain c.past).entries

@@ -1,0 +1,48 @@
+//! Laws of what follows from scripts. These functions do nothing; their clauses hold.
+
+ghost use Rattle.std.specs.Prelude.{◌≡◌, ◌++◌, All, List, map};
+ghost use Rattle.mrpc_table.specs.declared.call.Call.{Call};
+ghost use Rattle.script_text.specs.Lines.{IsScript};
+ghost use Rattle.script_text.specs.declared.script.Line.{Line};
+ghost use Rattle.script_text.specs.declared.script.Line.TheVariants.{Drain};
+ghost use Rattle.script_text.specs.declared.script.Script.{Script};
+ghost use Rattle.call_history.specs.Events.{IsCourse};
+ghost use Rattle.call_history.specs.Legal.{IsLegal};
+ghost use Rattle.call_history.specs.Places.{IsSettled};
+ghost use Rattle.replay_run.specs.Follows.{Does, Follows, FollowsUntil, Leads, Opened, State, start, under};
+ghost use Rattle.replay_run.specs.Sound.{IsAllowed, IsSoundOn};
+
+use call_history::{connections_are_apart, drains_settle, events_keep, histories_go_on};
+
+/// What follows from a script, whole or up to a sending that fails, is legal. On each connection its loads are those of
+/// its calls, and the calls that stand are at places where they may stand.
+pub fn what_follows_is_sound()
+    ensures legal { (s : Script) (end : State) → IsScript s → Follows s end → IsLegal s.table s.loads end.history }
+    ensures legal_until { (s : Script) (tried : Call) (end : State) → IsScript s → FollowsUntil s tried end
+        → IsLegal s.table s.loads end.history }
+    ensures sound { (s : Script) (end : State) → IsScript s → Follows s end
+        → All (IsSoundOn s end.history) end.opened }
+    ensures sound_until { (s : Script) (tried : Call) (end : State) → IsScript s → FollowsUntil s tried end
+        → All (IsSoundOn s end.history) end.opened }
+    // So is what follows from the lines in front of any other.
+    ensures legal_so_far { (s : Script) (lines others : List Line) (st : State) → IsScript s → s.lines ≡ lines ++ others
+        → Leads s start lines st → IsLegal s.table s.loads st.history }
+    ensures sound_so_far { (s : Script) (lines others : List Line) (st : State) → IsScript s → s.lines ≡ lines ++ others
+        → Leads s start lines st → All (IsSoundOn s st.history) st.opened }
+    // The call whose sending fails may be sent: every entry of its chain lets it pass.
+    ensures allowed { (s : Script) (tried : Call) (end : State) → IsScript s → (f : FollowsUntil s tried end)
+        → IsAllowed (under s f.until.one.conn) f.until.fails.at f.until.fails.seq }
+{
+    histories_go_on();
+    connections_are_apart();
+    events_keep();
+    drains_settle();
+}
+
+/// Behind a line that drains a connection it is settled: no call is ready, and the first call at each position is held.
+pub fn a_drained_connection_is_settled()
+    ensures { (s : Script) (old new : Opened) → IsCourse (under s old.conn) old.course → Does s (Drain old.conn) old new
+        → IsSettled (under s old.conn) new.course.past (map (λ call. call.1) new.course.row) }
+{
+    drains_settle();
+}
