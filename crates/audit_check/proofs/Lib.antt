@@ -1,0 +1,13 @@
+mod Calls
+mod Cuts
+mod FirstLines
+mod Judging
+mod Known
+mod Lines
+mod Neither
+mod Only
+mod Opens
+mod TextLines
+mod Rows
+mod Stages
+mod Worked

@@ -1,0 +1,84 @@
+-- How far a text was judged, once one more line comes.
+use Rattle.std.proofs.Common.{◌≡◌, ℕ, ◌+◌, ◌⊎◌, List, [], ◌∷◌, ◌++◌, Option, Some, None, IfNone, length, arith, ap, sym, subst, ◌∙◌, inl, inr, append_assoc, length-append}
+use Rattle.std.proofs.lemmas.Bool.Decides.{eqb_tells}
+use Rattle.mrpc_table.specs.declared.table.Table.{Table}
+use Rattle.call_history.specs.Behind.{Behind}
+use Rattle.call_history.specs.Legal.{History, IsLegal, IsPrefix, IsSettledUp, behind}
+use Rattle.call_history.specs.Rules.{May}
+use Rattle.call_history.specs.declared.happening.Happened.{Happened}
+use Rattle.audit_check.specs.Checking.{ArePrefixes, IsJudged, StandsLine, broken as judged_broken, misplaced as judged_misplaced, on_connection, open_end}
+use Rattle.audit_check.specs.Stages.{IsBroken, IsHappening, IsIllegalAt, IsMisplaced, IsStage}
+use Rattle.audit_check.specs.declared.checked.Checked.TheVariants.{Illegal}
+use Rattle.audit_check.specs.declared.connections.Connections.{Connections}
+use Rattle.audit_check.specs.declared.stage.Illegal.{Illegal as Place}
+use Rattle.audit_check.specs.declared.stage.Stage.{Stage}
+use Rattle.audit_check.specs.declared.stage.Stage.TheVariants.{Happening}
+use Rattle.audit_check.proofs.Known.{behind-more, behind-other}
+
+pub if_none_at : {A : Type 0} (o : Option A) (P : Type 0) → o ≡ None → IfNone o P → P
+if_none_at None P e p = p
+if_none_at (Some x) P e p = absurd cc
+
+-- prefixes, and one happening more
+pub prefixes_more : (T : Table) (limit : ℕ) (h : History) (next : Happened) → ArePrefixes T limit h → May (on_connection T limit next.conn) (behind next.conn h) next.what → ArePrefixes T limit (h ++ next ∷ [])
+prefixes_more T limit h next prefixes may conn = elim (eqb_tells next.conn conn) [
+  | inl same ↦
+      let P : Behind → Type 0 = IsPrefix (on_connection T limit conn) in
+      let M : ℕ → Type 0 = λ conn. May (on_connection T limit conn) (behind conn h) next.what in
+      subst P (sym (behind-more conn h next same.1)) (prefixes conn, subst M same.1 may)
+  | inr other ↦
+      let P : Behind → Type 0 = IsPrefix (on_connection T limit conn) in
+      subst P (sym (behind-other conn h next other.1)) (prefixes conn)
+]
+
+pub stage_at : (T : Table) (limit : ℕ) (h : History) (told : List StandsLine) (stage : Stage) (c : Connections) → stage ≡ Happening c → IsStage T limit h told stage → IsHappening T limit h told c
+stage_at T limit h told stage c e is = let P : Stage → Type 0 = IsStage T limit h told in subst P e is
+
+pub legal_now : (T : Table) (limit : ℕ) (h : History) → ArePrefixes T limit h → ((conn : ℕ) → IsSettledUp (behind conn h)) → IsLegal T limit h
+legal_now T limit h prefixes settled conn = record { prefix = prefixes conn; closed = settled conn }
+
+some_more : (told : List StandsLine) (s : StandsLine) → told ++ s ∷ [] ≡ [] → ⊥
+some_more told s e = omega (arith, ap length e, length-append told (s ∷ []))
+
+pub some_lines : (told : List StandsLine) (s : StandsLine) → told ++ s ∷ [] ≡ [] → ⊥
+some_lines = some_more
+
+pub first_line_at : (h : History) (told : List StandsLine) (line : ℕ) → line ≡ length h + length told + 1 → told ≡ [] → line ≡ length h + 1
+first_line_at h told line e none = omega (arith, e, ap length none)
+
+misplaced_more : (T : Table) (limit : ℕ) (h : History) (told : List StandsLine) (s : StandsLine) (i : Place) → IsMisplaced T limit h told i → IsMisplaced T limit h (told ++ s ∷ []) i
+misplaced_more T limit h told s i m = record {
+  legal = m.legal;
+  front = m.front;
+  back = m.back ++ s ∷ [];
+  next = m.next;
+  lines = ap (λ (l : List StandsLine). l ++ s ∷ []) m.lines ∙ append_assoc m.front (m.next ∷ m.back) (s ∷ []);
+  begin = m.begin;
+  ends = m.ends;
+  counted = m.counted;
+  rule = m.rule;
+}
+
+-- what is illegal stays so behind one line more
+pub illegal_more : (T : Table) (limit : ℕ) (h : History) (told : List StandsLine) (s : StandsLine) (i : Place) → IsIllegalAt T limit h told i → IsBroken T limit h i ⊎ ((told ++ s ∷ [] ≡ [] → ⊥) × IsIllegalAt T limit h (told ++ s ∷ []) i)
+illegal_more T limit h told s i (inl broken) = inl broken
+illegal_more T limit h told s i (inr (inl left)) = inr (some_more told s, inr (inl left))
+illegal_more T limit h told s i (inr (inr m)) = inr (some_more told s, inr (inr (misplaced_more T limit h told s i m)))
+
+-- what is illegal, as it is answered
+pub illegal_judged : (T : Table) (limit : ℕ) (h : History) (told : List StandsLine) (i : Place) → IsIllegalAt T limit h told i → IsJudged T limit h told (Illegal i.line i.rule)
+illegal_judged T limit h told i (inl b) = judged_broken b.before b.after b.next i.rule b.history b.prefixes b.breaks (ap (λ (line : ℕ). Illegal line i.rule) b.counted)
+illegal_judged T limit h told i (inr (inl o)) = open_end i.rule o.prefixes o.first (ap (λ (line : ℕ). Illegal line i.rule) o.counted)
+illegal_judged T limit h told i (inr (inr m)) = judged_misplaced m.front m.back m.next m.legal m.lines m.begin m.ends (λ j. Illegal (m.counted j) (m.rule j))
+
+-- a happening behind one that broke a rule
+pub broken_more : (T : Table) (limit : ℕ) (h : History) (next : Happened) (i : Place) → IsBroken T limit h i → IsBroken T limit (h ++ next ∷ []) i
+broken_more T limit h next i b = record {
+  before = b.before;
+  after = b.after ++ next ∷ [];
+  next = b.next;
+  history = ap (λ (l : History). l ++ next ∷ []) b.history ∙ append_assoc b.before (b.next ∷ b.after) (next ∷ []);
+  prefixes = b.prefixes;
+  breaks = b.breaks;
+  counted = b.counted;
+}

@@ -1,0 +1,279 @@
+-- The audit of a small run, checked by hand: a policy denies a call with 150.
+use Rattle.std.proofs.Common.{◌≡◌, ◌≢◌, ℕ, ◌<◌, false, true, List, [], ◌∷◌, Contains, codes, arith, refl, ap, sym, subst, ◌∙◌, inl, inr, Some}
+use Rattle.std.specs.Fmt.{digits}
+use Rattle.std.proofs.lemmas.Bool.Decides.{eqb_tells}
+use Rattle.std.proofs.lemmas.List.Elements.{All-head, All-nil}
+use Rattle.mrpc_table.specs.Node.{Node, no_fields, field, one, number}
+use Rattle.mrpc_table.specs.Normal.{IsNormal}
+use Rattle.mrpc_table.specs.declared.call.Call.{Call}
+use Rattle.mrpc_table.specs.declared.call.Sort.TheVariants.{Request}
+use Rattle.mrpc_table.specs.declared.table.Kind.TheVariants.{Uint64}
+use Rattle.mrpc_table.specs.declared.table.Label.TheVariants.{Plain}
+use Rattle.mrpc_table.specs.declared.table.Table.{Table}
+use Rattle.policy_access.specs.Verdict.{AccessPolicy, verdict}
+use Rattle.policy_access.specs.declared.rule.About.TheVariants.{Calls as OfCalls}
+use Rattle.policy_access.specs.declared.rule.Comparison.TheVariants.{Equal}
+use Rattle.policy_access.specs.declared.rule.Condition.TheVariants.{Compares}
+use Rattle.policy_access.specs.declared.rule.Operand.TheVariants.{Number}
+use Rattle.graph_form.specs.declared.reason.Reason.TheVariants.{NoMethod}
+use Rattle.engine_core.specs.Answers.{Answers, Past, nothing, pass, allows, denies, was_charged, charges, holds, refuses, is_within, is_over, draws, was_counted, counts, is_clear, redacts}
+use Rattle.engine_core.specs.Chains.{Changes, IsAgainst, Refusal, attaches, changed, detaches_none, new_entry, upgrades_none, is_taken, is_past, is_full, is_other}
+use Rattle.engine_core.specs.declared.op.Op.{Op as Step}
+use Rattle.engine_core.specs.declared.op.Op.TheVariants.{Attach}
+use Rattle.engine_core.specs.declared.policy.Policy.{Policy}
+use Rattle.engine_core.specs.declared.policy.Policy.TheVariants.{Access}
+use Rattle.call_history.specs.Behind.{Behind}
+use Rattle.call_history.specs.Legal.{History, IsLegalBehind, IsPrefix, behind}
+use Rattle.call_history.specs.Rules.{IsDenied, Lets, May, Under}
+use Rattle.call_history.specs.declared.happening.Cause.TheVariants as cause
+use Rattle.call_history.specs.declared.happening.Happened.{Happened}
+use Rattle.call_history.specs.declared.happening.Happening.{Happening}
+use Rattle.call_history.specs.declared.happening.Happening.TheVariants.{Took, Op, Sent, Refused}
+use Rattle.call_history.specs.declared.happening.Taken.{Taken}
+use Rattle.call_history.specs.declared.happening.TookCopy.TheVariants.{Copy, Malformed}
+use Rattle.audit_text.specs.Lines.{audit}
+use Rattle.audit_rules.specs.First.{Keeps, order_of}
+use Rattle.audit_rules.specs.declared.rule.Rule.{Rule}
+use Rattle.audit_rules.specs.declared.rule.Rule.TheVariants.{A, B, C, D, E, F, G, Stands}
+use Rattle.audit_check.specs.Checking.{ArePrefixes, IsJudged, broken, legal, on_connection}
+use Rattle.audit_check.specs.declared.checked.Checked.TheVariants.{Illegal, Legal}
+use Rattle.audit_check.proofs.Known.{behind-other}
+use Rattle.audit_check.proofs.Opens.{nothing_settled}
+
+-- ---- what happens
+
+abbrev table : Table
+table = record {
+  messages = record { name = codes "M"; fields = record { number = 1; name = codes "a"; kind = Uint64; label = Plain } ∷ []; oneofs = [] } ∷ [];
+  enums = [];
+  methods = record { service = codes "S"; name = codes "Get"; input = 0; output = 0 } ∷ [];
+}
+
+abbrev with_150 : Node
+with_150 = field 1 (one (number 150)) no_fields
+
+abbrev call : Taken
+call = record { seq = 1; method = 0; number = 0; addr = 2; after = 1; count = 1; copy = Copy with_150 }
+
+abbrev acl : List ℕ
+acl = codes "acl"
+
+-- all but requests with 150
+abbrev policy : AccessPolicy
+policy = record {
+  rules = record {
+    name = codes "no150";
+    allow = false;
+    about = OfCalls (record { method = 0; sort = Request; test = Some (record { path = record { way = []; number = 1; kind = Uint64; label = Plain }; condition = Compares Equal (Number 150) }) });
+  } ∷ [];
+  allow = true;
+}
+
+abbrev attach : Step
+attach = Attach 0 acl acl (Access policy)
+
+abbrev on_one : Happening → Happened
+on_one what = record { conn = 1; what = what }
+
+abbrev taken : History
+taken = on_one (Op attach) ∷ on_one (Took call) ∷ []
+
+abbrev denied : History
+denied = on_one (Op attach) ∷ on_one (Took call) ∷ on_one (Refused 1 (cause.Access acl 1 (codes "no150"))) ∷ []
+
+abbrev sent : History
+sent = on_one (Op attach) ∷ on_one (Took call) ∷ on_one (Sent 1 19) ∷ []
+
+-- ---- why it may
+
+abbrev under : Under
+under = on_connection table 1024 1
+
+abbrev none_yet : Behind
+none_yet = Op attach ∷ []
+
+abbrev before : Behind
+before = Took call ∷ none_yet
+
+none-in : {X : Type 0} (x : X) → Contains [] x → ⊥
+none-in x has = omega (arith, has.1)
+
+-- nothing stands against the first step
+free-attach : (refusal : Refusal) → IsAgainst [] attach refusal → ⊥
+free-attach refusal (detaches_none n is not r) = cc
+free-attach refusal (upgrades_none n l p is not r) = cc
+free-attach refusal (is_taken a n l p is some r) = none-in n some
+free-attach refusal (is_past a n l p is past r) = let places : a ≡ 0 = cc in omega (arith, places, past)
+free-attach refusal (is_full a n l p is full r) = omega (arith, full)
+free-attach refusal (is_other n l p e is there named differs r) = cc
+
+attached : Changes (record { entries = []; attached = 0 }) attach (changed attach (record { entries = []; attached = 0 }))
+attached = record { free = free-attach; makes = attaches 0 acl acl (Access policy) [] [] refl refl refl refl }
+
+link_stands : (past : Behind) (next : Happening) → false ≡ true → {X : Type 0} → X
+link_stands past next e = absurd (let wrong : false ≡ true = e in cc)
+
+may-attach : May under [] (Op attach)
+may-attach = record {
+  numbered = tt;
+  malformed = tt;
+  chain_kept = attached;
+  notes_due = tt;
+  drawn_refused = tt;
+  in_order = tt;
+  answered = tt;
+  link_end = (λ e. link_stands [] (Op attach) e, tt);
+}
+
+normal-150 : IsNormal table 0 with_150
+normal-150 = record {
+  fields = (omega arith, (record { number = 1; name = codes "a"; kind = Uint64; label = Plain }, refl, λ (e : 150 ≡ 0). omega (arith, e), omega arith), tt);
+  oneofs = λ o. omega arith;
+  depth = omega arith;
+}
+
+may-take : May under none_yet (Took call)
+may-take = record {
+  numbered = record { number = refl; few = omega arith; loads = omega arith; copy = (omega arith, normal-150) };
+  malformed = tt;
+  chain_kept = tt;
+  notes_due = tt;
+  drawn_refused = tt;
+  in_order = tt;
+  answered = tt;
+  link_end = (λ e. link_stands none_yet (Took call) e, tt);
+}
+
+is-denied : IsDenied under before 1 acl 1 (codes "no150")
+is-denied = record {
+  entry = new_entry acl 1 (Access policy);
+  at = record {
+    front = [];
+    back = [];
+    entries = refl;
+    named = refl;
+    call_stands = (0, omega arith, refl);
+    let_pass = All-nil (Lets under before 1);
+  };
+  present = refl;
+  policy = policy;
+  is_policy = refl;
+  place = 0;
+  gives = denies policy refl refl refl;
+  names = refl;
+}
+
+may-refuse : May under before (Refused 1 (cause.Access acl 1 (codes "no150")))
+may-refuse = record {
+  numbered = tt;
+  malformed = tt;
+  chain_kept = tt;
+  notes_due = tt;
+  drawn_refused = tt;
+  in_order = tt;
+  answered = is-denied;
+  link_end = (λ e. link_stands before (Refused 1 (cause.Access acl 1 (codes "no150"))) e, tt);
+}
+
+-- ---- on each connection
+
+on-each : (P : ℕ → Behind → Type 0) (h : History) → P 1 (behind 1 h) → ((conn : ℕ) → P conn []) → ((conn : ℕ) → 1 ≢ conn → behind conn h ≡ []) → (conn : ℕ) → P conn (behind conn h)
+on-each P h here nowhere others conn = elim (eqb_tells 1 conn) [
+  | inl same ↦ let Q : ℕ → Type 0 = λ conn. P conn (behind conn h) in subst Q same.1 here
+  | inr other ↦ subst (P conn) (sym (others conn other.1)) (nowhere conn)
+]
+
+other-taken : (conn : ℕ) → 1 ≢ conn → behind conn taken ≡ []
+other-taken conn other = behind-other conn (on_one (Op attach) ∷ []) (on_one (Took call)) other ∙ behind-other conn [] (on_one (Op attach)) other
+
+other-denied : (conn : ℕ) → 1 ≢ conn → behind conn denied ≡ []
+other-denied conn other = behind-other conn taken (on_one (Refused 1 (cause.Access acl 1 (codes "no150")))) other ∙ other-taken conn other
+
+abbrev IsLegalOn : ℕ → Behind → Type 0
+IsLegalOn conn past = IsLegalBehind (on_connection table 1024 conn) past
+
+abbrev IsPrefixOn : ℕ → Behind → Type 0
+IsPrefixOn conn past = IsPrefix (on_connection table 1024 conn) past
+
+nothing-legal : (conn : ℕ) → IsLegalOn conn []
+nothing-legal conn = record { prefix = tt; closed = nothing_settled }
+
+prefixes-taken : ArePrefixes table 1024 taken
+prefixes-taken = on-each IsPrefixOn taken ((tt, may-attach), may-take) (λ conn. tt) other-taken
+
+-- ---- what is answered
+
+-- the policy denies the call, and it is refused
+judged-denied : IsJudged table 1024 denied [] (Legal 3 0)
+judged-denied =
+    legal (
+    on-each IsLegalOn denied (record {
+      prefix = (((tt, may-attach), may-take), may-refuse);
+      closed = record { malformed = λ z. z; quota = λ z. z; link = λ link. link.some_stand refl };
+    }) nothing-legal other-denied
+    ) (inl refl) refl
+
+-- it isn't refused yet
+judged-taken : IsJudged table 1024 taken [] (Legal 2 0)
+judged-taken =
+    legal (
+    on-each IsLegalOn taken (record {
+      prefix = ((tt, may-attach), may-take);
+      closed = record { malformed = λ z. z; quota = λ z. z; link = λ link. absurd (let wrong : false ≡ true = link.failed in cc) };
+    }) nothing-legal other-taken
+    ) (inl refl) refl
+
+-- the form of the call
+abbrev form : Call
+form = record { conn = 1; seq = 1; method = 0; number = 0; tree = with_150 }
+
+denies-150 : (p : Policy) (level moment : ℕ) (past : Past) → p ≡ Access policy → Answers p level moment form past pass → ⊥
+denies-150 p level moment past is (allows q is_q allow answer) =
+    let same : q ≡ policy = cc in
+    let no : (verdict q form).allow ≡ false = ap (λ (r : AccessPolicy). (verdict r form).allow) same in
+    let wrong : true ≡ false = sym allow ∙ no in cc
+denies-150 p level moment past is (denies q is_q allow answer) = cc
+denies-150 p level moment past is (was_charged r is_q some answer) = cc
+denies-150 p level moment past is (charges r is_q none enough answer) = cc
+denies-150 p level moment past is (holds r is_q none less mode answer) = cc
+denies-150 p level moment past is (refuses r is_q none less mode answer) = cc
+denies-150 p level moment past is (is_within tenant per cap ticket is_q some less answer) = cc
+denies-150 p level moment past is (is_over tenant per cap ticket is_q some more answer) = cc
+denies-150 p level moment past is (draws tenant per cap ticket is_q none answer) = cc
+denies-150 p level moment past is (was_counted is_q some answer) = cc
+denies-150 p level moment past is (counts is_q none answer) = cc
+denies-150 p level moment past is (is_clear clears is_q left answer) = cc
+denies-150 p level moment past is (redacts clears is_q other answer) = cc
+
+keeps-before : (rule : Rule) → order_of rule < 4 → Keeps under before (Sent 1 19) rule
+keeps-before A less = tt
+keeps-before B less = tt
+keeps-before C less = tt
+keeps-before D less = (tt, tt)
+keeps-before E less = absurd (omega (arith, less))
+keeps-before F less = absurd (omega (arith, less))
+keeps-before G less = absurd (omega (arith, less))
+keeps-before Stands less = absurd (omega (arith, less))
+
+-- it is sent, which its policy denies
+judged-sent : IsJudged table 1024 sent [] (Illegal 3 E)
+judged-sent =
+    broken taken [] (on_one (Sent 1 19)) E refl prefixes-taken (record {
+      broken = λ sends. denies-150 (Access policy) 0 0 nothing refl (All-head (Lets under before 1) (new_entry acl 1 (Access policy)) [] sends.let_pass);
+      earlier = keeps-before;
+    }) refl
+
+-- a first call with the number 3
+abbrev third : Taken
+third = record { seq = 3; method = 9; number = 0; addr = 2; after = 1; count = 0; copy = Malformed NoMethod 0 9 }
+
+audit-third : audit table (on_one (Took third) ∷ []) ≡ codes "took 1 3 9 0 2 1 0 malformed NoMethod 0 9\n"
+unfolding digits
+audit-third = refl
+
+judged-third : IsJudged table 1024 (on_one (Took third) ∷ []) [] (Illegal 1 A)
+judged-third =
+    broken [] [] (on_one (Took third)) A refl (λ conn. tt) (record {
+      broken = λ takes. let wrong : 3 ≡ 1 = takes.number in absurd (omega (arith, wrong));
+      earlier = λ other less. absurd (omega (arith, less));
+    }) refl

@@ -1,0 +1,9 @@
+use Rattle.std.proofs.Common.{refl}
+use Rattle.audit_check.proofs.progress.Progress.new.Goals as goal
+
+pub returns : goal.returns
+returns c T = record {
+  happenings = refl;
+  stands = refl;
+  stage = record { untold = refl; knows = c.new.ensures.knows T; same_limit = c.new.ensures.limit; prefixes = λ conn. tt };
+}

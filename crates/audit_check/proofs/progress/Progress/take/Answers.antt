@@ -1,0 +1,43 @@
+use Rattle.std.proofs.Common.{◌≡◌, ◌+◌, List, [], ◌∷◌, ◌++◌, arith, length, length-append, sym, subst}
+use Rattle.std.proofs.lemmas.List.{nil_from_length}
+use Rattle.audit_text.specs.declared.line.AuditLine.{AuditLine}
+use Rattle.audit_check.specs.Checking.{StandsLine}
+use Rattle.audit_check.specs.Reading.{TakesOn}
+use Rattle.audit_check.specs.Stages.{IsStage}
+use Rattle.audit_check.proofs.progress.Progress.take.Goals as goal
+
+pub returns-in_ok-happen-in-Happened : goal.returns-in_ok-happen-in-Happened
+returns-in_ok-happen-in-Happened c limit h told p =
+    let T = c.args.table.now in
+    let next = c.in-Happened.next in
+    let after = c.in_ok-happen-in-Happened.field-0 in
+    let none : told ≡ [] = nil_from_length told (omega (arith, p.stands, c.if-stands-gt0.false)) in
+    let L : AuditLine → Type 0 = λ line. TakesOn T limit h told line (record { happenings = c.args.self.happenings + 1; stands = c.args.self.stands; stage = after }) in
+    let S : List StandsLine → Type 0 = λ told. IsStage T limit h told c.args.self.stage in
+    let A : List StandsLine → Type 0 = λ told. IsStage T limit (h ++ next ∷ []) told after in
+    let number : c.next_line-number.result ≡ length h + 1 = omega (arith, c.next_line-number.ensures, p.happenings, p.stands, c.if-stands-gt0.false) in
+    subst L (sym c.in-Happened.is) (
+      none,
+      record {
+        happenings = omega (arith, p.happenings, length-append h (next ∷ []));
+        stands = p.stands;
+        stage = subst A (sym none) (c.in_ok-happen-in-Happened.ensures limit h (subst S none p.stage) number);
+      },
+    )
+
+pub returns-in-Stands : goal.returns-in-Stands
+returns-in-Stands c limit h told p =
+    let T = c.args.table.now in
+    let s : StandsLine = record { conn = c.in-Stands.conn; seq = c.in-Stands.seq; position = c.in-Stands.position; name = c.in-Stands.name; holding = c.in-Stands.holding } in
+    let L : AuditLine → Type 0 = λ line. TakesOn T limit h told line (record { happenings = c.args.self.happenings; stands = c.args.self.stands + 1; stage = c.stand.result }) in
+    let number : c.next_line-number.result ≡ length h + length told + 1 = omega (arith, c.next_line-number.ensures, p.happenings, p.stands) in
+    subst L (sym c.in-Stands.is) (record {
+      happenings = p.happenings;
+      stands = omega (arith, p.stands, length-append told (s ∷ []));
+      stage = c.stand.ensures limit h told p.stage number;
+    })
+
+pub stand-requires-clause-known : goal.stand-requires-clause-known
+stand-requires-clause-known c =
+    let f = c.requires.familiar in
+    (f.0, f.1, f.2, f.3.stage, omega (arith, c.next_line-number.ensures, f.3.happenings, f.3.stands))

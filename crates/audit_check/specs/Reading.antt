@@ -1,0 +1,48 @@
+-- The code's own: how far a text was read.
+use Rattle.std.specs.Prelude.{◌≡◌, ℕ, ◌+◌, ◌⊎◌, List, [], ◌∷◌, ◌++◌, length}
+use Rattle.mrpc_table.specs.declared.table.Table.{Table}
+use Rattle.call_history.specs.Legal.{History}
+use Rattle.policy_blocks.specs.Declarations.{Declared}
+use Rattle.audit_text.specs.declared.reading.AuditFault.{AuditFault}
+use Rattle.audit_text.specs.declared.reading.AuditFault.TheVariants.{Bad, Memory}
+use Rattle.audit_text.specs.declared.line.AuditLine.{AuditLine}
+use Rattle.audit_text.specs.declared.line.AuditLine.TheVariants as lines
+use Rattle.audit_rules.specs.Knowing.{IsReadable}
+use Rattle.audit_check.specs.Checking.{StandsLine, Tells}
+use Rattle.audit_check.specs.Stages.{IsStage}
+use Rattle.audit_check.specs.declared.progress.Progress.{Progress}
+
+-- so far a history was read, and these lines
+pub record IsProgress (T : Table) (limit : ℕ) (h : History) (told : List StandsLine) (p : Progress) : Type 0 where
+  pub happenings : p.happenings ≡ length h
+  pub stands : p.stands ≡ length told
+  pub stage : IsStage T limit h told p.stage
+
+abbrev pub IsFamiliar : Table → Progress → Type 0
+IsFamiliar T p = (limit : ℕ) × (h : History) × (told : List StandsLine) × IsProgress T limit h told p
+
+abbrev pub IsReadableLine : Table → AuditLine → Type 0
+IsReadableLine T (lines.Happened x) = IsReadable T x.what
+IsReadableLine T (lines.Stands conn seq position name holding) = Unit {0}
+
+-- one line more
+abbrev pub TakesOn : Table → ℕ → History → List StandsLine → AuditLine → Progress → Type 0
+TakesOn T limit h told (lines.Happened x) p = (told ≡ []) × IsProgress T limit (h ++ x ∷ []) told p
+TakesOn T limit h told (lines.Stands conn seq position name holding) p =
+    IsProgress T limit h
+    (told ++ record { conn = conn; seq = seq; position = position; name = name; holding = holding } ∷ []) p
+
+-- a happening behind lines of calls that stand, or no memory was found
+abbrev pub FailsOn : History → List StandsLine → AuditLine → AuditFault → Type 0
+FailsOn h told (lines.Happened x) fault =
+    ((told ≡ [] → ⊥) × (fault ≡ Bad (length h + length told + 1))) ⊎ (fault ≡ Memory)
+FailsOn h told (lines.Stands conn seq position name holding) fault = fault ≡ Memory
+
+-- a text was read up to its rest
+pub record IsRead (T : Table) (declared : Declared) (limit : ℕ) (text rest : List ℕ) (p : Progress) : Type 0 where
+  pub front : List ℕ
+  pub history : History
+  pub told : List StandsLine
+  pub is_text : text ≡ front ++ rest
+  pub tells : Tells T declared front history told
+  pub progress : IsProgress T limit history told p

@@ -1,0 +1,79 @@
+//! The check of a text.
+
+ghost use Rattle.std.specs.Prelude.{◌≡◌, ◌≤◌, ◌⊎◌, ℕ, All, IfErr, IfOk, MatchResult, length};
+ghost use Rattle.mrpc_table.specs.Valid.{IsValid};
+ghost use Rattle.engine_core.specs.Policies.{IsPolicy};
+ghost use Rattle.audit_text.specs.declared.reading.AuditFault.{AuditFault};
+ghost use Rattle.audit_check.specs.Checking.{FaultsAt, IsChecked, IsFirstBad};
+ghost use Rattle.audit_check.specs.declared.checked.Checked.{Checked};
+
+use crate::checked::Checked;
+use crate::first_line::first_line;
+use crate::laws::a_text_has_one_answer;
+use crate::progress::Progress;
+use audit_text::{
+    AuditFault, a_line_is_cut_into_its_words, a_stands_line_tells_one_call, read_line,
+};
+use mrpc_table::Table;
+use policy_blocks::Declarations;
+use std::alloc::Global;
+
+/// Checks the text of an audit, of at most 16777216 bytes, under a table, the policies that were declared, and a
+/// limit of loads. It is legal where its happenings are a legal history, behind which there are no lines of calls that stand, or
+/// those of all its calls that stand at positions that may be theirs; else it names the first line through which it
+/// isn't, and the first rule that is broken there.
+///
+/// `Bad` comes exactly where a line is none of an audit text, or it is that of a happening behind one of a call that
+/// stands, with the first such line, also where an earlier line is illegal. `Memory` comes only where no memory was
+/// found.
+pub fn check_audit(
+    alloc: Global,
+    table: &Table,
+    declared: &Declarations,
+    loads: u64,
+    text: &[u8],
+) -> Result<Checked, AuditFault>
+    requires valid { IsValid table.now }
+    requires policies { All (λ p. IsPolicy p.policy) declared.now.policies }
+    requires short { length text.now ≤ 16777216 }
+    ensures checked { IfOk result (IsChecked table.now declared.now loads text.now) }
+    ensures bad { IfErr result (FaultsAt (IsFirstBad table.now declared.now text.now)) }
+    ensures only_checked { (checked : Checked) → IsChecked table.now declared.now loads text.now checked
+        → MatchResult result (λ c. c ≡ checked) (λ fault. fault ≡ AuditFault.Memory) }
+    ensures only_bad { (line : ℕ) → IsFirstBad table.now declared.now text.now line
+        → MatchResult result (λ _. ⊥) (λ fault. (fault ≡ AuditFault.Bad line) ⊎ (fault ≡ AuditFault.Memory)) }
+{
+    a_text_has_one_answer();
+    read_text(alloc, table, declared, loads, text)
+}
+
+/// Reads a text line by line, and answers what is to be answered of it.
+fn read_text(
+    alloc: Global,
+    table: &Table,
+    declared: &Declarations,
+    loads: u64,
+    text: &[u8],
+) -> Result<Checked, AuditFault>
+    requires valid { IsValid table.now }
+    requires policies { All (λ p. IsPolicy p.policy) declared.now.policies }
+    requires short { length text.now ≤ 16777216 }
+    ensures checked { IfOk result (IsChecked table.now declared.now loads text.now) }
+    ensures bad { IfErr result (FaultsAt (IsFirstBad table.now declared.now text.now)) }
+{
+    a_line_is_cut_into_its_words();
+    a_stands_line_tells_one_call();
+    let mut progress = Progress::new(alloc, loads);
+    let mut rest = text;
+    while !rest.is_empty() {
+        let (line, others) = first_line(rest);
+        let Some(line) = read_line(alloc, line, table, declared)? else {
+            return Err(AuditFault::Bad {
+                line: progress.next_line(),
+            });
+        };
+        progress = progress.take(alloc, table, line)?;
+        rest = others;
+    }
+    Ok(progress.end())
+}

@@ -1,0 +1,103 @@
+//! How far a text was read.
+
+ghost use Rattle.std.specs.Prelude.{◌≡◌, ◌+◌, ◌<◌, ◌^◌, ℕ, List, [], MatchResult};
+ghost use Rattle.mrpc_table.specs.Valid.{IsValid};
+ghost use Rattle.mrpc_table.specs.declared.table.Table.{Table};
+ghost use Rattle.call_history.specs.Legal.{History};
+ghost use Rattle.audit_check.specs.Checking.{IsJudged, StandsLine};
+ghost use Rattle.audit_check.specs.Reading.{FailsOn, IsFamiliar, IsProgress, IsReadableLine, TakesOn};
+
+use crate::checked::Checked;
+use crate::connections::Connections;
+use crate::row::Told;
+use crate::stage::Stage;
+use audit_text::{AuditFault, AuditLine};
+use mrpc_table::Table;
+use std::alloc::Global;
+
+/// How many lines of each sort were read, and how they are judged.
+#[derive(Drop)]
+pub struct Progress {
+    pub happenings: u64,
+    pub stands: u64,
+    pub stage: Stage,
+}
+
+impl Progress {
+    /// No line yet.
+    pub fn new(alloc: Global, limit: u64) -> Progress
+        ensures { (T : Table) → IsProgress T limit [] [] result }
+    {
+        Progress {
+            happenings: 0,
+            stands: 0,
+            stage: Stage::Happening(Connections::new(alloc, limit)),
+        }
+    }
+
+    /// The number of the next line, from 1.
+    pub fn next_line(&self) -> u64
+        requires { self.now.happenings + self.now.stands + 1 < 2 ^ 64 }
+        ensures { result ≡ self.now.happenings + self.now.stands + 1 }
+    {
+        self.happenings + self.stands + 1
+    }
+
+    /// Takes the next line. `Bad` comes exactly where it is that of a happening behind one of a call that stands.
+    pub fn take(self, alloc: Global, table: &Table, line: AuditLine) -> Result<Progress, AuditFault>
+        requires valid { IsValid table.now }
+        requires readable { IsReadableLine table.now line }
+        requires few { self.happenings + self.stands + 3 < 2 ^ 32 }
+        requires familiar { IsFamiliar table.now self }
+        ensures { (limit : ℕ) (h : History) (told : List StandsLine) → IsProgress table.now limit h told self
+            → MatchResult result (TakesOn table.now limit h told line) (FailsOn h told line) }
+    {
+        let number = self.next_line();
+        let Progress {
+            happenings,
+            stands,
+            stage,
+        } = self;
+        match line {
+            AuditLine::Happened(next) => {
+                if stands > 0 {
+                    return Err(AuditFault::Bad { line: number });
+                }
+                Ok(Progress {
+                    happenings: happenings + 1,
+                    stands,
+                    stage: stage.happen(alloc, table, next, number)?,
+                })
+            }
+            AuditLine::Stands {
+                conn,
+                seq,
+                position,
+                name,
+                holding,
+            } => {
+                let told = Told {
+                    conn,
+                    seq,
+                    position,
+                    name,
+                    holding,
+                };
+                Ok(Progress {
+                    happenings,
+                    stands: stands + 1,
+                    stage: stage.stand(table, told, number),
+                })
+            }
+        }
+    }
+
+    /// What is answered of a text that ends here.
+    pub fn end(self) -> Checked
+        requires { self.happenings + self.stands + 1 < 2 ^ 64 }
+        ensures { (T : Table) (limit : ℕ) (h : History) (told : List StandsLine) → IsProgress T limit h told self
+            → IsJudged T limit h told result }
+    {
+        self.stage.end(self.happenings, self.stands)
+    }
+}

@@ -1,0 +1,127 @@
+//! How far a text was judged.
+
+ghost use Rattle.std.specs.Prelude.{◌≡◌, ◌+◌, ◌<◌, ◌^◌, ◌∷◌, ◌++◌, ℕ, List, [], IfOk, MatchResult, length};
+ghost use Rattle.mrpc_table.specs.Valid.{IsValid};
+ghost use Rattle.mrpc_table.specs.declared.table.Table.{Table};
+ghost use Rattle.call_history.specs.Legal.{History, IsLegal};
+ghost use Rattle.audit_rules.specs.Knowing.{IsReadable};
+ghost use Rattle.audit_check.specs.Checking.{IsJudged, StandsLine};
+ghost use Rattle.audit_check.specs.Stages.{IsIllegalAt, IsStage};
+ghost use Rattle.audit_check.specs.States.{IsRow, tells};
+
+use crate::checked::Checked;
+use crate::connections::Connections;
+use crate::row::{Row, Told};
+use audit_rules::Rule;
+use call_history::Happened;
+use mrpc_table::{Memory, Table};
+use std::alloc::Global;
+
+/// How the lines that were read are judged.
+#[derive(Drop)]
+pub enum Stage {
+    /// All happenings came as the rules say, and no line of a call that stands was read.
+    Happening(Connections),
+    /// The history is legal, and the lines behind it may begin to tell the calls that stand.
+    Standing(Row),
+    /// They are illegal.
+    Illegal(Illegal),
+}
+
+/// The first line, counted from 1, through which a text is illegal, and the first rule that is broken there.
+#[derive(Clone, Copy)]
+pub struct Illegal {
+    pub line: u64,
+    pub rule: Rule,
+}
+
+impl Stage {
+    /// A happening comes, on a line.
+    pub fn happen(
+        self,
+        alloc: Global,
+        table: &Table,
+        next: Happened,
+        line: u64,
+    ) -> Result<Stage, Memory>
+        requires valid { IsValid table.now }
+        requires readable { IsReadable table.now next.what }
+        requires known { (limit : ℕ) × (h : History) × IsStage table.now limit h [] self
+            × (line ≡ length h + 1) × (line + 2 < 2 ^ 32) }
+        ensures { (limit : ℕ) (h : History) → IsStage table.now limit h [] self → line ≡ length h + 1
+            → IfOk result (IsStage table.now limit (h ++ next ∷ []) []) }
+    {
+        match self {
+            Stage::Happening(mut connections) => match connections.check(alloc, table, next)? {
+                None => Ok(Stage::Happening(connections)),
+                Some(rule) => Ok(Stage::Illegal(Illegal { line, rule })),
+            },
+            judged => Ok(judged),
+        }
+    }
+
+    /// No happening comes any more, from this line on.
+    fn row(self, line: u64) -> Result<Row, Illegal>
+        ensures { (T : Table) (limit : ℕ) (h : History) (told : List StandsLine) → IsStage T limit h told self
+            → (told ≡ [] → line ≡ length h + 1)
+            → MatchResult result (λ row. IsLegal T limit h × IsRow T limit h told row) (IsIllegalAt T limit h told) }
+    {
+        match self {
+            Stage::Happening(connections) => match connections.left_open() {
+                None => Ok(Row::new(connections)),
+                Some(rule) => Err(Illegal { line, rule }),
+            },
+            Stage::Standing(row) => Ok(row),
+            Stage::Illegal(illegal) => Err(illegal),
+        }
+    }
+
+    /// A line of a call that stands comes.
+    pub fn stand(self, table: &Table, told: Told, line: u64) -> Stage
+        requires valid { IsValid table.now }
+        requires known { (limit : ℕ) × (h : History) × (before : List StandsLine)
+            × IsStage table.now limit h before self × (line ≡ length h + length before + 1) }
+        ensures { (limit : ℕ) (h : History) (before : List StandsLine) → IsStage table.now limit h before self
+            → line ≡ length h + length before + 1 → IsStage table.now limit h (before ++ tells told ∷ []) result }
+    {
+        match self.row(line) {
+            Ok(row) => match row.tell(table, told) {
+                Some(row) => Stage::Standing(row),
+                None => Stage::Illegal(Illegal {
+                    line,
+                    rule: Rule::Stands,
+                }),
+            },
+            Err(illegal) => Stage::Illegal(illegal),
+        }
+    }
+
+    /// The text ends behind so many happenings and so many lines of calls that stand.
+    pub fn end(self, happenings: u64, stands: u64) -> Checked
+        requires { happenings + stands + 1 < 2 ^ 64 }
+        ensures { (T : Table) (limit : ℕ) (h : History) (told : List StandsLine) → IsStage T limit h told self
+            → happenings ≡ length h → stands ≡ length told → IsJudged T limit h told result }
+    {
+        let line = happenings + stands + 1;
+        match self.row(line) {
+            Ok(row) => whole(row, happenings, stands),
+            Err(Illegal { line, rule }) => Checked::Illegal { line, rule },
+        }
+    }
+}
+
+/// The answer of a legal history with so many lines of calls that stand behind it.
+fn whole(row: Row, happenings: u64, stands: u64) -> Checked
+    requires { happenings + stands + 1 < 2 ^ 64 }
+    ensures { (T : Table) (limit : ℕ) (h : History) (told : List StandsLine) → IsLegal T limit h
+        → IsRow T limit h told row → happenings ≡ length h → stands ≡ length told → IsJudged T limit h told result }
+{
+    if row.is_whole() || stands == 0 {
+        Checked::Legal { happenings, stands }
+    } else {
+        Checked::Illegal {
+            line: happenings + stands + 1,
+            rule: Rule::Stands,
+        }
+    }
+}
