@@ -1,0 +1,73 @@
+-- The first call that stands is sent.
+use Rattle.std.proofs.Common.{◌≡◌, ℕ, ◌+◌, ◌≤◌, zero, suc, List, [], ◌∷◌, length, map, take, slice_get, refl, sym, ap, ◌∙◌, subst, arith}
+use Rattle.std.specs.Prelude.{All, Some, None}
+use Rattle.std.proofs.lemmas.List.Elements.{All-cons, All-head, All-nil, All-tail, All-take}
+use Rattle.mrpc_table.specs.declared.call.Call.{Call}
+use Rattle.frame_transport.specs.declared.format.TheConstants.{HEADER_LEN}
+use Rattle.engine_core.specs.Engines.{EngineParts}
+use Rattle.engine_core.specs.Marks.{StandingCall}
+use Rattle.call_history.specs.Behind.{Behind, chain, form, standing}
+use Rattle.call_history.specs.Rules.{IsSentNext, Lets, Under, payload}
+use Rattle.call_history.specs.Ties.{AreTied, IsCallBehind}
+use Rattle.call_history.specs.declared.happening.Taken.{Taken}
+use Rattle.audit_rules.specs.Asking.{LetsAll, seqs_of}
+use Rattle.audit_rules.proofs.Asked.{All-at, map-at}
+
+all-taken : {X : Type 0} (P : X → Type 0) (xs : List X) (m : ℕ) → length xs ≤ m → All P (take m xs) → All P xs
+all-taken P [] m le all = All-nil P
+all-taken P (x ∷ xs) zero le all = absurd (omega arith)
+all-taken P (x ∷ xs) (suc m) le all = All-cons P x xs (All-head P x (take m xs) all) (all-taken P xs m (omega arith) (All-tail P x (take m xs) all))
+
+pub none-first : (calls : List Taken) → slice_get (map (λ call. call.seq) calls) 0 ≡ None → calls ≡ []
+none-first [] none = refl
+none-first (call ∷ calls) none = absurd cc
+
+record IsFirstOf (calls : List Taken) (seq : ℕ) : Type 0 where
+  call : Taken
+  others : List Taken
+  is : calls ≡ call ∷ others
+  number : call.seq ≡ seq
+
+first-of : (calls : List Taken) (seq : ℕ) → slice_get (map (λ call. call.seq) calls) 0 ≡ Some seq → IsFirstOf calls seq
+first-of [] seq is = absurd cc
+first-of (call ∷ calls) seq is = record { call = call; others = calls; is = refl; number = cc }
+
+module _ (u : Under) (past : Behind) (n seq bytes at : ℕ) (es : List EngineParts) (calls : List StandingCall) (ties : AreTied u.conn past es n calls)
+    (stands : seqs_of calls ≡ map (λ call. call.seq) (standing past)) (first : slice_get (seqs_of calls) 0 ≡ Some seq) (s : StandingCall) (there : slice_get calls 0 ≡ Some s) where
+  number : s.call.seq ≡ seq
+  number = let its = map-at (λ (s : StandingCall). s.call.seq) calls 0 s there in cc
+
+  is-form : form u.conn seq past ≡ Some s.call
+  is-form = subst (λ (k : ℕ). form u.conn k past ≡ Some s.call) number (All-at (IsCallBehind u.conn past es n) calls 0 s ties.calls_behind there).is_form
+
+  pub sends : length (chain past).entries ≤ at → LetsAll u past seq at → bytes ≡ HEADER_LEN + length (payload u.table s.call) → IsSentNext u past seq bytes
+  sends all lets long =
+      let its = first-of (standing past) seq (subst (λ (ns : List ℕ). slice_get ns 0 ≡ Some seq) stands first) in
+      record {
+        call = its.call;
+        others = its.others;
+        first = its.is;
+        number = its.number;
+        let_pass = all-taken (Lets u past seq) (chain past).entries at all lets;
+        sent = s.call;
+        is_form = is-form;
+        long = long;
+      }
+
+  pub frame-of : IsSentNext u past seq bytes → bytes ≡ HEADER_LEN + length (payload u.table s.call)
+  frame-of sent =
+      let both : Some sent.sent ≡ Some s.call = sym sent.is_form ∙ is-form in
+      let same : sent.sent ≡ s.call = cc in
+      sent.long ∙ ap (λ (call : Call). HEADER_LEN + length (payload u.table call)) same
+
+pub passes-all : (u : Under) (past : Behind) (seq bytes at : ℕ) → IsSentNext u past seq bytes → LetsAll u past seq at
+passes-all u past seq bytes at sent = All-take (Lets u past seq) at (chain past).entries sent.let_pass
+
+-- a call that isn't the first isn't sent
+pub sent-first : (u : Under) (past : Behind) (seq bytes : ℕ) (calls : List StandingCall) → seqs_of calls ≡ map (λ call. call.seq) (standing past)
+    → IsSentNext u past seq bytes → slice_get (seqs_of calls) 0 ≡ Some seq
+sent-first u past seq bytes calls stands sent =
+    stands-first
+  where
+    stands-first : slice_get (seqs_of calls) 0 ≡ Some seq
+    stands-first = ap (λ (ns : List ℕ). slice_get ns 0) (stands ∙ ap (map (λ (call : Taken). call.seq)) sent.first) ∙ ap (λ (k : ℕ). Some k) sent.number

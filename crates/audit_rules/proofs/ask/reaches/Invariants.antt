@@ -1,0 +1,22 @@
+-- the engines so far let the call pass, and nothing has happened
+use Rattle.std.proofs.Common.{◌≡◌, ℕ, map, slice_get}
+use Rattle.std.specs.Prelude.{All, Some}
+use Rattle.mrpc_table.specs.Calls.{IsCallOf}
+use Rattle.call_history.specs.Behind.{Behind, moment}
+use Rattle.call_history.specs.Legal.{IsPrefix}
+use Rattle.call_history.specs.Rules.{Under}
+use Rattle.call_history.specs.Ties.{AreNumbersApart, AreTied}
+use Rattle.audit_rules.specs.Asking.{LetsAll, seqs_of}
+use Rattle.audit_rules.proofs.ask.reaches.Given as goal
+
+abbrev pub invariant-loop-next : goal.invariant-loop-next
+invariant-loop-next l = record {
+  numbers : seqs_of l.calls ≡ seqs_of l.initial.calls;
+  entries : map (λ e. e.entry) l.engines ≡ map (λ e. e.entry) l.initial.engines;
+  of_table : All (λ s. IsCallOf l.table s.call) l.calls;
+  ties : (u : Under) (past : Behind) (attached : ℕ) → IsPrefix u past → AreTied u.conn past l.initial.engines attached l.initial.calls
+      → AreNumbersApart l.initial.calls → AreTied u.conn past l.engines attached l.calls;
+  lets : (u : Under) (past : Behind) (attached seq : ℕ) → IsPrefix u past → AreTied u.conn past l.initial.engines attached l.initial.calls
+      → AreNumbersApart l.initial.calls → l.now ≡ moment past → slice_get (seqs_of l.initial.calls) l.place ≡ Some seq
+      → LetsAll u past seq l.from → LetsAll u past seq l.next;
+}

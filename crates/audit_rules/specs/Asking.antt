@@ -1,0 +1,62 @@
+-- How far the calls that stand are known to pass, and what an entry answers to one of them.
+use Rattle.std.specs.Prelude.{◌≡◌, ℕ, ◌<◌, ◌≤◌, List, [], ◌∷◌, All, length, map, take, slice_get, Some}
+use Rattle.std.specs.List.{AllZip}
+use Rattle.engine_core.specs.Answers.{Answer, pass, note, hold, redact}
+use Rattle.engine_core.specs.Chains.{Entry}
+use Rattle.engine_core.specs.Engines.{EngineParts}
+use Rattle.engine_core.specs.Marks.{StandingCall}
+use Rattle.engine_core.specs.Turns.{refusal}
+use Rattle.engine_core.specs.declared.outcome.Noted.TheVariants.{Nothing}
+use Rattle.engine_core.specs.declared.outcome.Outcome.{Outcome}
+use Rattle.engine_core.specs.declared.outcome.Outcome.TheVariants.{Passed, Held, Refused, Redacted}
+use Rattle.call_history.specs.Behind.{Behind, chain, moment}
+use Rattle.call_history.specs.Legal.{IsPrefix}
+use Rattle.call_history.specs.Rules.{Gives, IsAt, Lets, Under}
+use Rattle.call_history.specs.Ties.{AreTied, worked}
+use Rattle.audit_rules.specs.declared.ask.Asked.{Asked}
+
+-- the numbers of calls
+abbrev pub seqs_of : List StandingCall → List ℕ
+seqs_of calls = map (λ s. s.call.seq) calls
+
+-- numbers ascend, from above one, and none is above another
+abbrev pub IsRising : (below top : ℕ) → List ℕ → Type 0
+IsRising below top [] = Unit {0}
+IsRising below top (n ∷ numbers) = (below < n) × (n ≤ top) × IsRising n top numbers
+
+-- so many entries from the first let a call pass
+abbrev pub LetsAll : Under → Behind → ℕ → ℕ → Type 0
+LetsAll u past seq reached = All (Lets u past seq) (take reached (chain past).entries)
+
+-- What is behind has made these engines and these calls, and so many entries from the first let each of the calls pass.
+pub record IsRowBehind (u : Under) (past : Behind) (engines : List EngineParts) (attached : ℕ)
+    (calls : List StandingCall) (reached : List ℕ) (now : ℕ) : Type 0 where
+  pub prefix : IsPrefix u past
+  pub ties : AreTied u.conn past engines attached calls
+  pub reaches : AllZip (LetsAll u past) (seqs_of calls) reached
+  pub shows : now ≡ moment past
+
+-- the answer that comes first in a turn
+abbrev pub answer_of : Outcome → Answer
+answer_of (Passed Nothing) = pass
+answer_of (Passed n) = note n
+answer_of (Held level cost) = hold level cost
+answer_of (Refused Nothing why) = refusal why
+answer_of (Refused n why) = note n
+answer_of Redacted = redact
+
+-- a call that stands at an entry, and what a turn of the entry makes of it
+pub record IsAsked (u : Under) (past : Behind) (attached seq : ℕ) (name : List ℕ) (asked : Asked)
+    (calls : List StandingCall) (engines' : List EngineParts) (calls' : List StandingCall) (reached' : List ℕ)
+    : Type 0 where
+  pub entry : Entry
+  pub is_entry : slice_get (chain past).entries asked.at ≡ Some entry
+  pub place : slice_get (seqs_of calls) asked.place ≡ Some seq
+  pub is_at : IsAt u past seq name entry
+  pub gives : Gives u past entry seq (answer_of asked.outcome)
+  pub ties : AreTied u.conn (worked entry seq asked.outcome past) engines' attached calls'
+  pub reaches : AllZip (LetsAll u past) (seqs_of calls') reached'
+  pub reached_it : slice_get reached' asked.place ≡ Some asked.at
+  pub within : asked.at < length engines'
+  -- it stands at no other of this name
+  pub only : (other : Entry) → IsAt u past seq name other → other ≡ entry

@@ -1,0 +1,143 @@
+-- What a checker knows of a connection: what its happenings have made (this project's own).
+use Rattle.std.specs.Prelude.{◌≡◌, ℕ, ◌+◌, ◌<◌, ◌≤◌, ◌^◌, max, List, [], ◌∷◌, ◌++◌, All, length, map, min, Some, vec_capacity}
+use Rattle.std.specs.List.{AllZip}
+use Rattle.std.specs.VecDeque.{deque_capacity}
+use Rattle.mrpc_table.specs.Calls.{IsCallOf}
+use Rattle.mrpc_table.specs.declared.table.Table.{Table}
+use Rattle.engine_core.specs.Engines.{EngineParts}
+use Rattle.engine_core.specs.Policies.{IsPolicy}
+use Rattle.engine_core.specs.declared.TheConstants.{MAX_ENGINES}
+use Rattle.engine_core.specs.declared.call_row.TheConstants.{MAX_CALLS}
+use Rattle.engine_core.specs.declared.policy.Policy.{Policy}
+use Rattle.engine_core.specs.declared.op.Op.{Op as Step}
+use Rattle.engine_core.specs.declared.op.Op.TheVariants.{Attach, Detach, Upgrade}
+use Rattle.call_history.specs.Behind.{Behind, has_failed, noted_calls, policy_of, standing, taken}
+use Rattle.call_history.specs.Legal.{AwaitsMalformed, AwaitsQuota, HasNoCopy}
+use Rattle.call_history.specs.Rules.{IsTakenBy, KeepsChain, NotesWhatIsDue, RefusesAsAnswered, SendsInOrder, Under, cap_of}
+use Rattle.call_history.specs.declared.happening.Cause.{Cause}
+use Rattle.call_history.specs.declared.happening.Cause.TheVariants as cause
+use Rattle.call_history.specs.declared.happening.Happening.{Happening}
+use Rattle.call_history.specs.declared.happening.Happening.TheVariants.{Took, Op, Drawn, Refused}
+use Rattle.call_history.specs.declared.happening.Taken.{Taken}
+use Rattle.call_history.specs.declared.happening.TookCopy.{TookCopy}
+use Rattle.call_history.specs.declared.happening.TookCopy.TheVariants.{Copy, Malformed}
+use Rattle.audit_rules.specs.Asking.{IsRising, IsRowBehind, seqs_of}
+use Rattle.audit_rules.specs.declared.checker.Checker.{Checker}
+use Rattle.audit_rules.specs.declared.left.Left.{Left}
+use Rattle.audit_rules.specs.declared.rule.Rule.{Rule}
+use Rattle.audit_rules.specs.declared.rule.Rule.TheVariants.{C, D, E, F}
+use Rattle.audit_rules.specs.declared.left.Left.TheVariants.{Nothing, Waits, Over}
+
+-- under which the happenings of its connection are judged
+abbrev pub under : Table → Checker → Under
+under T c = record { conn = c.conn; table = T; limit = c.limit }
+
+-- ---- what may be asked of it
+
+-- what is known of a happening before it is judged: a copy is a normal tree of a method of the table, and the numbers
+-- of a policy are in their ranges
+abbrev pub IsCopyBy : Table → Taken → TookCopy → Type 0
+IsCopyBy T call (Copy tree) = IsTakenBy T call (Copy tree)
+IsCopyBy T call (Malformed reason place value) = Unit {0}
+
+abbrev pub IsStep : Step → Type 0
+IsStep (Attach at name label policy) = IsPolicy policy
+IsStep (Detach name) = Unit {0}
+IsStep (Upgrade name label policy) = IsPolicy policy
+
+abbrev pub IsReadable : Table → Happening → Type 0
+IsReadable T (Took call) = IsCopyBy T call call.copy
+IsReadable T (Op step) = IsStep step
+IsReadable T _ = Unit {0}
+
+-- ---- what it knows
+
+-- the numbers of the calls that stand: a malformed one that waits for its refusal stands, and has no copy
+abbrev pub with_waiting : Left → List ℕ → List ℕ
+with_waiting Nothing numbers = numbers
+with_waiting (Waits seq) numbers = numbers ++ seq ∷ []
+with_waiting (Over seq name ticket cap) numbers = numbers
+
+abbrev pub numbers_of : Checker → List ℕ
+numbers_of c = with_waiting c.left (seqs_of c.calls)
+
+-- no malformed call waits for its refusal
+abbrev pub IsFree : Left → Type 0
+IsFree Nothing = Unit {0}
+IsFree (Waits seq) = ⊥
+IsFree (Over seq name ticket cap) = Unit {0}
+
+-- a call is refused for being malformed where one waits for that alone
+abbrev pub IsFreeFor : Cause → Left → Type 0
+IsFreeFor cause.Malformed left = Unit {0}
+IsFreeFor _ left = IsFree left
+
+abbrev pub IsFreeBefore : Happening → Left → Type 0
+IsFreeBefore (Refused seq why) left = IsFreeFor why left
+IsFreeBefore _ left = IsFree left
+
+-- the greatest of some numbers, 0 where there is none
+abbrev pub greatest : List ℕ → ℕ
+greatest [] = 0
+greatest (n ∷ numbers) = max n (greatest numbers)
+
+-- a number is that of the greatest call of which an engine has noted something since its attachment
+abbrev pub IsLatest : Behind → EngineParts → ℕ → Type 0
+IsLatest past e n = n ≡ greatest (noted_calls e.entry.name past)
+
+-- what the last happening leaves open, other than the refusals of a failed link
+abbrev pub LeavesOpen : Behind → Left → Type 0
+LeavesOpen past Nothing = (AwaitsMalformed past → ⊥) × (AwaitsQuota past → ⊥)
+LeavesOpen past (Waits seq) = (call : Taken) × (earlier : Behind) × (past ≡ Took call ∷ earlier) × HasNoCopy call.copy
+    × (call.seq ≡ seq)
+LeavesOpen past (Over seq name ticket cap) = (window : ℕ) × (earlier : Behind)
+    × (past ≡ Drawn seq name window ticket ∷ earlier) × (cap ≤ ticket)
+    × ((policy : Policy) × (policy_of name earlier ≡ Some policy) × (cap_of policy ≡ Some cap))
+
+-- there is room for all engines and all calls
+pub record HasRoom (c : Checker) : Type 0 where
+  pub few_engines : length c.engines.items ≤ 8
+  pub engines : 8 ≤ vec_capacity c.engines
+  pub latest : 8 ≤ vec_capacity c.latest
+  pub calls : MAX_CALLS ≤ deque_capacity c.reached
+
+-- A checker knows what is behind: that came as the rules say, and the checker's fields are what it has made.
+pub record Knows (T : Table) (past : Behind) (c : Checker) : Type 0 where
+  pub row : IsRowBehind (under T c) past c.engines.items c.attached c.calls c.reached.items c.moment
+  pub numbers : numbers_of c ≡ map (λ call. call.seq) (standing past)
+  pub rising : IsRising 0 c.taken (numbers_of c)
+  pub taken : c.taken ≡ length (taken past)
+  pub latest : AllZip (IsLatest past) c.engines.items c.latest.items
+  pub failed : c.failed ≡ has_failed past
+  pub left : LeavesOpen past c.left
+  pub of_table : All (λ s. IsCallOf T s.call) c.calls
+  pub attachments : c.attached ≤ length past
+  pub versions : All (λ e. e.entry.version ≤ length past + 1) c.engines.items
+  pub room : HasRoom c
+  pub untold : (c.told ≡ 0) × (c.position ≡ MAX_ENGINES)
+
+-- it knows some happenings, of which there are fewer than 2^32 by some
+abbrev pub IsKnowing : Table → Checker → Type 0
+IsKnowing T c = (past : Behind) × Knows T past c × (length past + 2 < 2 ^ 32)
+
+-- the lowest of the positions that were told, none of which is above the end of a chain
+abbrev pub lowest : List ℕ → ℕ
+lowest [] = MAX_ENGINES
+lowest (p ∷ positions) = min p (lowest positions)
+
+-- It knows what is behind, and the first calls that stand were told, in order, at these positions.
+pub record KnowsTold (T : Table) (past : Behind) (positions : List ℕ) (c : Checker) : Type 0 where
+  pub knows : Knows T past (record c { told = 0; position = MAX_ENGINES })
+  pub settled : IsFree c.left
+  pub told : c.told ≡ length positions
+  pub position : c.position ≡ lowest positions
+
+-- ---- what a happening is asked by itself
+
+-- the rules that a happening is asked by its own kind
+abbrev pub Owns : Under → Behind → Happening → Rule → Type 0
+Owns u past next C = KeepsChain past next
+Owns u past next D = NotesWhatIsDue u past next
+Owns u past next E = SendsInOrder u past next
+Owns u past next F = RefusesAsAnswered u past next
+Owns u past next _ = Unit {0}

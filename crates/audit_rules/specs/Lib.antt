@@ -1,0 +1,5 @@
+pub mod Asking
+pub mod First
+pub mod Knowing
+pub mod Sorts
+pub mod Telling

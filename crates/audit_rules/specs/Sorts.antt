@@ -1,0 +1,69 @@
+-- Which refusals a happening is: the code's own. No public clause cites this module.
+use Rattle.std.specs.Prelude.{◌≡◌, ℕ, List, Bool, true, false, Option, Some, None}
+use Rattle.policy_access.specs.Verdict.{AccessPolicy, rule_name}
+use Rattle.engine_core.specs.declared.outcome.Noted.TheVariants.{Nothing}
+use Rattle.engine_core.specs.declared.outcome.Outcome.{Outcome}
+use Rattle.engine_core.specs.declared.outcome.Outcome.TheVariants as outcomes
+use Rattle.engine_core.specs.declared.outcome.Why.TheVariants.{Denied}
+use Rattle.engine_core.specs.declared.policy.Policy.{Policy}
+use Rattle.engine_core.specs.declared.policy.Policy.TheVariants.{Access}
+use Rattle.call_history.specs.declared.happening.Cause.{Cause}
+use Rattle.call_history.specs.declared.happening.Cause.TheVariants as cause
+use Rattle.call_history.specs.declared.happening.Happening.{Happening}
+use Rattle.call_history.specs.declared.happening.Happening.TheVariants.{Took, Away, Op, Moment, Charged, Drawn, Counted, Redacted, Sent, Refused}
+use Rattle.audit_rules.specs.declared.rule.Rule.{Rule}
+use Rattle.audit_rules.specs.declared.rule.Rule.TheVariants as rules
+
+-- the number of the call that is refused as malformed, if one is
+abbrev pub malformed_in : Happening → Option ℕ
+malformed_in (Refused seq cause.Malformed) = Some seq
+malformed_in _ = None
+
+-- the number of the call that is refused for the link, if one is
+abbrev pub transport_in : Happening → Option ℕ
+transport_in (Refused seq cause.Transport) = Some seq
+transport_in _ = None
+
+-- a cause other than the link
+abbrev pub IsNoLinkCause : Cause → Type 0
+IsNoLinkCause cause.Transport = ⊥
+IsNoLinkCause _ = Unit {0}
+
+-- a step of an operator, or a moment
+abbrev pub is_quiet : Happening → Bool
+is_quiet (Op step) = true
+is_quiet (Moment ms) = true
+is_quiet _ = false
+
+-- the outcome denies by a rule of this name
+abbrev pub IsRuleNamed : Policy → Outcome → List ℕ → Type 0
+IsRuleNamed policy outcome name = (p : AccessPolicy) × (rule : ℕ) × (policy ≡ Access p)
+    × (outcome ≡ outcomes.Refused Nothing (Denied rule)) × (name ≡ rule_name p rule)
+
+-- ---- the first rule that is broken
+
+-- the rule that a happening is asked by its own kind, besides the numbering
+abbrev pub own_rule : Happening → Rule
+own_rule (Took call) = rules.A
+own_rule (Away method number addr) = rules.A
+own_rule (Op step) = rules.C
+own_rule (Moment ms) = rules.C
+own_rule (Charged seq name left) = rules.D
+own_rule (Drawn seq name window ticket) = rules.D
+own_rule (Counted seq name) = rules.D
+own_rule (Redacted seq name version) = rules.D
+own_rule (Sent seq bytes) = rules.E
+own_rule (Refused seq why) = rules.F
+
+-- a happening breaks its own rule, and refuses what was drawn or doesn't
+abbrev pub broken_first : Rule → Bool → Rule
+broken_first rules.C drawn = rules.C
+broken_first own true = own
+broken_first own false = rules.D
+
+-- by whether a happening keeps its own rule, refuses what was drawn, and keeps to a failed link
+abbrev pub first_of : Rule → (kept drawn linked : Bool) → Option Rule
+first_of own false drawn linked = Some (broken_first own drawn)
+first_of own true false linked = Some rules.D
+first_of own true true false = Some rules.G
+first_of own true true true = None

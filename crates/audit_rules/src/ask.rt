@@ -1,0 +1,173 @@
+//! An entry is asked what it answers to a call that stands.
+
+ghost use Rattle.std.specs.Prelude.{◌≡◌, ◌≢◌, ◌<◌, ◌≤◌, ℕ, List, All, Contains, IfNone, IfSome, Some, length, map, slice_get};
+ghost use Rattle.std.specs.Bool.{OnFalse, OnTrue};
+ghost use Rattle.std.specs.VecDeque.{deque_capacity};
+ghost use Rattle.mrpc_table.specs.Calls.{IsCallOf};
+ghost use Rattle.engine_core.specs.Answers.{pass};
+ghost use Rattle.engine_core.specs.Chains.{Entry};
+ghost use Rattle.engine_core.specs.Marks.{StandingCall};
+ghost use Rattle.engine_core.specs.Working.{Works};
+ghost use Rattle.call_history.specs.Behind.{Behind, moment, standing};
+ghost use Rattle.call_history.specs.Legal.{IsPrefix};
+ghost use Rattle.call_history.specs.Rules.{IsAt, Under};
+ghost use Rattle.call_history.specs.Ties.{AreNumbersApart, AreTied};
+ghost use Rattle.audit_rules.specs.Asking.{IsAsked, IsRising, IsRowBehind, LetsAll, answer_of, seqs_of};
+
+use crate::engines::place_of;
+use crate::prepared::Prepared;
+use call_history::{chain_goes_on, ties_go_on};
+use engine_core::{CallRow, Engine, Noted, Outcome, one_answer};
+use mrpc_table::{Name, Table};
+use std::collections::VecDeque;
+
+// A call that stands, the entry of a name at which it is, and how a turn of that entry comes out for it.
+#[derive(Clone, Copy)]
+pub struct Asked {
+    pub place: usize,
+    pub at: usize,
+    pub outcome: Outcome,
+}
+
+// The number of the call at a place.
+pub fn seq_at(calls: &CallRow, place: usize) -> u32
+    requires { place < length calls.now }
+    ensures { slice_get (seqs_of calls.now) place ≡ Some result }
+{
+    calls.at(place).call().seq
+}
+
+// Where the call of a number stands, by binary search.
+pub fn place_of_call(calls: &CallRow, seq: u32) -> Option<usize>
+    requires { (top : ℕ) × IsRising 0 top (seqs_of calls.now) }
+    ensures found { IfSome result (λ place. slice_get (seqs_of calls.now) place ≡ Some seq) }
+    ensures none { IfNone result (Contains (seqs_of calls.now) seq → ⊥) }
+{
+    let mut low = 0;
+    let mut high = calls.len();
+    while low < high {
+        let middle = low + (high - low) / 2;
+        if seq_at(calls, middle) < seq {
+            low = middle + 1;
+        } else {
+            high = middle;
+        }
+    }
+    if low < calls.len() && seq_at(calls, low) == seq {
+        Some(low)
+    } else {
+        None
+    }
+}
+
+// A turn of the engine at a position for the call at a place, which is given this ticket where it draws one.
+pub fn work(
+    calls: &mut CallRow,
+    place: usize,
+    engines: &mut [Engine],
+    at: usize,
+    table: &Table,
+    now: u64,
+    ticket: u64,
+) -> Outcome
+    requires place { place < length calls.old }
+    requires engine { at < length engines.old }
+    requires few { length engines.old ≤ 8 }
+    requires of_table { All (λ s. IsCallOf table.now s.call) calls.old }
+    ensures { Works engines.old calls.old at place now result engines.new calls.new }
+{
+    let mut prepared = Prepared { ticket };
+    calls.work(place, engines, at, table, now, &mut prepared)
+}
+
+// Whether every engine before a position lets the call at a place pass. Those before `from` are known to.
+pub fn reaches(
+    calls: &mut CallRow,
+    place: usize,
+    engines: &mut [Engine],
+    from: usize,
+    at: usize,
+    table: &Table,
+    now: u64,
+) -> bool
+    requires place { place < length calls.old }
+    requires engine { at ≤ length engines.old }
+    requires few { length engines.old ≤ 8 }
+    requires of_table { All (λ s. IsCallOf table.now s.call) calls.old }
+    ensures passes { (u : Under) (past : Behind) (attached seq : ℕ) → IsPrefix u past
+        → AreTied u.conn past engines.old attached calls.old → AreNumbersApart calls.old → now ≡ moment past
+        → slice_get (seqs_of calls.old) place ≡ Some seq → LetsAll u past seq from
+        → OnTrue result (LetsAll u past seq at) }
+    ensures stops { (u : Under) (past : Behind) (attached seq : ℕ) → IsPrefix u past
+        → AreTied u.conn past engines.old attached calls.old → AreNumbersApart calls.old → now ≡ moment past
+        → slice_get (seqs_of calls.old) place ≡ Some seq → LetsAll u past seq from
+        → OnFalse result (LetsAll u past seq at → ⊥) }
+    ensures ties { OnTrue result ((u : Under) (past : Behind) (attached : ℕ) → IsPrefix u past
+        → AreTied u.conn past engines.old attached calls.old → AreNumbersApart calls.old
+        → AreTied u.conn past engines.new attached calls.new) }
+    ensures numbers { seqs_of calls.new ≡ seqs_of calls.old }
+    ensures entries { map (λ e. e.entry) engines.new ≡ map (λ e. e.entry) engines.old }
+    ensures of_table { All (λ s. IsCallOf table.now s.call) calls.new }
+{
+    ties_go_on();
+    one_answer();
+    for next in from..at {
+        let outcome = work(calls, place, engines, next, table, now, 0);
+        if !is_pass(outcome) {
+            return false;
+        }
+    }
+    true
+}
+
+// Whether a turn comes out so that the call goes on with nothing to note.
+fn is_pass(outcome: Outcome) -> bool
+    ensures passes { OnTrue result (outcome ≡ Outcome.Passed Noted.Nothing) }
+    ensures another { OnFalse result (answer_of outcome ≢ pass) }
+{
+    matches!(outcome, Outcome::Passed(Noted::Nothing))
+}
+
+// The call of a number and the entry of a name, where every entry before that lets the call pass, and how a turn of the
+// entry comes out for it, which is given this ticket where it draws one.
+pub fn ask(
+    calls: &mut CallRow,
+    reached: &mut VecDeque<usize>,
+    engines: &mut [Engine],
+    seq: u32,
+    name: &Name,
+    table: &Table,
+    now: u64,
+    ticket: u64,
+) -> Option<Asked>
+    requires rising { (top : ℕ) × IsRising 0 top (seqs_of calls.old) }
+    requires few { length engines.old ≤ 8 }
+    requires of_table { All (λ s. IsCallOf table.now s.call) calls.old }
+    requires reached { length reached.old.items ≡ length calls.old }
+    ensures asked { (u : Under) (past : Behind) (attached : ℕ)
+        → IsRowBehind u past engines.old attached calls.old reached.old.items now
+        → seqs_of calls.old ≡ map (λ call. call.seq) (standing past)
+        → IfSome result (λ a. IsAsked u past attached seq name.now a calls.old engines.new calls.new
+        reached.new.items) }
+    ensures none { (u : Under) (past : Behind) (attached : ℕ)
+        → IsRowBehind u past engines.old attached calls.old reached.old.items now
+        → seqs_of calls.old ≡ map (λ call. call.seq) (standing past)
+        → IfNone result ((e : Entry) → IsAt u past seq name.now e → ⊥) }
+    ensures numbers { seqs_of calls.new ≡ seqs_of calls.old }
+    ensures entries { map (λ e. e.entry) engines.new ≡ map (λ e. e.entry) engines.old }
+    ensures of_table { All (λ s. IsCallOf table.now s.call) calls.new }
+    ensures places { length reached.new.items ≡ length reached.old.items }
+    ensures capacity { deque_capacity reached.new ≡ deque_capacity reached.old }
+{
+    chain_goes_on();
+    ties_go_on();
+    let place = place_of_call(calls, seq)?;
+    let at = place_of(engines, name)?;
+    let from = reached[place];
+    if !reaches(calls, place, engines, from, at, table, now) {
+        return None;
+    }
+    reached[place] = at;
+    let outcome = work(calls, place, engines, at, table, now, ticket);
+    Some(Asked { place, at, outcome })
+}

@@ -1,0 +1,53 @@
+//! The engines of a chain: where one of a name stands, one more, and their clocks.
+
+ghost use Rattle.std.specs.Prelude.{◌≡◌, ◌<◌, ◌≤◌, insert, length, map, min, position, vec_capacity};
+ghost use Rattle.std.specs.VecDeque.{deque_capacity};
+ghost use Rattle.engine_core.specs.Chains.{is_named};
+ghost use Rattle.call_history.specs.Ties.{shown};
+
+use engine_core::Engine;
+use mrpc_table::Name;
+use std::collections::VecDeque;
+
+// The position of the engine of a name.
+pub fn place_of(engines: &[Engine], name: &Name) -> Option<usize>
+    ensures { result ≡ position (λ e. is_named name.now e.entry) engines.now }
+{
+    engines
+        .iter()
+        .position(|engine| engine.name().as_slice() == name.as_slice())
+}
+
+// Puts an item at a position, for which there is room.
+pub fn put<T>(items: &mut Vec<T>, at: usize, item: T)
+    requires at { at ≤ length items.old.items }
+    requires room { length items.old.items < vec_capacity items.old }
+    ensures items { items.new.items ≡ insert items.old.items at item }
+    ensures capacity { vec_capacity items.new ≡ vec_capacity items.old }
+{
+    match items.insert(at, item) {
+        Ok(()) => {}
+        Err(_) => unreachable!(),
+    }
+}
+
+// Brings every bucket to a moment.
+pub fn clock_all(engines: &mut [Engine], now: u64)
+    ensures { engines.new ≡ map (λ e. shown now e) engines.old }
+{
+    for engine in engines.iter_mut() {
+        engine.clock(now);
+    }
+}
+
+// Lowers each number to at most this one.
+pub fn lower(numbers: &mut VecDeque<usize>, at: usize)
+    ensures items { numbers.new.items ≡ map (λ n. min n at) numbers.old.items }
+    ensures capacity { deque_capacity numbers.new ≡ deque_capacity numbers.old }
+{
+    let many = numbers.len();
+    for place in 0..many {
+        let number = numbers[place];
+        numbers[place] = number.min(at);
+    }
+}

@@ -1,0 +1,20 @@
+//! What a happening leaves open.
+
+use mrpc_table::Name;
+
+/// What the last happening leaves open, other than the refusals of a failed link.
+#[derive(Drop)]
+pub enum Left {
+    Nothing,
+    /// A malformed call waits for its refusal.
+    Waits {
+        seq: u32,
+    },
+    /// A call whose ticket isn't below the cap waits for its refusal.
+    Over {
+        seq: u32,
+        name: Name,
+        ticket: u64,
+        cap: u64,
+    },
+}

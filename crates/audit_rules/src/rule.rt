@@ -1,0 +1,40 @@
+//! The rules that a history is judged by.
+
+/// A rule of legal histories.
+#[derive(Clone, Copy, PartialEq, Eq)]
+pub enum Rule {
+    /// Calls are numbered one after another, few enough stand, no more was loaded than the limit, and one is sent away
+    /// exactly where as many stand as may.
+    A,
+    /// A malformed call is refused at once, and for this cause no other is.
+    B,
+    /// The chain doesn't refuse a step, and moments rise.
+    C,
+    /// What is noted of a call is what the entry calls for, and a ticket that isn't below the cap is followed by its
+    /// refusal.
+    D,
+    /// The first call that stands is sent, where every entry lets it pass, in a frame as long as its form.
+    E,
+    /// A refusal of an entry is its answer.
+    F,
+    /// A failed link refuses the calls that stand, in order, and then nothing comes but steps and moments.
+    G,
+    /// The lines of the calls that stand tell those, at places where they may stand.
+    Stands,
+}
+
+impl Rule {
+    /// The word by which it is named.
+    pub fn word(self) -> &'static str {
+        match self {
+            Rule::A => "a",
+            Rule::B => "b",
+            Rule::C => "c",
+            Rule::D => "d",
+            Rule::E => "e",
+            Rule::F => "f",
+            Rule::G => "g",
+            Rule::Stands => "stands",
+        }
+    }
+}
