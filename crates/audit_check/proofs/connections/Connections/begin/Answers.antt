@@ -1,4 +1,4 @@
-use Rattle.std.proofs.Common.{[], ◌∷◌, ◌∙◌, sym, subst, IfNone, IfSome}
+use Rattle.std.proofs.Common.{[], arith, ◌∷◌, ◌∙◌, sym, subst, IfNone, IfSome}
 use Rattle.call_history.specs.Behind.{Behind}
 use Rattle.call_history.specs.Legal.{behind}
 use Rattle.call_history.specs.Rules.{May, Under}
@@ -33,3 +33,6 @@ returns-clause-breaks c h known =
     let none = nothing_behind T c.args.self.now.limit conn (behind conn h) _ c.requires.first (known conn) in
     let P : Under → Behind → Type 0 = λ u past. IfSome c.in_ok-rule.rule (BreaksFirst u past c.args.next.what) in
     carry P (c.in_ok-checker.ensures.conn T) (sym none) (c.in_ok-rule.ensures.breaks [] (c.in_ok-checker.ensures.knows T))
+
+pub check-requires-clause-knowing : goal.check-requires-clause-knowing
+check-requires-clause-knowing c = ([], c.in_ok-checker.ensures.knows c.args.table.now, omega arith)
