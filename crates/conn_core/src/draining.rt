@@ -81,7 +81,6 @@ pub(crate) fn send_all<L: Link>(alloc: Global, conn: &mut Conn, link: &mut L) ->
     ensures cause { HasCause (result ≡ Drained.Failed) (L.faults link.old) (L.faults link.new) }
 {
     'calls: loop {
-        conn.is_connection();
         match conn.send_ready(alloc, link) {
             Sending::Sent { .. } => {}
             Sending::Nothing => return Drained::Done,

@@ -7,3 +7,5 @@ mod scene;
 mod tests;
 #[cfg(test)]
 mod told;
+#[cfg(test)]
+mod wanting;

@@ -8,6 +8,7 @@ ghost use Rattle.conn_core.specs.Steps.{IfPolicy};
 ghost use Rattle.conn_tests.specs.Scene.{IsYoung};
 
 use crate::told::{Told, told_at};
+use crate::wanting::{NoFrames, NoLoads};
 use chain_upgrade::{Chain, ChainFault, Turned};
 use conn_core::{AcceptFault, Ask, Conn, Drained};
 use engine_core::{MAX_CALLS, Op, Policy};
@@ -107,7 +108,7 @@ impl<'t> Model for Scene<'t> {
 fn assert_young(rt: &impl Abort, conn: &Conn)
     ensures { IsYoung conn.now }
 {
-    conn.is_connection();
+    conn.numbers_are_few();
     assert!(rt; conn.history().len() < 1000);
 }
 
@@ -247,6 +248,13 @@ impl<'t> Scene<'t> {
         self.submit_at(rt, 0, 2)
     }
 
+    /// Submits a message to a connection whose heap's reader finds no memory; why it isn't accepted.
+    pub fn submit_without_memory(&mut self, rt: &impl Abort) -> Option<AcceptFault> {
+        assert_young(rt, &self.conn);
+        let ask = self.ask(0, 2);
+        self.conn.accept(self.alloc, &mut NoLoads {}, ask).err()
+    }
+
     /// The message at place 2 is accepted so often.
     pub fn accept(&mut self, rt: &impl Abort, times: u32) {
         for _ in 0..times {
@@ -334,11 +342,34 @@ impl<'t> Scene<'t> {
         assert!(rt; matches!(self.turn(rt, at), Turned::Moved { seq, .. } if seq == number));
     }
 
+    // Turns of the engine at a position until none can go on there.
+    fn turns(&mut self, rt: &impl Abort, at: u32) {
+        for _ in 0..MAX_CALLS {
+            if matches!(self.turn(rt, at), Turned::Idle | Turned::Held { .. }) {
+                return;
+            }
+        }
+    }
+
+    /// Each engine has turns, from the first on, until none can go on there. Nothing is sent.
+    pub fn judge(&mut self, rt: &impl Abort) {
+        for at in 0..self.conn.chain().engines() {
+            self.turns(rt, at);
+        }
+    }
+
     /// What a drain comes to.
     pub fn try_drain(&mut self, rt: &impl Abort) -> Drained {
         assert!(rt; knows_tenants(self.conn.chain(), &self.tickets));
         self.conn
             .drain(self.alloc, &mut self.tickets, &mut self.link)
+    }
+
+    /// What a drain to a link comes to that finds no memory.
+    pub fn drain_without_memory(&mut self, rt: &impl Abort) -> Drained {
+        assert!(rt; knows_tenants(self.conn.chain(), &self.tickets));
+        self.conn
+            .drain(self.alloc, &mut self.tickets, &mut NoFrames {})
     }
 
     /// Turns until no call can go on, and then sendings.
@@ -391,6 +422,11 @@ impl<'t> Scene<'t> {
     /// There is no further record.
     pub fn tells_no_more(&self, rt: &impl Abort) {
         assert!(rt; self.told == self.conn.history().len());
+    }
+
+    /// There are so many records in all.
+    pub fn tells_in_all(&self, rt: &impl Abort, count: usize) {
+        assert!(rt; self.conn.history().len() == count);
     }
 
     /// This is the next frame that was handed over.

@@ -34,6 +34,22 @@ const FIRST_WITH_7: &[u8] =
 const SECOND_WITH_7: &[u8] =
     b"\x00\x00\x00\x02\x01\x01\x00\x00\x00\x00\x00\x01\x00\x00\x00\x02\x08\x07";
 
+#[test]
+fn what_is_stored_behind_an_acceptance_is_in_no_frame(rt: HostRuntime) {
+    let table = table_of(&rt, rt.alloc(), SMALL);
+    let mut scene = Scene::open(&rt, rt.alloc(), &table, 0);
+    scene.store(&rt, 2, 7);
+    scene.accept(&rt, 1);
+    scene.store(&rt, 2, 9);
+    scene.drain(&rt);
+    scene.tells(&rt, &[Took(1), Sent(1, 18)]);
+    scene.tells_no_more(&rt);
+    scene.hands(&rt, FIRST_WITH_7);
+    scene.hands_no_more(&rt);
+    discard(scene);
+    discard_table(table);
+}
+
 // ---- rates and quotas
 
 #[test]
@@ -228,6 +244,39 @@ fn a_counted_call_meets_each_later_attachment(rt: HostRuntime) {
     discard_table(table);
 }
 
+// An upgrade of the policy at a position takes all 64 calls back to it, and then they pass again.
+fn upgrade_at(rt: &impl Abort, scene: &mut Scene, at: u32, name: &[u8]) {
+    scene.upgrade(rt, name, Kind::Count);
+    scene.stands(rt, 0, 1, at);
+    scene.stands(rt, 63, 64, at);
+    scene.judge(rt);
+    scene.stands(rt, 0, 1, 8);
+    scene.stands(rt, 63, 64, 8);
+}
+
+#[test]
+fn an_upgrade_at_each_place_counts_none_of_64_calls_again(rt: HostRuntime) {
+    let table = table_of(&rt, rt.alloc(), SMALL);
+    let mut scene = Scene::open(&rt, rt.alloc(), &table, 0);
+    for name in NAMES {
+        scene.attach(&rt, 0, name, Kind::Count);
+    }
+    scene.accept(&rt, 64);
+    scene.judge(&rt);
+    scene.tells_in_all(&rt, 8 + 64 + 8 * 64);
+    upgrade_at(&rt, &mut scene, 7, b"a");
+    upgrade_at(&rt, &mut scene, 6, b"b");
+    upgrade_at(&rt, &mut scene, 5, b"c");
+    upgrade_at(&rt, &mut scene, 4, b"d");
+    upgrade_at(&rt, &mut scene, 3, b"e");
+    upgrade_at(&rt, &mut scene, 2, b"f");
+    upgrade_at(&rt, &mut scene, 1, b"g");
+    upgrade_at(&rt, &mut scene, 0, b"h");
+    scene.tells_in_all(&rt, 8 + 64 + 8 * 64 + 8);
+    discard(scene);
+    discard_table(table);
+}
+
 const NAMES: [&[u8]; 8] = [b"a", b"b", b"c", b"d", b"e", b"f", b"g", b"h"];
 
 #[test]
@@ -347,6 +396,26 @@ fn a_connection_that_ends_refuses_the_calls_that_stand(rt: HostRuntime) {
     scene.tells(&rt, &[Attached(b"c"), Took(1), Took(2), Counted(1, b"c")]);
     scene.tells(&rt, &[Lost(1), Lost(2), Detached(b"c")]);
     scene.tells_no_more(&rt);
+    scene.hands_no_more(&rt);
+    discard(scene);
+    discard_table(table);
+}
+
+#[test]
+fn what_finds_no_memory_leaves_the_connection_as_it_was(rt: HostRuntime) {
+    let table = table_of(&rt, rt.alloc(), SMALL);
+    let mut scene = Scene::open(&rt, rt.alloc(), &table, 0);
+    scene.store(&rt, 2, 7);
+    scene.accept(&rt, 1);
+    assert!(rt; matches!(scene.submit_without_memory(&rt), Some(AcceptFault::Memory)));
+    assert!(rt; scene.drain_without_memory(&rt) == Drained::Memory);
+    scene.stands(&rt, 0, 1, 0);
+    scene.accept(&rt, 1);
+    scene.drain(&rt);
+    scene.tells(&rt, &[Took(1), Took(2), Sent(1, 18), Sent(2, 18)]);
+    scene.tells_no_more(&rt);
+    scene.hands(&rt, FIRST_WITH_7);
+    scene.hands(&rt, SECOND_WITH_7);
     scene.hands_no_more(&rt);
     discard(scene);
     discard_table(table);
