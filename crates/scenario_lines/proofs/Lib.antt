@@ -1,0 +1,4 @@
+mod LineReading
+mod Naming
+mod Rows
+mod Walking

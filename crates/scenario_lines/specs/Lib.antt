@@ -1,0 +1,6 @@
+pub mod Deciding
+pub mod Forms
+pub mod Judging
+pub mod Lines
+pub mod Programs
+pub mod Reasons
