@@ -1,15 +1,14 @@
 -- A line by the steps of its reading: its form, its words, its place.
-use Rattle.std.proofs.Common.{◌≡◌, ◌≢◌, ℕ, ◌+◌, ◌≤◌, List, [], ◌∷◌, length, Option, Some, None, refl, sym, ap, ◌∙◌, subst, arith}
+use Rattle.std.proofs.Common.{◌≡◌, ◌≢◌, ℕ, ◌≤◌, List, [], ◌∷◌, length, Some, None, refl, sym, ap, ◌∙◌, subst, arith}
 use Rattle.mrpc_table.specs.Lines.{words_of}
-use Rattle.app_program.specs.declared.program.ProgramLine.{ProgramLine}
-use Rattle.script_words.specs.Lines.{AreSaid, IsAgainst, OneOffends, in_word, miscounted}
+use Rattle.script_words.specs.Lines.{AreSaid, IsAgainst, in_word, miscounted}
 use Rattle.script_words.specs.Sorts.{Meaning, word, number, unbounded, name}
 use Rattle.script_words.specs.declared.fault.ScriptReason.{ScriptReason}
 use Rattle.script_words.specs.declared.fault.ScriptReason.TheVariants as script
 use Rattle.script_words.specs.declared.sort.Sort.{Sort}
 use Rattle.scenario_lines.specs.Deciding.{Fits}
-use Rattle.scenario_lines.specs.Forms.{line_form, sorts_of}
-use Rattle.scenario_lines.specs.Lines.{FormSays, IsLine, IsNoPlace, LineAgainst, LineSays, WordsAgainst, behind, first_of, form_of, in_words, no_form, no_place, place_in}
+use Rattle.scenario_lines.specs.Forms.{sorts_of}
+use Rattle.scenario_lines.specs.Lines.{IsLine, IsNoPlace, LineAgainst, WordsAgainst, behind, form_of, in_words, no_form, no_place, place_in}
 use Rattle.scenario_lines.specs.Reasons.{IsFirst, of_words, order_of}
 use Rattle.scenario_lines.specs.declared.form.LineForm.{LineForm}
 use Rattle.scenario_lines.specs.declared.form.LineForm.TheVariants as line

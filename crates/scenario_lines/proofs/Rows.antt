@@ -1,8 +1,8 @@
 -- What lines of programs say, and what stands against them, on small ones.
-use Rattle.std.proofs.Common.{◌≡◌, ℕ, Bool, true, false, List, [], ◌∷◌, codes, Some, None, refl, arith, lit≤, lit<}
-use Rattle.mrpc_table.specs.declared.words.Decimal.TheVariants.{Small, Large}
+use Rattle.std.proofs.Common.{◌≡◌, true, false, [], ◌∷◌, codes, None, refl, arith, lit≤, lit<}
+use Rattle.mrpc_table.specs.declared.words.Decimal.TheVariants.{Small}
 use Rattle.app_program.specs.declared.program.ProgramLine.TheVariants as program
-use Rattle.script_words.specs.Lines.{miscounted, in_word}
+use Rattle.script_words.specs.Lines.{miscounted}
 use Rattle.script_words.specs.Sorts.{number, unbounded}
 use Rattle.script_words.specs.Values.{plain}
 use Rattle.script_words.specs.declared.fault.ScriptReason.TheVariants as script
@@ -10,7 +10,7 @@ use Rattle.scenario_lines.specs.Lines.{LineAgainst, LineSays, form_of, no_form, 
 use Rattle.scenario_lines.specs.Programs.{ProgramAgainst, in_line, ends_in_reply}
 use Rattle.scenario_lines.specs.declared.form.LineForm.TheVariants as line
 use Rattle.scenario_lines.specs.declared.form.ProgramRole.TheVariants.{Client, Server}
-use Rattle.scenario_lines.specs.declared.reason.LineReason.TheVariants.{Number, Word, Place}
+use Rattle.scenario_lines.specs.declared.reason.LineReason.TheVariants.{Word, Place}
 
 -- ---- lines that say something
 

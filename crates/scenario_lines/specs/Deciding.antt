@@ -1,5 +1,5 @@
 -- The code's own: the numbers that words of a form say are in range.
-use Rattle.std.specs.Prelude.{ℕ, ◌≤◌, List}
+use Rattle.std.specs.Prelude.{◌≤◌, List}
 use Rattle.script_words.specs.Sorts.{Meaning, number_at}
 use Rattle.scenario_lines.specs.declared.form.LineForm.{LineForm}
 use Rattle.scenario_lines.specs.declared.form.LineForm.TheVariants as line

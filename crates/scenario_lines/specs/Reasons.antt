@@ -1,5 +1,5 @@
 -- The reasons against lines: their order, and those of a line's words among them.
-use Rattle.std.specs.Prelude.{◌≡◌, ℕ, ◌≤◌, Option, Some, None}
+use Rattle.std.specs.Prelude.{ℕ, ◌≤◌, Option, Some, None}
 use Rattle.script_words.specs.declared.fault.ScriptReason.{ScriptReason}
 use Rattle.script_words.specs.declared.fault.ScriptReason.TheVariants as script
 use Rattle.scenario_lines.specs.declared.reason.LineReason.{LineReason}
