@@ -1,10 +1,10 @@
 //! The forms of lines, by the word that says what is done.
 
 ghost use Rattle.std.specs.Prelude.{◌≡◌, ◌≤◌, length};
-ghost use Rattle.scenario_lines.specs.Forms.{first_word, forms_of, line_form, sorts_of};
+ghost use Rattle.scenario_lines.specs.Forms.{line_form, first_word, forms_of, sorts_of, step_form, step_sorts, step_word};
 
 use app_program::MAX_STORES;
-use script_words::Sort;
+use script_words::{Keyword, Sort};
 
 /// Whose program a line is of.
 #[derive(Clone, Copy)]
@@ -26,6 +26,17 @@ pub enum LineForm {
     Reclaim,
     /// `reply ADDR`
     Reply,
+}
+
+/// A line of an operator.
+#[derive(Clone, Copy)]
+pub enum StepForm {
+    /// `COUNT attach AT NAME POLICY`
+    Attach,
+    /// `COUNT detach NAME`
+    Detach,
+    /// `COUNT upgrade NAME POLICY`
+    Upgrade,
 }
 
 /// Any number of 64 bits.
@@ -103,6 +114,49 @@ impl LineForm {
             LineForm::Submit => &[METHOD, ANY],
             LineForm::Reclaim => &[BLOCK],
             LineForm::Reply => &[ANY],
+        }
+    }
+}
+
+const STEP_FORMS: [StepForm; 3] = [StepForm::Attach, StepForm::Detach, StepForm::Upgrade];
+
+impl StepForm {
+    /// The word that stands second.
+    fn step_word(self) -> Keyword
+        ensures { result ≡ step_word self }
+    {
+        match self {
+            StepForm::Attach => Keyword::Attach,
+            StepForm::Detach => Keyword::Detach,
+            StepForm::Upgrade => Keyword::Upgrade,
+        }
+    }
+
+    /// The form of a line with this second word; none where it has no form.
+    pub(crate) fn of(word: &[u8]) -> Option<StepForm>
+        ensures { result ≡ step_form word.now }
+    {
+        STEP_FORMS
+            .iter()
+            .copied()
+            .find(|form| word == form.step_word().spelling())
+    }
+
+    /// The sorts of its words.
+    pub(crate) fn sorts(self) -> &'static [Sort]
+        ensures sorts { result.now ≡ step_sorts self }
+        ensures few { length result.now ≤ 9 }
+    {
+        match self {
+            StepForm::Attach => &[
+                ANY,
+                Sort::Key(Keyword::Attach),
+                Sort::Unbounded,
+                Sort::Name,
+                Sort::Name,
+            ],
+            StepForm::Detach => &[ANY, Sort::Key(Keyword::Detach), Sort::Name],
+            StepForm::Upgrade => &[ANY, Sort::Key(Keyword::Upgrade), Sort::Name, Sort::Name],
         }
     }
 }
