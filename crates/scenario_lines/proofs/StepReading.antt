@@ -1,5 +1,5 @@
 -- A line of an operator by the steps of its reading: its form, its words.
-use Rattle.std.proofs.Common.{◌≡◌, ℕ, ◌≤◌, List, [], ◌∷◌, Some, None, sym, ap, ◌∙◌, refl, subst, arith}
+use Rattle.std.proofs.Common.{◌≡◌, ℕ, ◌≤◌, List, [], Some, None, sym, ap, ◌∙◌, refl, subst, arith}
 use Rattle.mrpc_table.specs.Lines.{words_of}
 use Rattle.scenario_lines.specs.Forms.{step_form, step_sorts}
 use Rattle.scenario_lines.specs.Lines.{WordsAgainst, behind, first_of}

@@ -1,5 +1,5 @@
 -- The forms of program lines and of step lines, as tables (this project's own).
-use Rattle.std.specs.Prelude.{ℕ, ◌/◌, ◌^◌, Bool, List, [], ◌∷◌, codes, Option}
+use Rattle.std.specs.Prelude.{ℕ, ◌/◌, ◌^◌, List, [], ◌∷◌, codes, Option}
 use Rattle.std.specs.List.{find}
 use Rattle.std.specs.Str.{bytes_eq}
 use Rattle.app_program.specs.declared.program.TheConstants.{MAX_STORES}
