@@ -1,0 +1,55 @@
+-- What programs and operators say by their lines, beyond each line by itself (this project's own).
+use Rattle.std.specs.Prelude.{◌≡◌, ℕ, ◌<◌, Bool, false, true, List, [], ◌∷◌, ◌++◌, count_by, Option, Some, None}
+use Rattle.scenario_lines.specs.Lines.{form_of}
+use Rattle.scenario_lines.specs.Steps.{StepSays}
+use Rattle.scenario_lines.specs.declared.form.LineForm.{LineForm}
+use Rattle.scenario_lines.specs.declared.form.LineForm.TheVariants as line
+use Rattle.scenario_lines.specs.declared.form.ProgramRole.{ProgramRole}
+use Rattle.scenario_lines.specs.declared.form.ProgramRole.TheVariants as of
+use Rattle.scenario_lines.specs.declared.step.StepText.{StepText}
+use Rattle.scenario_lines.specs.declared.step.StepText.TheVariants as text
+use Rattle.scenario.specs.declared.form.RoleWord.{RoleWord}
+use Rattle.scenario.specs.declared.form.RoleWord.TheVariants as role
+
+-- ---- programs
+
+-- whose program an application has; an echo has none
+abbrev pub program_role : RoleWord → Option ProgramRole
+program_role role.Client = Some of.Client
+program_role role.Server = Some of.Server
+program_role role.Echo = None
+
+abbrev pub is_submit : Option LineForm → Bool
+is_submit (Some line.Submit) = true
+is_submit _ = false
+
+-- how many calls a client's program submits
+abbrev pub submits_of : List (List ℕ) → ℕ
+submits_of lines = count_by (λ text. is_submit (form_of of.Client text)) lines
+
+-- ---- steps
+
+abbrev pub count_in : StepText → ℕ
+count_in (text.Attach count at name policy) = count
+count_in (text.Detach count name) = count
+count_in (text.Upgrade count name policy) = count
+
+-- the policy that a step names, if it names one
+abbrev pub policy_in : StepText → Option (List ℕ)
+policy_in (text.Attach count at name policy) = Some policy.now
+policy_in (text.Detach count name) = None
+policy_in (text.Upgrade count name policy) = Some policy.now
+
+-- a step line that says something comes behind another one, with a lesser count; lines at fault between them say nothing
+pub record Falls (lines : List (List ℕ)) : Type 0 where
+  pub front : List (List ℕ)
+  pub between : List (List ℕ)
+  pub back : List (List ℕ)
+  pub first : List ℕ
+  pub second : List ℕ
+  pub there : lines ≡ front ++ first ∷ between ++ second ∷ back
+  pub earlier : StepText
+  pub later : StepText
+  pub first_says : StepSays first earlier
+  pub second_says : StepSays second later
+  pub less : count_in later < count_in earlier

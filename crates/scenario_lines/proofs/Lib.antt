@@ -1,0 +1,6 @@
+mod LineReading
+mod Naming
+mod ProgramReading
+mod Rows
+mod StepReading
+mod Walking

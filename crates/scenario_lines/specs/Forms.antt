@@ -1,0 +1,67 @@
+-- The forms of program lines and of step lines, as tables (this project's own).
+use Rattle.std.specs.Prelude.{ℕ, ◌/◌, ◌^◌, List, [], ◌∷◌, codes, Option}
+use Rattle.std.specs.List.{find}
+use Rattle.std.specs.Str.{bytes_eq}
+use Rattle.app_program.specs.declared.program.TheConstants.{MAX_STORES}
+use Rattle.script_words.specs.Forms.{any, method}
+use Rattle.script_words.specs.Keywords.{spelling}
+use Rattle.script_words.specs.declared.keyword.Keyword.{Keyword}
+use Rattle.script_words.specs.declared.keyword.Keyword.TheVariants as keyword
+use Rattle.script_words.specs.declared.sort.Sort.{Sort}
+use Rattle.script_words.specs.declared.sort.Sort.TheVariants as sort
+use Rattle.scenario_lines.specs.declared.form.LineForm.{LineForm}
+use Rattle.scenario_lines.specs.declared.form.LineForm.TheVariants as line
+use Rattle.scenario_lines.specs.declared.form.ProgramRole.{ProgramRole}
+use Rattle.scenario_lines.specs.declared.form.ProgramRole.TheVariants as role
+use Rattle.scenario_lines.specs.declared.form.StepForm.{StepForm}
+use Rattle.scenario_lines.specs.declared.form.StepForm.TheVariants as step
+
+-- ---- program lines: a first word, and words behind it
+
+abbrev pub first_word : LineForm → List ℕ
+first_word line.Store = codes "store"
+first_word line.Spin = codes "spin"
+first_word line.Submit = codes "submit"
+first_word line.Reclaim = codes "reclaim"
+first_word line.Reply = codes "reply"
+
+-- a line that spins stores twice as often as it says, and no program stores more
+abbrev pub times : Sort
+times = sort.Number 0 (MAX_STORES / 2)
+
+abbrev pub block : Sort
+block = sort.Number 1 (2 ^ 63)
+
+-- the words behind the first one; a place is a number of any size, since it depends on the heap which there are
+abbrev pub sorts_of : LineForm → List Sort
+sorts_of line.Store = sort.Unbounded ∷ sort.Value ∷ []
+sorts_of line.Spin = times ∷ sort.Unbounded ∷ sort.Value ∷ sort.Value ∷ []
+sorts_of line.Submit = method ∷ any ∷ []
+sorts_of line.Reclaim = block ∷ []
+sorts_of line.Reply = any ∷ []
+
+-- the lines of each role
+abbrev pub forms_of : ProgramRole → List LineForm
+forms_of role.Client = line.Store ∷ line.Spin ∷ line.Submit ∷ line.Reclaim ∷ []
+forms_of role.Server = line.Store ∷ line.Spin ∷ line.Reply ∷ []
+
+-- the form of a role's line with this first word
+abbrev pub line_form : ProgramRole → List ℕ → Option LineForm
+line_form r word = find (λ f. bytes_eq word (first_word f)) (forms_of r)
+
+-- ---- step lines: a count of calls, and a word that says what is done
+
+abbrev pub step_word : StepForm → Keyword
+step_word step.Attach = keyword.Attach
+step_word step.Detach = keyword.Detach
+step_word step.Upgrade = keyword.Upgrade
+
+-- a position on a chain is a number of any size
+abbrev pub step_sorts : StepForm → List Sort
+step_sorts step.Attach = any ∷ sort.Key keyword.Attach ∷ sort.Unbounded ∷ sort.Name ∷ sort.Name ∷ []
+step_sorts step.Detach = any ∷ sort.Key keyword.Detach ∷ sort.Name ∷ []
+step_sorts step.Upgrade = any ∷ sort.Key keyword.Upgrade ∷ sort.Name ∷ sort.Name ∷ []
+
+-- the form of a line with this second word
+abbrev pub step_form : List ℕ → Option StepForm
+step_form word = find (λ f. bytes_eq word (spelling (step_word f))) (step.Attach ∷ step.Detach ∷ step.Upgrade ∷ [])

@@ -1,0 +1,31 @@
+-- The code's own: the words that are left of a line, and whether one that is to be a name is none.
+use Rattle.std.specs.Prelude.{ℕ, Bool, false, ◌&&◌, ◌||◌, not, if◌then◌else◌, List, [], ◌∷◌, Option, Some, None}
+use Rattle.std.specs.Borrow.{Bor}
+use Rattle.mrpc_table.specs.Lines.{words_of}
+use Rattle.mrpc_table.specs.Names.{is_name_form, is_short}
+use Rattle.script_words.specs.declared.fault.ScriptReason.{ScriptReason}
+use Rattle.script_words.specs.declared.fault.ScriptReason.TheVariants as script
+use Rattle.script_words.specs.declared.sort.Sort.{Sort}
+use Rattle.script_words.specs.declared.sort.Sort.TheVariants as sort
+use Rattle.scenario_lines.specs.declared.reason.LineReason.{LineReason}
+use Rattle.scenario_lines.specs.declared.reason.LineReason.TheVariants.{Number, Name, Word}
+
+abbrev pub words_in : Option (Bor (List ℕ)) → List (List ℕ)
+words_in None = []
+words_in (Some text) = words_of text.now
+
+-- the word has to be a name, and is none
+abbrev pub is_no_name : Sort → List ℕ → Bool
+is_no_name sort.Name word = not (is_name_form word && is_short word)
+is_no_name _ word = false
+
+-- one of the words, which are as many as the sorts, or one that was found before
+abbrev pub lacks_name : Bool → List Sort → List (List ℕ) → Bool
+lacks_name found [] [] = found
+lacks_name found (s ∷ sorts) (w ∷ words) = lacks_name (found || is_no_name s w) sorts words
+lacks_name found _ _ = false
+
+-- which reason comes first here, by the first one of scripts
+abbrev pub ordered : ScriptReason → Bool → LineReason
+ordered script.Number lacks = Number
+ordered _ lacks = if lacks then Name else Word

@@ -1,0 +1,40 @@
+-- What the lines of operators say, and what stands against them (this project's own).
+use Rattle.std.specs.Prelude.{◌≡◌, ℕ, List, Option, Some, None}
+use Rattle.mrpc_table.specs.Lines.{words_of}
+use Rattle.script_words.specs.Lines.{AreSaid}
+use Rattle.script_words.specs.Sorts.{Meaning, name_at, number_at, unbounded_at}
+use Rattle.scenario_lines.specs.Forms.{step_form, step_sorts}
+use Rattle.scenario_lines.specs.Lines.{WordsAgainst, behind, first_of}
+use Rattle.scenario_lines.specs.declared.form.StepForm.{StepForm}
+use Rattle.scenario_lines.specs.declared.form.StepForm.TheVariants as step
+use Rattle.scenario_lines.specs.declared.reason.LineReason.{LineReason}
+use Rattle.scenario_lines.specs.declared.reason.LineReason.TheVariants.{Word}
+use Rattle.scenario_lines.specs.declared.step.StepText.{StepText}
+use Rattle.scenario_lines.specs.declared.step.StepText.TheVariants as text
+
+-- the form of a line, by its second word
+abbrev pub step_form_of : List ℕ → Option StepForm
+step_form_of line = step_form (first_of (behind (words_of line)))
+
+-- words of a form say a step
+abbrev pub FormTells : StepForm → List Meaning → StepText → Type 0
+FormTells step.Attach ms (text.Attach count at name policy) =
+    (count ≡ number_at ms 0) × (at ≡ unbounded_at ms 2) × (name.now ≡ name_at ms 3) × (policy.now ≡ name_at ms 4)
+FormTells step.Detach ms (text.Detach count name) = (count ≡ number_at ms 0) × (name.now ≡ name_at ms 2)
+FormTells step.Upgrade ms (text.Upgrade count name policy) =
+    (count ≡ number_at ms 0) × (name.now ≡ name_at ms 2) × (policy.now ≡ name_at ms 3)
+FormTells _ ms _ = ⊥
+
+-- a line says this
+pub record StepSays (line : List ℕ) (told : StepText) : Type 0 where
+  pub form : StepForm
+  pub meanings : List Meaning
+  pub is_form : step_form_of line ≡ Some form
+  pub said : AreSaid (step_sorts form) (words_of line) meanings
+  pub tells : FormTells form meanings told
+
+-- a reason stands against a line
+pub data StepAgainst (line : List ℕ) (reason : LineReason) : Type 0 where
+  no_form : step_form_of line ≡ None → reason ≡ Word → StepAgainst line reason
+  in_words : (f : StepForm) → step_form_of line ≡ Some f → WordsAgainst (step_sorts f) (words_of line) reason
+      → StepAgainst line reason

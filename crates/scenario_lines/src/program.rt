@@ -1,0 +1,206 @@
+//! A program, which is read line by line.
+
+ghost use Rattle.std.specs.Prelude.{◌≡◌, ◌≤◌, ◌++◌, ◌∷◌, ℕ, List, [], MatchResult, OnErr, OnOk};
+ghost use Rattle.scenario_lines.specs.Programs.{ProgramAgainst, ProgramSays, is_reply, most_stores};
+ghost use Rattle.scenario_lines.specs.declared.form.ProgramRole.{ProgramRole as TheRole};
+ghost use Rattle.scenario_lines.specs.Reasons.{IsFirst};
+ghost use Rattle.scenario_lines.specs.Reading.{HasRead, Takes, added, earlier, first_reason, is_too_long, kept, lacks_reply, line_stores, noted, reason_if};
+
+use crate::form::ProgramRole;
+use crate::program_line::read_line;
+use crate::reason::LineReason;
+use crate::words::first_word;
+use app_program::{MAX_LINES, MAX_REQUEST_STORES, MAX_STORES, Program, ProgramLine};
+use mrpc_table::{Memory, is_word};
+use script_words::one_judgement;
+use std::alloc::Global;
+
+/// What was read of a program so far: the lines that say something, and the first reason against the others.
+#[derive(Drop)]
+pub struct ProgramReader {
+    role: ProgramRole,
+    /// The words of the application's heap.
+    heap: u32,
+    lines: Program,
+    first: Option<LineReason>,
+    /// How often the lines store. Once they do so too often, they aren't counted on.
+    stores: u64,
+    /// Whether a line has the form of a reply.
+    replied: bool,
+    /// Whether the last line alone has it.
+    ends: bool,
+}
+
+/// Whether a line has the form of a reply.
+fn is_reply(line: &[u8]) -> bool
+    ensures { result ≡ is_reply line.now }
+{
+    let (word, _) = first_word(line);
+    is_word(word, b"reply")
+}
+
+/// How often a line stores.
+fn line_stores(line: ProgramLine) -> u64
+    ensures stores { result ≡ line_stores line }
+    ensures few { result ≤ 8589934590 }
+{
+    match line {
+        ProgramLine::Store { .. } => 1,
+        ProgramLine::Spin { times, .. } => 2 * u64::from(times),
+        _ => 0,
+    }
+}
+
+/// How often lines store, and one more. More than a program may are as many as there are.
+fn added(stores: u64, line: ProgramLine) -> u64
+    ensures { result ≡ added stores line }
+{
+    if stores > MAX_STORES {
+        stores
+    } else {
+        stores + line_stores(line)
+    }
+}
+
+/// The first of two reasons.
+fn earlier(one: Option<LineReason>, other: Option<LineReason>) -> Option<LineReason>
+    ensures { result ≡ earlier one other }
+{
+    match (one, other) {
+        (Some(one), Some(other)) => Some(if one.order() <= other.order() {
+            one
+        } else {
+            other
+        }),
+        (Some(one), None) => Some(one),
+        (None, other) => other,
+    }
+}
+
+impl ProgramReader {
+    /// Of a program of a role, for a heap of so many words, no line was read. It takes no memory.
+    pub fn new(alloc: Global, role: ProgramRole, heap: u32) -> ProgramReader
+        ensures { HasRead role heap [] result }
+    {
+        ProgramReader {
+            role,
+            heap,
+            lines: Program::new(alloc),
+            first: None,
+            stores: 0,
+            replied: false,
+            ends: false,
+        }
+    }
+
+    /// Keeps what a line says.
+    fn keep(&mut self, said: ProgramLine) -> Result<(), Memory>
+        ensures kept { OnOk result (self.new ≡ kept self.old said) }
+        ensures refused { OnErr result (self.new ≡ self.old) }
+    {
+        self.lines.push(said)?;
+        self.stores = added(self.stores, said);
+        Ok(())
+    }
+
+    /// Keeps what a line says, or the first reason against it.
+    fn take(&mut self, line: &[u8]) -> Result<(), Memory>
+        ensures taken { OnOk result (Takes self.old line.now self.new) }
+        ensures refused { OnErr result (self.new ≡ self.old) }
+    {
+        match read_line(self.role, self.heap, line) {
+            Ok(said) => self.keep(said),
+            Err(reason) => {
+                self.first = earlier(self.first, Some(reason));
+                Ok(())
+            }
+        }
+    }
+
+    /// Notes whether a line more has the form of a reply.
+    fn note_reply(&mut self, replies: bool)
+        ensures { self.new ≡ noted self.old replies }
+    {
+        self.ends = !self.replied && replies;
+        self.replied = self.replied || replies;
+    }
+
+    /// Reads one line more.
+    ///
+    /// # Errors
+    ///
+    /// Where no memory was found, the line wasn't read, and the reader is as before.
+    pub fn read(&mut self, line: &[u8]) -> Result<(), Memory>
+        ensures read { OnOk result ((role : TheRole) (heap : ℕ) (lines : List (List ℕ)) → HasRead role heap lines self.old
+            → HasRead role heap (lines ++ line.now ∷ []) self.new) }
+        ensures refused { OnErr result (self.new ≡ self.old) }
+    {
+        one_judgement();
+        match self.take(line) {
+            Ok(_) => {
+                self.note_reply(is_reply(line));
+                Ok(())
+            }
+            Err(memory) => Err(memory),
+        }
+    }
+
+    /// Whether the lines store too often, or are too many.
+    fn is_too_long(&self) -> bool
+        ensures { result ≡ is_too_long self.now }
+    {
+        self.stores > self.role.most_stores() || self.lines.len() as u64 > MAX_LINES
+    }
+
+    /// Whether the lines are of a server, and their last one isn't their one reply.
+    fn lacks_reply(&self) -> bool
+        ensures { result ≡ lacks_reply self.now.role self.now.ends }
+    {
+        match self.role {
+            ProgramRole::Client => false,
+            ProgramRole::Server => !self.ends,
+        }
+    }
+
+    /// The first reason against the lines.
+    fn first_reason(&self) -> Option<LineReason>
+        ensures { result ≡ first_reason self.now }
+    {
+        let counted = earlier(
+            self.first,
+            reason_if(self.is_too_long(), LineReason::Number),
+        );
+        earlier(counted, reason_if(self.lacks_reply(), LineReason::Word))
+    }
+
+    /// The program that the lines are, or the first reason against them.
+    pub fn finish(self) -> Result<Program, LineReason>
+        ensures { (role : TheRole) (heap : ℕ) (lines : List (List ℕ)) → HasRead role heap lines self
+            → MatchResult result (ProgramSays role heap lines) (IsFirst (ProgramAgainst role heap lines)) }
+    {
+        one_judgement();
+        match self.first_reason() {
+            None => Ok(self.lines),
+            Some(reason) => Err(reason),
+        }
+    }
+}
+
+/// The reason, where it holds.
+fn reason_if(holds: bool, reason: LineReason) -> Option<LineReason>
+    ensures { result ≡ reason_if holds reason }
+{
+    if holds { Some(reason) } else { None }
+}
+
+impl ProgramRole {
+    /// How often its program stores at most.
+    fn most_stores(self) -> u64
+        ensures { result ≡ most_stores self }
+    {
+        match self {
+            ProgramRole::Client => MAX_STORES,
+            ProgramRole::Server => MAX_REQUEST_STORES,
+        }
+    }
+}

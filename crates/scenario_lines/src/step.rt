@@ -1,0 +1,76 @@
+//! One line of an operator.
+
+ghost use Rattle.std.specs.Prelude.{◌≡◌, MatchResult};
+ghost use Rattle.script_words.specs.Meanings.{meanings_of};
+ghost use Rattle.scenario_lines.specs.Reasons.{IsFirst};
+ghost use Rattle.scenario_lines.specs.Steps.{FormTells, StepAgainst, StepSays};
+
+use crate::form::StepForm;
+use crate::reason::LineReason;
+use crate::words::{first_word, judge_words};
+use mrpc_table::Decimal;
+use script_words::{Said, name_at, number_at, unbounded_at};
+
+/// What a line of an operator says, with its names as they stand in the text. A step comes once the connection has
+/// taken `count` calls.
+#[derive(Clone, Copy)]
+pub enum StepText<'a> {
+    /// The policy is attached at a position of the chain, of any size, under a name.
+    Attach {
+        count: u64,
+        at: Decimal,
+        name: &'a [u8],
+        policy: &'a [u8],
+    },
+    /// The entry of a name is taken from the chain.
+    Detach {
+        count: u64,
+        name: &'a [u8],
+    },
+    /// Another policy is put into the entry of a name.
+    Upgrade {
+        count: u64,
+        name: &'a [u8],
+        policy: &'a [u8],
+    },
+}
+
+/// What the words of a form say.
+fn told_by<'a>(form: StepForm, words: &[Said<'a>]) -> StepText<'a>
+    ensures { FormTells form (meanings_of words.now) result }
+{
+    match form {
+        StepForm::Attach => StepText::Attach {
+            count: number_at(words, 0),
+            at: unbounded_at(words, 2),
+            name: name_at(words, 3),
+            policy: name_at(words, 4),
+        },
+        StepForm::Detach => StepText::Detach {
+            count: number_at(words, 0),
+            name: name_at(words, 2),
+        },
+        StepForm::Upgrade => StepText::Upgrade {
+            count: number_at(words, 0),
+            name: name_at(words, 2),
+            policy: name_at(words, 3),
+        },
+    }
+}
+
+/// What a line of an operator says, or the first reason against it. It takes no memory, and time in proportion to the
+/// line.
+pub fn read_step<'a>(line: &'a [u8]) -> Result<StepText<'a>, LineReason>
+    ensures { MatchResult result (StepSays line.now) (IsFirst (StepAgainst line.now)) }
+{
+    let (_, rest) = first_word(line);
+    let Some(behind) = rest else {
+        return Err(LineReason::Word);
+    };
+    let (word, _) = first_word(behind);
+    let Some(form) = StepForm::of(word) else {
+        return Err(LineReason::Word);
+    };
+    let words = judge_words(form.sorts(), line)?;
+    Ok(told_by(form, words.as_slice()))
+}

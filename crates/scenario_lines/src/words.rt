@@ -1,0 +1,77 @@
+//! The words of a line, judged in the order of [`LineReason`].
+
+ghost use Rattle.std.specs.Prelude.{◌≡◌, ◌∷◌, ◌≤◌, length, false, MatchResult};
+ghost use Rattle.mrpc_table.specs.Lines.{words_of};
+ghost use Rattle.script_words.specs.Lines.{AreSaid};
+ghost use Rattle.script_words.specs.Meanings.{meanings_of};
+ghost use Rattle.scenario_lines.specs.Judging.{is_no_name, lacks_name, ordered, words_in};
+ghost use Rattle.scenario_lines.specs.Lines.{WordsAgainst};
+ghost use Rattle.scenario_lines.specs.Reasons.{IsFirst};
+
+use crate::reason::LineReason;
+use mrpc_table::{cut, is_name_form, is_short};
+use script_words::{Judged, ScriptReason, Sort, judge};
+
+/// What is left of a line behind some of its words: the words behind a space, or nothing.
+pub type Rest<'a> = Option<&'a [u8]>;
+
+/// The first word, and what is left behind it.
+pub fn first_word(text: &[u8]) -> (&[u8], Rest<'_>)
+    ensures { words_of text.now ≡ result.0.now ∷ words_in result.1 }
+{
+    match cut(text, b' ') {
+        Some((word, behind)) => (word, Some(behind)),
+        None => (text, None),
+    }
+}
+
+/// Whether a word that has to be a name is none.
+fn is_no_name(sort: Sort, word: &[u8]) -> bool
+    ensures { result ≡ is_no_name sort word.now }
+{
+    match sort {
+        Sort::Name => !(is_name_form(word) && is_short(word)),
+        _ => false,
+    }
+}
+
+/// Whether a word of a line that is to be a name is none. A line with another number of words has no such word.
+fn lacks_name(sorts: &[Sort], line: &[u8]) -> bool
+    ensures { result ≡ lacks_name false sorts.now (words_of line.now) }
+{
+    let mut lacks = false;
+    let mut rest = Some(line);
+    for sort in sorts {
+        let Some(text) = rest else {
+            return false;
+        };
+        let (word, behind) = first_word(text);
+        let bad = is_no_name(*sort, word);
+        lacks = lacks || bad;
+        rest = behind;
+    }
+    lacks && rest.is_none()
+}
+
+/// The reason that comes first here: a word that is no name counts before one of no form.
+fn ordered(reason: ScriptReason, lacks_name: bool) -> LineReason
+    ensures { result ≡ ordered reason lacks_name }
+{
+    match reason {
+        ScriptReason::Number => LineReason::Number,
+        _ if lacks_name => LineReason::Name,
+        _ => LineReason::Word,
+    }
+}
+
+/// What the words of a line say, each judged by its sort, or the first reason against them.
+pub fn judge_words<'a>(sorts: &[Sort], line: &'a [u8]) -> Result<Judged<'a>, LineReason>
+    requires { length sorts.now ≤ 9 }
+    ensures { MatchResult result (λ said. AreSaid sorts.now (words_of line.now) (meanings_of said.items))
+        (IsFirst (WordsAgainst sorts.now (words_of line.now))) }
+{
+    match judge(sorts, line) {
+        Ok(said) => Ok(said),
+        Err(reason) => Err(ordered(reason, lacks_name(sorts, line))),
+    }
+}
