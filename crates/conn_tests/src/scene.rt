@@ -252,7 +252,10 @@ impl<'t> Scene<'t> {
     pub fn submit_without_memory(&mut self, rt: &impl Abort) -> Option<AcceptFault> {
         assert_young(rt, &self.conn);
         let ask = self.ask(0, 2);
-        self.conn.accept(self.alloc, &mut NoLoads {}, ask).err()
+        let heap = PlainWords::open(self.alloc, 16).expect(rt, "memory");
+        self.conn
+            .accept(self.alloc, &mut NoLoads { heap }, ask)
+            .err()
     }
 
     /// The message at place 2 is accepted so often.

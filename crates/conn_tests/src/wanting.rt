@@ -1,6 +1,6 @@
 //! A link and a heap that find no memory.
 
-use mrpc_base::{Came, Handed, Link, Room, Words};
+use mrpc_base::{Came, Handed, Link, PlainWords, Room, Words};
 
 /// A link that finds no memory for any frame.
 #[derive(Drop)]
@@ -37,35 +37,36 @@ impl Link for NoFrames {
     fn finish(&mut self) {}
 }
 
-/// A heap of 32 words whose reader finds no memory for any load.
+/// A heap whose reader finds no memory for more loads than it has room for.
 #[derive(Drop)]
-pub struct NoLoads;
+pub struct NoLoads {
+    pub heap: PlainWords,
+}
 
 impl Words for NoLoads {
-    ghost use Rattle.std.specs.Prelude.{[], None, ⊤};
+    ghost use Rattle.std.specs.Prelude.{Some, ⊤};
 
-    ghost size = { λ _. 32 };
+    ghost size = { λ n. n.heap.size };
 
-    ghost loads = { λ _. [] };
+    ghost loads = { λ n. n.heap.loads };
 
-    ghost stores = { λ _. None };
+    ghost stores = { λ n. Some n.heap.stores };
 
-    ghost room = { λ _. 0 };
+    ghost room = { λ n. n.heap.load_room };
 
     ghost after_room = { λ _ _. ⊤ };
 
     ghost after_load = { λ _ _ _ _. ⊤ };
 
     fn words(&self) -> u64 {
-        32
+        self.heap.words()
     }
 
     fn room_loads(&mut self, _n: u64) -> Room {
         Room::Memory
     }
 
-    // There is never room for one.
-    fn load(&mut self, _place: u64) -> u64 {
-        0
+    fn load(&mut self, place: u64) -> u64 {
+        self.heap.load(place)
     }
 }
