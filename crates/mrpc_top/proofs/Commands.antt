@@ -3,10 +3,12 @@ use Rattle.std.proofs.Common.{◌≡◌, ℕ, List, Option, sym, subst}
 use Rattle.script_lang.specs.declared.fault.ScriptReason.{ScriptReason}
 use Rattle.script_lang.specs.declared.script.Script.{Script}
 use Rattle.script_lang.specs.Texts.{Spells, IsFault}
+use Rattle.mrpc_top.specs.Auditing.{AuditsText, HasAuditFault}
 use Rattle.mrpc_top.specs.Command.{IsFaulty, Refuses, DecodesText, ChecksText, CutsText}
 use Rattle.mrpc_top.specs.declared.command.Command.{Command}
-use Rattle.mrpc_top.specs.declared.command.Command.TheVariants.{Replay, Decode, Check}
+use Rattle.mrpc_top.specs.declared.command.Command.TheVariants.{Replay, Decode, Check, Audit}
 use Rattle.mrpc_top.proofs.DecodeAnswers.{DecodingLaw, no_fault_of}
+use Rattle.mrpc_top.proofs.OneAudit.{NeverFaulty}
 use Rattle.mrpc_top.proofs.OneCheck.{NotBoth}
 
 pub cuts : (command : Command) (text : List ℕ) (o o' : Option (List ℕ)) → command ≡ Decode → CutsText text o o'
@@ -33,3 +35,9 @@ pub no_check : NotBoth → (command : Command) (text : List ℕ) (o o' : Option 
 no_check never command text o o' e fault d =
     let f : IsFaulty Check text = subst (λ (k : Command). IsFaulty k text) e fault in
     never text f.1 d.table f.0 d.checks f.2
+
+pub no_audit : NeverFaulty → (command : Command) (text : List ℕ) (o o' : Option (List ℕ)) → command ≡ Audit
+    → IsFaulty command text → AuditsText text o o' → ⊥
+no_audit never command text o o' e fault d =
+    let f : HasAuditFault text = subst (λ (k : Command). IsFaulty k text) e fault in
+    never text d.answer f.1 f.0 d.is_answer f.2

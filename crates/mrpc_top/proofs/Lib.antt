@@ -1,3 +1,5 @@
+mod AuditLines
+mod Audited
 mod CheckFaults
 mod CheckNeither
 mod Commands
@@ -6,6 +8,7 @@ mod DecodeNeither
 mod DecodeTexts
 mod Decodings
 mod KnownBytes
+mod OneAudit
 mod OneCheck
 mod OneDecoding
 mod SetSizes

@@ -1,21 +1,22 @@
 -- What a command answers, and what it writes.
 use Rattle.std.specs.Prelude.{◌≡◌, ℕ, ◌<◌, ◌≤◌, ◌⊎◌, List, [], ◌∷◌, ◌++◌, codes, length, map, Option, String, string_bytes}
 use Rattle.std.specs.declared.alloc.Global.{Global}
-use Rattle.std.specs.Fmt.{decimal}
 use Rattle.std.specs.Io.KnownBytes.{Appends}
 use Rattle.script_lang.specs.declared.fault.ScriptReason.{ScriptReason}
 use Rattle.script_lang.specs.declared.script.Script.{Script}
 use Rattle.script_lang.specs.Texts.{Spells, IsFault}
 use Rattle.script_lang.specs.Reason.{reason_word}
 use Rattle.script_run.specs.Replays.{Replays}
+use Rattle.mrpc_top.specs.FaultLines.{fault_line, line_of_fault}
 use Rattle.mrpc_top.specs.Checking.{ChecksAs, IsCheckFault, spot_text}
 use Rattle.mrpc_top.specs.declared.check.Spot.{Spot}
+use Rattle.mrpc_top.specs.Auditing.{AuditsText, RefusesAudit, HasAuditFault}
 use Rattle.mrpc_top.specs.Reading.{IsAllOf, ReadsPast}
 use Rattle.mrpc_top.specs.DecodeInput.{Holds, IsTextFault}
 use Rattle.mrpc_top.specs.Decoding.{IsDecoded, IsCutAt}
 use Rattle.mrpc_top.specs.declared.reading.TheConstants.{INPUT_LIMIT}
 use Rattle.mrpc_top.specs.declared.command.Command.{Command}
-use Rattle.mrpc_top.specs.declared.command.Command.TheVariants.{Replay, Decode, Check}
+use Rattle.mrpc_top.specs.declared.command.Command.TheVariants.{Replay, Decode, Check, Audit}
 use Rattle.mrpc_table.specs.declared.table.Table.{Table}
 use Rattle.mrpc_table.specs.Text.{table_text}
 
@@ -26,6 +27,7 @@ abbrev pub command_word : Command → List ℕ
 command_word Replay = codes "replay"
 command_word Decode = codes "decode"
 command_word Check = codes "check"
+command_word Audit = codes "audit"
 
 -- the words are that of the command alone
 abbrev pub Names : List (String Global) → Command → Type 0
@@ -37,14 +39,7 @@ IsReplay words = Names words Replay
 abbrev pub IsCommand : List (String Global) → Type 0
 IsCommand words = (command : Command) × Names words command
 
--- ---- lines of faults
-
-abbrev pub line_of_fault : List ℕ → List ℕ → List ℕ
-line_of_fault spot word = codes "fault " ++ (spot ++ (32 ∷ (word ++ 10 ∷ [])))
-
-abbrev pub fault_line : ℕ → List ℕ → List ℕ
-fault_line place word = line_of_fault (decimal place) word
-
+-- the line of a fault of a file or of a set of files
 abbrev pub spot_line : Spot → List ℕ → List ℕ
 spot_line spot word = line_of_fault (spot_text spot) word
 
@@ -75,6 +70,7 @@ abbrev pub WorksOn : Command → List ℕ → Option (List ℕ) → Option (List
 WorksOn Replay text out out' wire wire' = RunsText text out out' wire wire'
 WorksOn Decode text out out' wire wire' = DecodesText text out out'
 WorksOn Check text out out' wire wire' = ChecksText text out out'
+WorksOn Audit text out out' wire wire' = AuditsText text out out'
 
 -- ---- what a command writes of a faulty text
 
@@ -106,6 +102,7 @@ abbrev pub Refuses : Command → List ℕ → Option (List ℕ) → Option (List
 Refuses Replay text out out' = RefusesScript text out out'
 Refuses Decode text out out' = CutsText text out out'
 Refuses Check text out out' = RefusesProto text out out'
+Refuses Audit text out out' = RefusesAudit text out out'
 
 -- ---- faulty texts
 
@@ -120,6 +117,7 @@ abbrev pub IsFaulty : Command → List ℕ → Type 0
 IsFaulty Replay text = (line : ℕ) × (reason : ScriptReason) × IsFault text line reason
 IsFaulty Decode text = HasDecodeFault text
 IsFaulty Check text = (spot : Spot) × (word : List ℕ) × IsCheckFault text spot word
+IsFaulty Audit text = HasAuditFault text
 
 -- ---- the whole input
 

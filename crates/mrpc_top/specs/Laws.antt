@@ -1,5 +1,5 @@
 -- The laws of the crates below, as the proofs here use them together.
-use Rattle.std.specs.Prelude.{◌≡◌, ◌⊎◌, ℕ, ◌+◌, ◌<◌, List, [], ◌++◌, length, All}
+use Rattle.std.specs.Prelude.{◌≡◌, ◌⊎◌, ℕ, ◌+◌, ◌<◌, ◌≤◌, List, [], ◌++◌, length, All}
 use Rattle.mrpc_table.specs.Node.{Node}
 use Rattle.mrpc_table.specs.Text.{table_text}
 use Rattle.mrpc_table.specs.Valid.{IsValid, HaveOneTextEach}
@@ -26,6 +26,13 @@ use Rattle.schema_offences.specs.Offences.{HasOffence}
 use Rattle.schema_offences.specs.declared.reason.ResolveReason.{ResolveReason}
 use Rattle.schema_resolve.specs.Resolving.{Resolves}
 use Rattle.schema_resolve.specs.Tables.{IsTableOf}
+use Rattle.policy_blocks.specs.Declarations.{Declared, IsSound}
+use Rattle.script_words.specs.declared.fault.ScriptReason.{ScriptReason}
+use Rattle.audit_input.specs.Inputs.{Says, IsFault as IsInputFault}
+use Rattle.audit_rules.specs.declared.rule.Rule.{Rule}
+use Rattle.audit_check.specs.Checking.{IsChecked, IsFirstBad}
+use Rattle.audit_check.specs.declared.checked.Checked.{Checked}
+use Rattle.audit_check.specs.declared.checked.Checked.TheVariants.{Illegal}
 
 -- behind a head one table's text stands or no `end` line follows; a text is canonical or has one first fault, and never
 -- both
@@ -105,3 +112,32 @@ pub record SetLaw : Type 0 where
       → e ≡ f
   pub table_or_files_fault : (files : List PackedFile) (T : Table) (e : FilesFault) → FilesResolve files T
       → IsFilesFault files e → ⊥
+
+-- an input of `audit` says one table, policies and text or has one fault, and never both; and a text is judged in one
+-- way or has one first line that is none, and never both
+pub record AuditLaw : Type 0 where
+  pub either : (input : List ℕ)
+      → ((loads : ℕ) × (T : Table) × (d : Declared) × (text : List ℕ) × (before : ℕ) × Says input loads T d text before)
+      ⊎ ((line : ℕ) × (r : ScriptReason) × IsInputFault input line r)
+  pub one_input : (input : List ℕ) (m n : ℕ) (T U : Table) (d e : Declared) (x y : List ℕ) (k l : ℕ)
+      → Says input m T d x k → Says input n U e y l → (m ≡ n) × (T ≡ U) × (d ≡ e) × (x ≡ y) × (k ≡ l)
+  pub one_fault : (input : List ℕ) (m n : ℕ) (r q : ScriptReason) → IsInputFault input m r → IsInputFault input n q
+      → (m ≡ n) × (r ≡ q)
+  pub input_or_fault : (input : List ℕ) (loads : ℕ) (T : Table) (d : Declared) (x : List ℕ) (k line : ℕ)
+      (r : ScriptReason) → Says input loads T d x k → IsInputFault input line r → ⊥
+  pub sound : (input : List ℕ) (loads : ℕ) (T : Table) (d : Declared) (x : List ℕ) (k : ℕ)
+      → Says input loads T d x k → IsValid T × IsSound d
+  pub one_answer : (T : Table) (d : Declared) (limit : ℕ) (text : List ℕ) (one other : Checked) → IsValid T
+      → IsChecked T d limit text one → IsChecked T d limit text other → one ≡ other
+  pub one_bad : (T : Table) (d : Declared) (text : List ℕ) (one other : ℕ) → IsValid T → IsFirstBad T d text one
+      → IsFirstBad T d text other → one ≡ other
+  pub answer_or_bad : (T : Table) (d : Declared) (limit : ℕ) (text : List ℕ) (checked : Checked) (line : ℕ) → IsValid T
+      → IsChecked T d limit text checked → IsFirstBad T d text line → ⊥
+  pub never_neither : (T : Table) (d : Declared) (limit : ℕ) (text : List ℕ) → IsValid T
+      → ((checked : Checked) → IsChecked T d limit text checked → ⊥) → ((line : ℕ) → IsFirstBad T d text line → ⊥) → ⊥
+
+-- the lines of a text that are named are among its lines, or the one behind them
+pub record NearLaw : Type 0 where
+  pub illegal : (T : Table) (d : Declared) (limit : ℕ) (text : List ℕ) (line : ℕ) (rule : Rule)
+      → IsChecked T d limit text (Illegal line rule) → line ≤ length text + 1
+  pub bad : (T : Table) (d : Declared) (text : List ℕ) (line : ℕ) → IsFirstBad T d text line → line ≤ length text + 1

@@ -1,7 +1,9 @@
+pub mod Auditing
 pub mod Checking
 pub mod Command
 pub mod DecodeInput
 pub mod Decoding
+pub mod FaultLines
 pub mod Laws
 pub mod Reading
 pub mod Telling

@@ -9,9 +9,12 @@ ghost use Rattle.script_lang.specs.Texts.{Spells};
 ghost use Rattle.script_run.specs.Replays.{Replays};
 ghost use Rattle.mrpc_top.specs.DecodeInput.{Holds, IsTextFault};
 ghost use Rattle.mrpc_top.specs.Decoding.{IsDecoded, IsCutAt};
-ghost use Rattle.mrpc_top.specs.Command.{command_word, Names, IsReplay, IsCommand, IsDone, IsRefused, IsScript, HasFault, IsFaulty, WorksOn, Refuses, RunsText, DecodesText, ChecksText, RefusesScript, CutsText, RefusesProto, fault_line, spot_line};
+ghost use Rattle.mrpc_top.specs.Command.{command_word, Names, IsReplay, IsCommand, IsDone, IsRefused, IsScript, HasFault, IsFaulty, WorksOn, Refuses, RunsText, DecodesText, ChecksText, RefusesScript, CutsText, RefusesProto, spot_line};
+ghost use Rattle.mrpc_top.specs.FaultLines.{fault_line};
+ghost use Rattle.mrpc_top.specs.Auditing.{AuditsText, RefusesAudit};
 ghost use Rattle.mrpc_top.specs.Checking.{spot_text};
 
+use crate::audit::{AuditFailure, audited_text, one_audit};
 use crate::check::{CheckFault, Spot, checked_text, one_check};
 use crate::decode_input::read_head;
 use crate::decoding::{Cut, decode_stream};
@@ -62,6 +65,12 @@ pub const WIRE_FAILED: u8 = 6;
 /// REASON`, its first fault; the reasons of the first kind count before those of the second. Of a set of files
 /// (`file_bundle` says what it looks like) it writes the table of the first file and of what its imports lead to
 /// (`schema_files`), or one line `fault FILE REASON` or `fault FILE:LINE REASON`.
+///
+/// `audit` reads a table, tenants and policies, and behind the line `audit` the text of an audit (`audit_input` and
+/// `audit_text` say what these look like). It writes one line to `out`: `legal HAPPENINGS STANDS` where the history is
+/// legal and the lines of calls that stand, if there are any, tell those that do, else `illegal LINE RULE` with the
+/// first line of the input through which that fails and the first rule that is broken there (`audit_check`). An input
+/// that is none is written as one line `fault LINE REASON`, its first fault, also where an earlier line is illegal.
 ///
 /// An input of more than 16777216 bytes is `fault 16777216 Input` in each command, and nothing else is
 /// written. Without memory a command ends with `NO_MEMORY`, and what it wrote by then stands.
@@ -141,6 +150,7 @@ enum Command {
     Replay,
     Decode,
     Check,
+    Audit,
 }
 
 // Runs the command on the text of its input.
@@ -166,10 +176,12 @@ fn run<K: Sink, W: Sink>(
     one_answer();
     one_decoding();
     one_check();
+    one_audit();
     match command {
         Command::Replay => replay_text(alloc, text, out, wire),
         Command::Decode => decode_text(alloc, text, out),
         Command::Check => check_text(alloc, text, out),
+        Command::Audit => audit_text(alloc, text, out),
     }
 }
 
@@ -194,6 +206,8 @@ fn command_named(word: &str) -> Option<Command>
         Some(Command::Decode)
     } else if word == "check" {
         Some(Command::Check)
+    } else if word == "audit" {
+        Some(Command::Audit)
     } else {
         None
     }
@@ -265,6 +279,28 @@ fn check_text<K: Sink>(alloc: Global, text: &[u8], out: &mut K) -> u8
         }
         Err(CheckFault::At { spot, word }) => refuse_at(alloc, spot, word.as_bytes(), out),
         Err(CheckFault::Memory) => NO_MEMORY,
+    }
+}
+
+// Reads an audit with the table and the policies that it is judged under, and writes whether its history is legal.
+fn audit_text<K: Sink>(alloc: Global, text: &[u8], out: &mut K) -> u8
+    requires short { length text.now ≤ INPUT_LIMIT }
+    ensures statuses { result ≤ OUTPUT_FAILED }
+    ensures some { (result ≢ NO_COMMAND) × (result ≢ INPUT_FAILED) }
+    ensures done { result ≡ DONE → AuditsText text.now (K.written out.old) (K.written out.new) }
+    ensures faulty { result ≡ FAULTY_INPUT → RefusesAudit text.now (K.written out.old) (K.written out.new) }
+    ensures out_cause { HasCause (result ≡ OUTPUT_FAILED) (K.faults out.old) (K.faults out.new) }
+{
+    match audited_text(alloc, text) {
+        Ok(answer) => {
+            if write_all(out, answer.as_slice()) {
+                DONE
+            } else {
+                OUTPUT_FAILED
+            }
+        }
+        Err(AuditFailure::At { line, word }) => refuse(alloc, line, word.as_bytes(), out),
+        Err(AuditFailure::Memory) => NO_MEMORY,
     }
 }
 

@@ -1,7 +1,9 @@
 //! The laws of the crates below, as the proofs here use them together. These functions do nothing; their clauses hold.
 
-ghost use Rattle.mrpc_top.specs.Laws.{FileLaw, FrameLaw, MeaningLaw, SetLaw, TextLaw};
+ghost use Rattle.mrpc_top.specs.Laws.{AuditLaw, FileLaw, FrameLaw, MeaningLaw, NearLaw, SetLaw, TextLaw};
 
+use audit_check::a_text_has_one_answer;
+use audit_input::one_input;
 use file_bundle::one_bundle;
 use frame_transport::{frames_join, one_frame, one_split};
 use proto_schema::{alone_is_ordered, file_or_fault, one_fault as one_proto_fault, one_file};
@@ -61,3 +63,16 @@ pub(crate) fn set_law()
     one_files_fault();
     table_or_files_fault();
 }
+
+/// What holds of the input of `audit`, and of the text in it.
+pub(crate) fn audit_law()
+    ensures { AuditLaw }
+{
+    one_input();
+    a_text_has_one_answer();
+}
+
+/// What holds of the lines of an audit that are named.
+pub(crate) fn near_law()
+    ensures { NearLaw }
+{}

@@ -6,9 +6,11 @@
 //! history is legal and spelled by its loads, and its audit, the calls that stand and its frames were
 //! written. For `decode`: at status 0 a line was written for each frame, with the encoding of the
 //! message that its payload means. For `check`: at status 0 the text of the table of the proto file, or of the set of
-//! files, that was read was written. An input that has a fault is answered with its first one.
+//! files, that was read was written. For `audit`: at status 0 it was written whether the history of the audit that was
+//! read is legal. An input that has a fault is answered with its first one.
 #![tactic(auto)]
 
+mod audit;
 mod check;
 mod command;
 mod decode_input;
@@ -16,6 +18,7 @@ mod decoding;
 mod laws;
 mod reading;
 
+pub use audit::one_audit;
 pub use check::{Spot, one_check};
 pub use command::{
     DONE, FAULTY_INPUT, INPUT_FAILED, NO_COMMAND, NO_MEMORY, OUTPUT_FAILED, WIRE_FAILED,

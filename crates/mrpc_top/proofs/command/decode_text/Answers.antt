@@ -1,6 +1,6 @@
 use Rattle.std.proofs.Common.{◌≡◌, ◌∙◌, List, ℕ, Err, sym, subst}
 use Rattle.std.specs.Io.KnownBytes.{Appends}
-use Rattle.mrpc_top.specs.Command.{fault_line}
+use Rattle.mrpc_top.specs.FaultLines.{fault_line}
 use Rattle.mrpc_top.specs.Command.CutsText.{in_text, in_stream}
 use Rattle.mrpc_top.specs.DecodeInput.{IsTextFault}
 use Rattle.mrpc_top.specs.Decoding.{IsCutAt}

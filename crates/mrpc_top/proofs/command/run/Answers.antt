@@ -1,5 +1,5 @@
 use Rattle.std.proofs.Common.{arith}
-use Rattle.mrpc_top.proofs.Commands.{cuts, no_check, no_decoding, no_script}
+use Rattle.mrpc_top.proofs.Commands.{cuts, no_audit, no_check, no_decoding, no_script}
 use Rattle.mrpc_top.proofs.command.run.Goals as goal
 
 pub returns-in-Replay-clause-refused : goal.returns-in-Replay-clause-refused
@@ -40,4 +40,11 @@ returns-in-Check-clause-refused g c fault = (
   λ done. no_check c.one_check.ensures.never_both c.args.command c.args.text.now (g.K.Sink.written c.args.out.now)
       (g.K.Sink.written c.check_text.new.out) c.in-Check.is fault (c.check_text.ensures.done done),
   λ failed. omega (arith, failed, c.check_text.ensures.statuses),
+)
+
+pub returns-in-Audit-clause-refused : goal.returns-in-Audit-clause-refused
+returns-in-Audit-clause-refused g c fault = (
+  λ done. no_audit c.one_audit.ensures.never_both c.args.command c.args.text.now (g.K.Sink.written c.args.out.now)
+      (g.K.Sink.written c.audit_text.new.out) c.in-Audit.is fault (c.audit_text.ensures.done done),
+  λ failed. omega (arith, failed, c.audit_text.ensures.statuses),
 )
