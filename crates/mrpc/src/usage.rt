@@ -31,6 +31,9 @@ pub(crate) fn usage(alloc: Global) -> Result<String, AllocError> {
     let check = Command::new(alloc, "check").about(
         "Reads a proto file, or a set of them, from standard input, and writes its table",
     );
+    let audit = Command::new(alloc, "audit").about(
+        "Reads an audit from standard input, and writes whether its history is legal",
+    );
     let mut program = Command::new(alloc, "mrpc")
         .override_usage(USAGE)
         .disable_help_subcommand(true)
@@ -38,7 +41,8 @@ pub(crate) fn usage(alloc: Global) -> Result<String, AllocError> {
         .after_help(BEHIND)
         .subcommand(replay)?
         .subcommand(decode)?
-        .subcommand(check)?;
+        .subcommand(check)?
+        .subcommand(audit)?;
     program.render_help()
 }
 
