@@ -1,0 +1,13 @@
+mod Chained
+mod Coming
+mod Deciding
+mod Ending
+mod Events
+mod Going
+mod Lists
+mod Parts
+mod Rounds
+mod Rows
+mod Settling
+mod Taking
+mod Views

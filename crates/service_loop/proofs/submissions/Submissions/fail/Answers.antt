@@ -1,0 +1,43 @@
+use Rattle.std.proofs.Common.{◌≡◌, ℕ, true, false, refl, ap, sym, ◌∙◌, subst}
+use Rattle.conn_core.specs.Connections.{Connection, behind, course, frames, under}
+use Rattle.service_loop.specs.Calls.{moments_at_calls, moments_in}
+use Rattle.service_loop.specs.Serving.{IsServed}
+use Rattle.service_loop.specs.declared.submissions.Submissions.{Submissions}
+use Rattle.service_loop.proofs.Ending.{FailsBy, frames-failed, served-failed}
+use Rattle.service_loop.proofs.Views.{views-failed}
+use Rattle.service_loop.proofs.submissions.Submissions.fail.Goals.{then-not-ended, else-not-ended}
+use Rattle.service_loop.proofs.submissions.Submissions.fail.Goals as goal
+
+pub returns-clause-served : goal.returns-clause-served
+returns-clause-served c = elim c.if-not-ended.branch [
+  | then-not-ended w ↦ served-failed c.args.self.now c.if-not-ended.self w.fail.new.self (record {
+    is = w.self-is;
+    step = w.fail.ensures.failed;
+    same = w.fail.ensures.same;
+    is_course = c.is_connection-2.ensures.is_course;
+  }) c.requires.served
+  | else-not-ended w ↦ subst IsServed (sym w.self-is) c.requires.served
+]
+
+pub returns-clause-frames : goal.returns-clause-frames
+returns-clause-frames c = elim c.if-not-ended.branch [
+  | then-not-ended w ↦ ap (λ (s : Submissions). frames s.conn) w.self-is
+      ∙ frames-failed c.args.self.now.conn w.fail.new.self w.fail.ensures.same w.fail.ensures.failed
+  | else-not-ended w ↦ ap (λ (s : Submissions). frames s.conn) w.self-is
+]
+
+pub returns-clause-moments : goal.returns-clause-moments
+returns-clause-moments c = elim c.if-not-ended.branch [
+  | then-not-ended w ↦ ap (λ (s : Submissions). moments_in (behind s.conn)) w.self-is
+      ∙ (views-failed (under c.args.self.now.conn) (course c.args.self.now.conn) (course w.fail.new.self)
+      w.fail.ensures.failed).moments
+  | else-not-ended w ↦ ap (λ (s : Submissions). moments_in (behind s.conn)) w.self-is
+]
+
+pub returns-clause-at_calls : goal.returns-clause-at_calls
+returns-clause-at_calls c = elim c.if-not-ended.branch [
+  | then-not-ended w ↦ ap (λ (s : Submissions). moments_at_calls (behind s.conn)) w.self-is
+      ∙ (views-failed (under c.args.self.now.conn) (course c.args.self.now.conn) (course w.fail.new.self)
+      w.fail.ensures.failed).at_calls
+  | else-not-ended w ↦ ap (λ (s : Submissions). moments_at_calls (behind s.conn)) w.self-is
+]

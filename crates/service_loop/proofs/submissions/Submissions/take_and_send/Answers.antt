@@ -1,0 +1,24 @@
+use Rattle.service_loop.proofs.Rounds.{calls-through, moments-through}
+use Rattle.service_loop.proofs.submissions.Submissions.take_and_send.Goals as goal
+
+pub returns-clause-moments : goal.returns-clause-moments
+returns-clause-moments g c =
+    λ all. moments-through (g.C.Clock.gives c.args.clock.now) c.now.result c.args.self.now.conn c.apply_due.new.self.conn
+    c.show.new.self.conn c.take_call.new.self.conn c.go_on.new.self.conn (record {
+      steps = (c.in_ok-apply_due.ensures.only.beside.moments, c.in_ok-apply_due.ensures.only.at_calls);
+      shows = c.in_ok-show.ensures.shown;
+      beside = c.in_ok-next.ensures.beside;
+      takes = c.in_ok-next.ensures.now;
+      drains = c.in_ok-go_on.ensures.drained;
+    }) c.now.ensures.gives all
+
+pub returns-clause-least : goal.returns-clause-least
+returns-clause-least g c =
+    λ all. calls-through (g.C.Clock.least c.args.clock.now) c.now.result c.args.self.now.conn c.apply_due.new.self.conn
+    c.show.new.self.conn c.take_call.new.self.conn c.go_on.new.self.conn (record {
+      steps = (c.in_ok-apply_due.ensures.only.beside.moments, c.in_ok-apply_due.ensures.only.at_calls);
+      shows = c.in_ok-show.ensures.shown;
+      beside = c.in_ok-next.ensures.beside;
+      takes = c.in_ok-next.ensures.now;
+      drains = c.in_ok-go_on.ensures.drained;
+    }) c.now.ensures.least all

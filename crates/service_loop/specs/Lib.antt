@@ -1,0 +1,4 @@
+pub mod Calls
+pub mod Serving
+pub mod Steps
+pub mod Within

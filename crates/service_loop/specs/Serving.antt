@@ -1,0 +1,47 @@
+-- What holds of the submissions of a connection between two rounds (this project's own).
+use Rattle.std.specs.Prelude.{◌≡◌, ℕ, ◌≤◌, true, List, length, map, take, drop}
+use Rattle.mrpc_table.specs.declared.limits.TheConstants.{MAX_HEAP, MIN_HEAP}
+use Rattle.shared_heap.specs.Fresh.{Reading}
+use Rattle.descriptor_ring.specs.Rings.{Receiving}
+use Rattle.call_history.specs.Behind.{taken}
+use Rattle.call_history.specs.Places.{IsSettled}
+use Rattle.conn_core.specs.Connections.{Connection, IsSame, behind, under}
+use Rattle.service_loop.specs.Calls.{AcceptsAll, AreReaders}
+use Rattle.service_loop.specs.Steps.{AreSteps, CountsAscend, HaveCome, all_taken}
+use Rattle.service_loop.specs.declared.due_step.DueStep.{DueStep}
+use Rattle.service_loop.specs.declared.submissions.Submissions.{Submissions}
+
+-- As far as the calls of a connection have come: their loads are those of the reader, they are the submissions that
+-- were taken from the ring, and the steps of operators that came are the first ones, each in its place.
+pub record Serves (conn : Connection) (reader : Reading) (ring : Receiving) (steps : List DueStep)
+    (applied accepted : ℕ) : Type 0 where
+  pub least_heap : MIN_HEAP ≤ reader.heap.words
+  pub greatest_heap : reader.heap.words ≤ MAX_HEAP
+  pub one_heap : ring.heap ≡ reader.heap
+  pub are_steps : AreSteps steps
+  pub loads : AreReaders conn reader
+  pub calls : AcceptsAll conn ring.taken
+  pub count : accepted ≡ length (taken (behind conn))
+  pub within : applied ≤ length steps
+  pub came : HaveCome (all_taken ring.closed (behind conn)) (behind conn) (take applied steps)
+  -- no step that is left was due before the last call
+  pub left : CountsAscend accepted (drop applied steps)
+
+abbrev pub IsServing : Submissions → Type 0
+IsServing s = Serves s.conn s.reader s.calls s.steps.now s.applied s.accepted
+
+-- Between two rounds no call can go on. Once the closing of the ring was taken, the last drain is done, and every step
+-- has come.
+pub record IsServed (s : Submissions) : Type 0 where
+  pub serving : IsServing s
+  pub settled : IsSettled (under s.conn) (behind s.conn) (map (λ call. call.1) s.conn.chain.row)
+  pub finished : s.finished ≡ s.calls.closed
+  pub all_came : s.finished ≡ true → s.applied ≡ length s.steps.now
+
+-- what stays the same of submissions
+pub record AreSame (old new : Submissions) : Type 0 where
+  pub conn : IsSame old.conn new.conn
+  pub heap : new.reader.heap ≡ old.reader.heap
+  pub ring : new.calls.ring ≡ old.calls.ring
+  pub ring_heap : new.calls.heap ≡ old.calls.heap
+  pub steps : new.steps.now ≡ old.steps.now

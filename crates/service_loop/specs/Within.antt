@@ -1,0 +1,81 @@
+-- The code's own: what the parts of a round leave as it was.
+use Rattle.std.specs.Prelude.{◌≡◌, ◌⊎◌, ℕ, ◌+◌, ◌≤◌, ◌<◌, Bool, true, false, [], ◌∷◌, ◌++◌, length, drop, Some, slice_get}
+use Rattle.call_history.specs.Behind.{moment}
+use Rattle.call_history.specs.Tickets.{tickets_behind}
+use Rattle.conn_core.specs.Connections.{Connection, IsSame, behind, frames}
+use Rattle.descriptor_ring.specs.Rings.{IsOf}
+use Rattle.descriptor_ring.specs.declared.descriptor.Descriptor.{Descriptor}
+use Rattle.service_loop.specs.Calls.{moments_at_calls, moments_in}
+use Rattle.service_loop.specs.Serving.{IsServing}
+use Rattle.service_loop.specs.Steps.{CountsAscend}
+use Rattle.service_loop.specs.declared.due_step.DueStep.{DueStep}
+use Rattle.service_loop.specs.declared.submissions.Submissions.{Submissions}
+
+-- a connection went on, but nothing was handed over, no ticket was drawn, and no moment shown
+pub record StaysBeside (before after : Connection) : Type 0 where
+  pub same : IsSame before after
+  pub frames : frames after ≡ frames before
+  pub tickets : (tenant window : ℕ) → tickets_behind tenant window (behind after)
+      ≡ tickets_behind tenant window (behind before)
+  pub ended : after.ended ≡ before.ended
+  pub moments : moments_in (behind after) ≡ moments_in (behind before)
+  pub moment : moment (behind after) ≡ moment (behind before)
+
+-- a call was taken at the present moment, or none
+abbrev pub TakesNow : Connection → Connection → Type 0
+TakesNow before after = (moments_at_calls (behind after) ≡ moments_at_calls (behind before))
+    ⊎ (moments_at_calls (behind after) ≡ moments_at_calls (behind before) ++ moment (behind before) ∷ [])
+
+-- the first step that is left is due: its count is reached, or no more calls come
+pub record IsDue (s : Submissions) : Type 0 where
+  pub due : DueStep
+  pub first : slice_get s.steps.now s.applied ≡ Some due
+  pub reached : (s.calls.closed ≡ true) ⊎ (due.count ≤ s.accepted)
+
+-- no step that is left is due; behind the closing none is left
+pub record NoneIsDue (closing : Bool) (s : Submissions) : Type 0 where
+  pub all : closing ≡ true → s.applied ≡ length s.steps.now
+  pub later : closing ≡ false → CountsAscend (s.accepted + 1) (drop s.applied s.steps.now)
+
+-- only steps came
+pub record OnlySteps (old new : Submissions) : Type 0 where
+  pub beside : StaysBeside old.conn new.conn
+  pub at_calls : moments_at_calls (behind new.conn) ≡ moments_at_calls (behind old.conn)
+  pub reader : new.reader ≡ old.reader
+  pub calls : new.calls ≡ old.calls
+  pub steps : new.steps.now ≡ old.steps.now
+  pub accepted : new.accepted ≡ old.accepted
+  pub finished : new.finished ≡ old.finished
+
+-- a moment was shown: it is the latest now, unless it isn't greater than the last one
+pub record Shows (now : ℕ) (before after : Connection) : Type 0 where
+  pub same : IsSame before after
+  pub frames : frames after ≡ frames before
+  pub tickets : (tenant window : ℕ) → tickets_behind tenant window (behind after)
+      ≡ tickets_behind tenant window (behind before)
+  pub ended : after.ended ≡ before.ended
+  pub moments : (moments_in (behind after) ≡ moments_in (behind before))
+      ⊎ (moments_in (behind after) ≡ moments_in (behind before) ++ now ∷ [])
+  pub at_calls : moments_at_calls (behind after) ≡ moments_at_calls (behind before)
+  pub latest : now ≤ moment (behind after)
+
+-- a descriptor was taken last, and nothing came of it yet
+pub record HasTaken (call : Descriptor) (s : Submissions) : Type 0 where
+  pub earlier : Submissions
+  pub serving : IsServing earlier
+  pub taken : s.calls.taken ≡ earlier.calls.taken ++ call ∷ []
+  pub few : length s.calls.taken ≤ 4294967294
+  pub of_heap : IsOf earlier.calls.heap call
+  pub closed : s.calls.closed ≡ earlier.calls.closed
+  pub ring_heap : s.calls.heap ≡ earlier.calls.heap
+  pub conn : s.conn ≡ earlier.conn
+  pub reader : s.reader ≡ earlier.reader
+  pub steps : s.steps.now ≡ earlier.steps.now
+  pub applied : s.applied ≡ earlier.applied
+  pub accepted : s.accepted ≡ earlier.accepted
+
+-- calls went on as far as they could, and no call was taken and no moment shown
+pub record HasDrained (before after : Connection) : Type 0 where
+  pub moments : moments_in (behind after) ≡ moments_in (behind before)
+  pub at_calls : moments_at_calls (behind after) ≡ moments_at_calls (behind before)
+  pub ended : before.ended ≡ true → after.ended ≡ true

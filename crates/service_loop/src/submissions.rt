@@ -1,0 +1,447 @@
+//! The calls of a connection's application, round by round.
+
+ghost use Rattle.std.specs.Prelude.{◌≡◌, ◌≢◌, ◌↔◌, ◌≤◌, ◌<◌, ◌+◌, ℕ, [], true, false, All, IfOk, OnOk, length, map};
+ghost use Rattle.std.specs.Bool.{OnFalse, OnTrue};
+ghost use Rattle.mrpc_base.specs.Faults.{HasCause};
+ghost use Rattle.mrpc_table.specs.declared.limits.TheConstants.{MAX_HEAP, MIN_HEAP};
+ghost use Rattle.call_history.specs.Places.{IsSettled};
+ghost use Rattle.conn_core.specs.Connections.{behind, frames, under};
+ghost use Rattle.conn_core.specs.Steps.{DrawsTickets, Hands};
+ghost use Rattle.service_loop.specs.Calls.{moments_at_calls, moments_in};
+ghost use Rattle.service_loop.specs.Serving.{AreSame, IsServed, IsServing};
+ghost use Rattle.service_loop.specs.Steps.{AreSteps, KnowTenants};
+ghost use Rattle.service_loop.specs.Within.{HasDrained, HasTaken, IsDue, NoneIsDue, OnlySteps, Shows, StaysBeside, TakesNow};
+
+use crate::activity::Activity;
+use crate::due_step::DueStep;
+use chain_upgrade::ChainFault;
+use conn_core::{AcceptFault, Ask, Conn, Drained};
+use descriptor_ring::{Descriptor, Receiver, Taken};
+use engine_core::MAX_CALLS;
+use mrpc_base::{Clock, Link, Tickets};
+use mrpc_table::Memory;
+use shared_heap::{Reader, calls_are_fresh, loads_change_no_more};
+use std::alloc::Global;
+use std::sync::Wait;
+
+/// The calls of a connection's application, with all that one thread needs to take, judge and send them.
+#[derive(Drop)]
+pub struct Submissions<'t> {
+    /// The connection, with the calls that stand.
+    pub conn: Conn<'t>,
+    /// The reader of the application's heap.
+    pub reader: Reader,
+    /// The ring on which its calls come.
+    pub calls: Receiver,
+    /// The steps of operators that are to come to its chain, in order.
+    pub steps: &'t [DueStep],
+    /// How many of them came.
+    pub applied: usize,
+    /// How many calls were accepted.
+    pub accepted: u32,
+    /// Whether the last drain is done, behind the closing of the ring.
+    pub finished: bool,
+}
+
+// What came from the ring of calls.
+#[derive(Clone, Copy, PartialEq, Eq)]
+enum Next {
+    // Nothing, or there is no room for a call.
+    Nothing,
+    // A call, which was accepted, or was given up since the link has failed.
+    Call,
+    // The closing.
+    Closing,
+}
+
+// Whether something was done: something came from the ring, steps came, or calls went.
+fn was_busy(next: Next, stepped: bool, went: bool) -> bool {
+    next != Next::Nothing || stepped || went
+}
+
+impl<'t> Submissions<'t> {
+    /// Submissions of which none has come, on a connection of which nothing has happened, and with a heap that nobody
+    /// has loaded from.
+    pub fn new(
+        conn: Conn<'t>,
+        reader: Reader,
+        calls: Receiver,
+        steps: &'t [DueStep],
+    ) -> Submissions<'t>
+        requires new_conn { (conn.happenings ≡ []) × (conn.chain.row ≡ []) }
+        requires least_heap { MIN_HEAP ≤ reader.heap.words }
+        requires greatest_heap { reader.heap.words ≤ MAX_HEAP }
+        requires new_heap { reader.loads ≡ [] }
+        requires one_heap { calls.heap ≡ reader.heap }
+        requires new_ring { (calls.taken ≡ []) × (calls.closed ≡ false) }
+        requires steps { AreSteps steps.now }
+        ensures served { IsServed result }
+        ensures conn { result.conn ≡ conn.entry }
+        ensures reader { result.reader ≡ reader }
+        ensures calls { result.calls ≡ calls }
+        ensures steps { result.steps.now ≡ steps.now }
+    {
+        Submissions {
+            conn,
+            reader,
+            calls,
+            steps,
+            applied: 0,
+            accepted: 0,
+            finished: false,
+        }
+    }
+
+    /// Makes the part of a round that concerns calls: the steps of operators that are due come to the chain, the clock's
+    /// moment is shown, at most one call is taken unless as many stand as may, and what can go on is judged and sent.
+    /// Behind the closing of the ring all steps that are left come, and the link's sending side is ended; from then on
+    /// there is nothing to do. A link that fails ends the connection, whose further submissions are given up. After
+    /// `Memory` the parts are still of the same heap and ring, and no more is said of them.
+    pub fn round<R: Wait, C: Clock, Q: Tickets, L: Link>(
+        &mut self,
+        rt: &R,
+        alloc: Global,
+        clock: &C,
+        tickets: &mut Q,
+        link: &mut L,
+    ) -> Activity
+        requires served { IsServed self.old }
+        requires known { KnowTenants (Q.knows tickets.old) self.old.steps.now }
+
+        // What holds between two rounds holds behind this one.
+        ensures served { result ≢ Activity.Memory → IsServed self.new }
+        ensures same { AreSame self.old self.new }
+
+        // Its moment is the clock's, and the call that it takes is taken then.
+        ensures moments { result ≢ Activity.Memory → All (C.gives clock.now) (moments_in (behind self.old.conn))
+            → All (C.gives clock.now) (moments_in (behind self.new.conn)) }
+        ensures least { result ≢ Activity.Memory
+            → All (λ ms. C.least clock.now ≤ ms) (moments_at_calls (behind self.old.conn))
+            → All (λ ms. C.least clock.now ≤ ms) (moments_at_calls (behind self.new.conn)) }
+
+        // The link was handed the frames that the history tells, and the tickets were drawn that it tells.
+        ensures handed { result ≢ Activity.Memory
+            → Hands self.old.conn self.new.conn (L.handed link.old) (L.handed link.new) }
+        ensures draws { result ≢ Activity.Memory
+            → DrawsTickets Q.knows Q.drawn Q.since self.old.conn self.new.conn tickets.old tickets.new }
+
+        // The connection ends where the link's count of faults rises, and only there.
+        ensures cause { result ≢ Activity.Memory
+            → HasCause ((self.old.conn.ended ≡ false) × (self.new.conn.ended ≡ true)) (L.faults link.old)
+            (L.faults link.new) }
+        ensures stays_ended { result ≢ Activity.Memory → self.old.conn.ended ≡ true → self.new.conn.ended ≡ true }
+
+        ensures given { L.given link.new ≡ L.given link.old }
+        ensures link_ended { L.ended link.new ≡ L.ended link.old }
+        ensures same_link { (first : L) → L.since first link.old → L.since first link.new }
+        ensures same_quotas { (first : Q) → Q.since first tickets.old → Q.since first tickets.new }
+        ensures knows { (tenant : ℕ) → Q.knows tickets.old tenant → Q.knows tickets.new tenant }
+
+        // Behind the last drain nothing changes.
+        ensures idle { self.old.finished ≡ true → (result ≡ Activity.Idle) × (self.new ≡ self.old)
+            × (link.new ≡ link.old) × (tickets.new ≡ tickets.old) }
+    {
+        if self.finished {
+            return Activity::Idle;
+        }
+        match self.take_and_send(rt, alloc, clock, tickets, link) {
+            Ok(true) => Activity::Busy,
+            Ok(false) => Activity::Idle,
+            Err(Memory) => Activity::Memory,
+        }
+    }
+
+    // The same while the last drain isn't done. Tells whether something was done.
+    fn take_and_send<R: Wait, C: Clock, Q: Tickets, L: Link>(
+        &mut self,
+        rt: &R,
+        alloc: Global,
+        clock: &C,
+        tickets: &mut Q,
+        link: &mut L,
+    ) -> Result<bool, Memory>
+        requires served { IsServed self.old }
+        requires known { KnowTenants (Q.knows tickets.old) self.old.steps.now }
+        requires unfinished { self.old.finished ≡ false }
+        ensures served { OnOk result (IsServed self.new) }
+        ensures same { AreSame self.old self.new }
+        ensures moments { OnOk result (All (C.gives clock.now) (moments_in (behind self.old.conn))
+            → All (C.gives clock.now) (moments_in (behind self.new.conn))) }
+        ensures least { OnOk result (All (λ ms. C.least clock.now ≤ ms) (moments_at_calls (behind self.old.conn))
+            → All (λ ms. C.least clock.now ≤ ms) (moments_at_calls (behind self.new.conn))) }
+        ensures handed { OnOk result (Hands self.old.conn self.new.conn (L.handed link.old) (L.handed link.new)) }
+        ensures draws { OnOk result
+            (DrawsTickets Q.knows Q.drawn Q.since self.old.conn self.new.conn tickets.old tickets.new) }
+        ensures cause { OnOk result (HasCause ((self.old.conn.ended ≡ false) × (self.new.conn.ended ≡ true))
+            (L.faults link.old) (L.faults link.new)) }
+        ensures stays_ended { OnOk result (self.old.conn.ended ≡ true → self.new.conn.ended ≡ true) }
+        ensures given { L.given link.new ≡ L.given link.old }
+        ensures link_ended { L.ended link.new ≡ L.ended link.old }
+        ensures same_link { (first : L) → L.since first link.old → L.since first link.new }
+        ensures same_quotas { (first : Q) → Q.since first tickets.old → Q.since first tickets.new }
+        ensures knows { (tenant : ℕ) → Q.knows tickets.old tenant → Q.knows tickets.new tenant }
+    {
+        let applied = self.applied;
+        self.apply_due(alloc, false)?;
+        self.show(alloc, clock.now())?;
+        let next = self.take_call(rt, alloc)?;
+        let stood = self.conn.chain().calls().len();
+        self.go_on(alloc, next == Next::Closing, tickets, link)?;
+        let stands = self.conn.chain().calls().len();
+        Ok(was_busy(next, self.applied != applied, stood != stands))
+    }
+
+    // Applies the steps that are due: those whose count of calls is reached, and behind the closing all.
+    fn apply_due(&mut self, alloc: Global, closing: bool) -> Result<(), Memory>
+        requires serving { IsServing self.old }
+        requires closing { closing ≡ self.old.calls.closed }
+        ensures serving { OnOk result (IsServing self.new) }
+        ensures none_due { OnOk result (NoneIsDue closing self.new) }
+        ensures only { OnOk result (OnlySteps self.old self.new) }
+        ensures same { AreSame self.old self.new }
+    {
+        'steps: while self.is_due(closing) {
+            self.apply(alloc)?;
+        }
+        Ok(())
+    }
+
+    // Whether the first step that is left is due.
+    fn is_due(&self, closing: bool) -> bool
+        requires serving { IsServing self.now }
+        requires closing { closing ≡ self.now.calls.closed }
+        ensures due { OnTrue result (IsDue self.now) }
+        ensures none { OnFalse result (NoneIsDue closing self.now) }
+    {
+        self.applied < self.steps.len()
+            && (closing || self.steps[self.applied].count <= u64::from(self.accepted))
+    }
+
+    // Applies the first step that is left.
+    fn apply(&mut self, alloc: Global) -> Result<(), Memory>
+        requires serving { IsServing self.old }
+        requires due { IsDue self.old }
+        ensures serving { OnOk result (IsServing self.new) }
+        ensures applied { OnOk result (self.new.applied ≡ self.old.applied + 1) }
+        ensures only { OnOk result (OnlySteps self.old self.new) }
+        ensures same { AreSame self.old self.new }
+    {
+        self.conn.is_connection();
+        let step = self.steps[self.applied].copied(alloc)?;
+        match self.conn.operate(alloc, step) {
+            Ok(()) => {}
+            Err(fault) => match fault {
+                ChainFault::Memory => return Err(Memory),
+                _ => unreachable!(),
+            },
+        }
+        self.applied += 1;
+        Ok(())
+    }
+
+    // Shows the connection a moment.
+    fn show(&mut self, alloc: Global, now: u64) -> Result<(), Memory>
+        requires serving { IsServing self.old }
+        ensures serving { OnOk result (IsServing self.new) }
+        ensures none_due { OnOk result (NoneIsDue false self.old → NoneIsDue false self.new) }
+        ensures shown { OnOk result (Shows now self.old.conn self.new.conn) }
+        ensures same { AreSame self.old self.new }
+        ensures calls { self.new.calls ≡ self.old.calls }
+        ensures finished { self.new.finished ≡ self.old.finished }
+    {
+        self.conn.clock(alloc, now)
+    }
+
+    // Takes the next call from the ring, unless as many stand as may.
+    fn take_call<R: Wait>(&mut self, rt: &R, alloc: Global) -> Result<Next, Memory>
+        requires serving { IsServing self.old }
+        requires open { self.old.calls.closed ≡ false }
+        requires none_due { NoneIsDue false self.old }
+        ensures serving { OnOk result (IsServing self.new) }
+        ensures closing { IfOk result (λ next. (next ≡ Next.Closing) ↔ (self.new.calls.closed ≡ true)) }
+        ensures beside { OnOk result (StaysBeside self.old.conn self.new.conn) }
+        ensures now { OnOk result (TakesNow self.old.conn self.new.conn) }
+        ensures same { AreSame self.old self.new }
+        ensures finished { self.new.finished ≡ self.old.finished }
+    {
+        if self.conn.chain().calls().len() == MAX_CALLS {
+            return Ok(Next::Nothing);
+        }
+        match self.calls.take(rt) {
+            Taken::Item(call) => {
+                self.accept(alloc, call)?;
+                Ok(Next::Call)
+            }
+            Taken::Closed => Ok(Next::Closing),
+            Taken::Empty(_) => Ok(Next::Nothing),
+        }
+    }
+
+    // Accepts a call that was taken, or gives it up where the link has failed.
+    fn accept(&mut self, alloc: Global, call: Descriptor) -> Result<(), Memory>
+        requires taken { HasTaken call self.old }
+        requires open { self.old.calls.closed ≡ false }
+        requires none_due { NoneIsDue false self.old }
+        requires few { length self.old.conn.chain.calls < MAX_CALLS }
+        ensures serving { OnOk result (IsServing self.new) }
+        ensures beside { OnOk result (StaysBeside self.old.conn self.new.conn) }
+        ensures now { OnOk result (TakesNow self.old.conn self.new.conn) }
+        ensures same { AreSame self.old self.new }
+        ensures calls { self.new.calls ≡ self.old.calls }
+        ensures finished { self.new.finished ≡ self.old.finished }
+    {
+        if self.conn.ended() {
+            return Ok(());
+        }
+        let Descriptor {
+            kind: _,
+            method,
+            number,
+            addr,
+            stores,
+            note,
+        } = call;
+        self.reader.meet(note);
+        let ask = Ask {
+            method,
+            number,
+            addr,
+            after: stores,
+        };
+        calls_are_fresh();
+        loads_change_no_more();
+        match self.conn.accept(alloc, &mut self.reader, ask) {
+            Ok(seq) => {
+                self.accepted = seq;
+                Ok(())
+            }
+            Err(AcceptFault::Memory) => Err(Memory),
+            Err(AcceptFault::Standing | AcceptFault::Ended) => unreachable!(),
+        }
+    }
+
+    // Has the calls that stand go on as far as they can; behind the closing of the ring for the last time.
+    fn go_on<Q: Tickets, L: Link>(
+        &mut self,
+        alloc: Global,
+        closing: bool,
+        tickets: &mut Q,
+        link: &mut L,
+    ) -> Result<(), Memory>
+        requires serving { IsServing self.old }
+        requires known { KnowTenants (Q.knows tickets.old) self.old.steps.now }
+        requires unfinished { self.old.finished ≡ false }
+        requires closing { (closing ≡ true) ↔ (self.old.calls.closed ≡ true) }
+        ensures served { OnOk result (IsServed self.new) }
+        ensures drained { OnOk result (HasDrained self.old.conn self.new.conn) }
+        ensures handed { OnOk result (Hands self.old.conn self.new.conn (L.handed link.old) (L.handed link.new)) }
+        ensures draws { OnOk result
+            (DrawsTickets Q.knows Q.drawn Q.since self.old.conn self.new.conn tickets.old tickets.new) }
+        ensures cause { OnOk result (HasCause ((self.old.conn.ended ≡ false) × (self.new.conn.ended ≡ true))
+            (L.faults link.old) (L.faults link.new)) }
+        ensures same { AreSame self.old self.new }
+        ensures given { L.given link.new ≡ L.given link.old }
+        ensures link_ended { L.ended link.new ≡ L.ended link.old }
+        ensures same_link { (first : L) → L.since first link.old → L.since first link.new }
+        ensures same_quotas { (first : Q) → Q.since first tickets.old → Q.since first tickets.new }
+        ensures knows { (tenant : ℕ) → Q.knows tickets.old tenant → Q.knows tickets.new tenant }
+    {
+        if closing {
+            self.finish(alloc, tickets, link)
+        } else {
+            self.drain(alloc, tickets, link)
+        }
+    }
+
+    // Behind the closing of the ring: applies the steps that are left, has the calls go on for the last time, and ends
+    // the link's sending side.
+    fn finish<Q: Tickets, L: Link>(
+        &mut self,
+        alloc: Global,
+        tickets: &mut Q,
+        link: &mut L,
+    ) -> Result<(), Memory>
+        requires serving { IsServing self.old }
+        requires known { KnowTenants (Q.knows tickets.old) self.old.steps.now }
+        requires closed { self.old.calls.closed ≡ true }
+        ensures served { OnOk result (IsServed self.new) }
+        ensures drained { OnOk result (HasDrained self.old.conn self.new.conn) }
+        ensures handed { OnOk result (Hands self.old.conn self.new.conn (L.handed link.old) (L.handed link.new)) }
+        ensures draws { OnOk result
+            (DrawsTickets Q.knows Q.drawn Q.since self.old.conn self.new.conn tickets.old tickets.new) }
+        ensures cause { OnOk result (HasCause ((self.old.conn.ended ≡ false) × (self.new.conn.ended ≡ true))
+            (L.faults link.old) (L.faults link.new)) }
+        ensures same { AreSame self.old self.new }
+        ensures given { L.given link.new ≡ L.given link.old }
+        ensures link_ended { L.ended link.new ≡ L.ended link.old }
+        ensures same_link { (first : L) → L.since first link.old → L.since first link.new }
+        ensures same_quotas { (first : Q) → Q.since first tickets.old → Q.since first tickets.new }
+        ensures knows { (tenant : ℕ) → Q.knows tickets.old tenant → Q.knows tickets.new tenant }
+    {
+        self.apply_due(alloc, true)?;
+        self.drain(alloc, tickets, link)?;
+        link.finish();
+        self.finished = true;
+        Ok(())
+    }
+
+    // Has the calls that stand go on as far as they can.
+    fn drain<Q: Tickets, L: Link>(
+        &mut self,
+        alloc: Global,
+        tickets: &mut Q,
+        link: &mut L,
+    ) -> Result<(), Memory>
+        requires serving { IsServing self.old }
+        requires known { KnowTenants (Q.knows tickets.old) self.old.steps.now }
+        ensures serving { OnOk result (IsServing self.new) }
+        ensures settled { OnOk result (IsSettled (under self.new.conn) (behind self.new.conn)
+            (map (λ call. call.1) self.new.conn.chain.row)) }
+        ensures drained { OnOk result (HasDrained self.old.conn self.new.conn) }
+        ensures handed { OnOk result (Hands self.old.conn self.new.conn (L.handed link.old) (L.handed link.new)) }
+        ensures draws { OnOk result
+            (DrawsTickets Q.knows Q.drawn Q.since self.old.conn self.new.conn tickets.old tickets.new) }
+        ensures cause { OnOk result (HasCause ((self.old.conn.ended ≡ false) × (self.new.conn.ended ≡ true))
+            (L.faults link.old) (L.faults link.new)) }
+        ensures same { AreSame self.old self.new }
+        ensures calls { self.new.calls ≡ self.old.calls }
+        ensures applied { self.new.applied ≡ self.old.applied }
+        ensures finished { self.new.finished ≡ self.old.finished }
+        ensures given { L.given link.new ≡ L.given link.old }
+        ensures link_ended { L.ended link.new ≡ L.ended link.old }
+        ensures same_link { (first : L) → L.since first link.old → L.since first link.new }
+        ensures same_quotas { (first : Q) → Q.since first tickets.old → Q.since first tickets.new }
+        ensures knows { (tenant : ℕ) → Q.knows tickets.old tenant → Q.knows tickets.new tenant }
+    {
+        self.conn.is_connection();
+        if self.conn.ended() {
+            return Ok(());
+        }
+        let drained = self.conn.drain(alloc, tickets, link);
+        self.conn.is_connection();
+        match drained {
+            Drained::Done | Drained::Failed => Ok(()),
+            Drained::Memory => Err(Memory),
+        }
+    }
+
+    /// Ends the connection since its link failed, unless it has ended: the calls that stand are refused, and what is
+    /// submitted from now on is given up. It takes no memory.
+    pub fn fail(&mut self)
+        requires served { IsServed self.old }
+        ensures served { IsServed self.new }
+        ensures ended { self.new.conn.ended ≡ true }
+        ensures same { AreSame self.old self.new }
+        ensures calls { self.new.calls ≡ self.old.calls }
+        ensures frames { frames self.new.conn ≡ frames self.old.conn }
+        ensures moments { moments_in (behind self.new.conn) ≡ moments_in (behind self.old.conn) }
+        ensures at_calls { moments_at_calls (behind self.new.conn) ≡ moments_at_calls (behind self.old.conn) }
+        ensures finished { self.new.finished ≡ self.old.finished }
+    {
+        self.conn.is_connection();
+        if !self.conn.ended() {
+            self.conn.fail();
+        }
+        self.conn.is_connection();
+    }
+}
