@@ -1,12 +1,11 @@
 -- The lines of an audit that are named are among its lines, or the one behind them.
-use Rattle.std.proofs.Common.{◌≡◌, ◌∙◌, ℕ, ◌+◌, ◌<◌, ◌≤◌, List, [], ◌∷◌, ◌++◌, length, length-append, flat_map, ap, sym, arith, inl, inr}
+use Rattle.std.proofs.Common.{◌≡◌, ◌∙◌, ℕ, ◌+◌, ◌<◌, ◌≤◌, List, [], ◌∷◌, ◌++◌, length, length-append, flat_map, ap, arith}
 use Rattle.std.proofs.lemmas.List.Concat.{flat_map-cons}
 use Rattle.mrpc_table.specs.Text.{spaced}
 use Rattle.mrpc_table.specs.declared.table.Table.{Table}
 use Rattle.policy_blocks.specs.Declarations.{Declared}
 use Rattle.audit_text.specs.Lines.{audit, audit_line, happening_words, standing_words}
 use Rattle.call_history.specs.Legal.{History}
-use Rattle.call_history.specs.declared.happening.Happened.{Happened}
 use Rattle.audit_rules.specs.declared.rule.Rule.{Rule}
 use Rattle.audit_check.specs.Checking.{StandsLine, Tells, IsChecked, IsJudged, IsFirstBad, line_of, lines_of}
 use Rattle.audit_check.specs.Checking.IsJudged.{legal, broken, open_end, misplaced, missing}

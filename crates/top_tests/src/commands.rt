@@ -2,7 +2,7 @@
 
 use mrpc_base::{MemSink, MemSource};
 use mrpc_top::{
-    DONE, INPUT_FAILED, NO_COMMAND, OUTPUT_FAILED, WIRE_FAILED, one_check, one_decoding,
+    DONE, INPUT_FAILED, NO_COMMAND, OUTPUT_FAILED, WIRE_FAILED, one_audit, one_check, one_decoding,
     run_command,
 };
 use std::alloc::{AllocError, Global};
@@ -124,5 +124,18 @@ fn a_proto_file_is_checked(rt: HostRuntime) -> Result<(), Fail> {
     assert!(rt; left.status == DONE);
     assert!(rt; left.out.written() == b"message M\n".as_slice());
     assert!(rt; left.wire.written().is_empty());
+    Ok(())
+}
+
+#[test]
+fn an_audit_is_judged_and_its_line_may_fail(rt: HostRuntime) -> Result<(), Fail> {
+    let input = b"mrpc-audit 1\ntable\nend\naudit\nmoment 1 0\n";
+    let left = run(rt.alloc(), "audit", input, &[], &[], &[])?;
+    one_audit();
+    assert!(rt; left.status == DONE);
+    assert!(rt; left.out.written() == b"illegal 5 c\n".as_slice());
+    let left = run(rt.alloc(), "audit", input, &[], &[1], &[])?;
+    assert!(rt; left.status == OUTPUT_FAILED);
+    assert!(rt; left.out.written().is_empty());
     Ok(())
 }
