@@ -1,6 +1,7 @@
-// What the program `conn_bench` does, with protobuf's DynamicMessage: a connection whose chain has a std::deque of calls
-// for each engine, and one of those that are ready. A message is copied from the words of a heap by reflection, judged by
-// reflection, and serialized deterministically. bench/conn builds it, and compares what the two programs write.
+// What the program `conn_bench` does, with protobuf's DynamicMessage: a connection whose chain has a std::deque of
+// calls for each engine, and one of those that are ready. A message is copied from the words of a heap by reflection,
+// judged by reflection, and serialized deterministically. bench/conn builds it, and compares what the two programs
+// write.
 //
 //     conn_peer steps|calls|again|judged|frames CALLS ROUNDS
 //
