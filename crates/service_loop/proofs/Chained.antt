@@ -1,13 +1,12 @@
 -- The chain that steps make, and that it refuses none of them.
-use Rattle.std.proofs.Common.{◌≡◌, ℕ, ◌+◌, ◌<◌, ◌≤◌, ◌^◌, not, if◌then◌else◌, cond, List, [], ◌∷◌, ◌++◌, length, map, filter, take, drop, refl, ap, sym, ◌∙◌, subst, arith, append_assoc, append-nil, length-append, length-take, true, false, Bool}
-use Rattle.std.specs.Prelude.{All, Some, None, Option, IsSomeAnd, slice_get}
+use Rattle.std.proofs.Common.{◌≡◌, ℕ, ◌+◌, ◌<◌, ◌≤◌, ◌^◌, not, if◌then◌else◌, cond, List, [], ◌∷◌, ◌++◌, length, map, take, drop, refl, ap, sym, ◌∙◌, subst, arith, length-take, true, false, Bool}
+use Rattle.std.specs.Prelude.{All, Some, Option, IsSomeAnd, slice_get}
 use Rattle.std.specs.List.{AllZip}
 use Rattle.std.proofs.lemmas.List.{map-append, length-map, take-append-drop}
 use Rattle.std.proofs.lemmas.List.Elements.{All-append, All-cons, All-drop, All-filter, All-get_or, All-head, All-nil, All-tail, All-take, All-map, All-weaker}
 use Rattle.std.proofs.lemmas.Option.{get_or_from_slice_get, slice_get_within}
-use Rattle.engine_core.specs.Chains.{Chain, Changes, Entry, IsAgainst, Refusal, Refuses, changed, is_named, new_entry, upgraded}
+use Rattle.engine_core.specs.Chains.{Chain, Changes, Entry, Refuses, changed, is_named, new_entry, upgraded}
 use Rattle.engine_core.specs.Engines.{EngineParts}
-use Rattle.engine_core.specs.Policies.{IsPolicy}
 use Rattle.engine_core.specs.declared.op.Op.{Op as Step}
 use Rattle.engine_core.specs.declared.op.Op.TheVariants.{Attach, Detach, Upgrade}
 use Rattle.engine_core.specs.declared.policy.Policy.{Policy}
@@ -40,7 +39,8 @@ pub chain-is : (past : Behind) → chain past ≡ changed_by (ops_in past) empty
 chain-is [] = refl
 chain-is (what.Op step ∷ past) =
     ap (changed step) (chain-is past) ∙ sym (changed-snoc (ops_in past) step empty_chain) ∙ ap
-    (λ ops. changed_by ops empty_chain) (sym (map-append (λ (came : Step × ℕ). came.0) (steps_in past) ((step, length (taken past)) ∷ [])))
+    (λ ops. changed_by ops empty_chain)
+    (sym (map-append (λ (came : Step × ℕ). came.0) (steps_in past) ((step, length (taken past)) ∷ [])))
 chain-is (what.Took call ∷ past) = chain-is past
 chain-is (what.Away method number addr ∷ past) = chain-is past
 chain-is (what.Moment ms ∷ past) = chain-is past
@@ -70,7 +70,8 @@ pub record IsBounded (P : Policy → Type 0) (n : ℕ) (c : Chain) : Type 0 wher
 
 more : (n : ℕ) (entries : List Entry) → All (λ e. e.version ≤ n + 1) entries → All (λ e. e.version ≤ n + 1 + 1) entries
 more n entries all =
-    All-weaker (λ (e : Entry). e.version ≤ n + 1) (λ (e : Entry). e.version ≤ n + 1 + 1) (λ e h. omega (arith, h)) entries all
+    All-weaker (λ (e : Entry). e.version ≤ n + 1) (λ (e : Entry). e.version
+    ≤ n + 1 + 1) (λ e h. omega (arith, h)) entries all
 
 upgraded-version : (n : ℕ) (b : Bool) (policy : Policy) (e : Entry) → e.version ≤ n + 1
     → (cond b (upgraded e policy) e).version ≤ n + 1 + 1
@@ -86,11 +87,14 @@ bounded-step : (P : Policy → Type 0) (n : ℕ) (c : Chain) (step : Step) → I
     → IsBounded P (n + 1) (changed step c)
 bounded-step P n c (Attach at name label policy) new h = record {
   attached = omega (arith, h.attached);
-  versions = All-append (λ (e : Entry). e.version ≤ n + 1 + 1) (take at c.entries) (new_entry name (c.attached + 1) policy ∷ drop at c.entries)
+  versions = All-append (λ (e : Entry). e.version ≤ n + 1 + 1) (take at c.entries)
+      (new_entry name (c.attached + 1) policy ∷ drop at c.entries)
       (All-take (λ (e : Entry). e.version ≤ n + 1 + 1) at c.entries (more n c.entries h.versions))
-      (All-cons (λ (e : Entry). e.version ≤ n + 1 + 1) (new_entry name (c.attached + 1) policy) (drop at c.entries) (omega arith)
+      (All-cons (λ (e : Entry). e.version ≤ n + 1 + 1) (new_entry name (c.attached + 1) policy) (drop at c.entries)
+      (omega arith)
       (All-drop (λ (e : Entry). e.version ≤ n + 1 + 1) at c.entries (more n c.entries h.versions)));
-  policies = All-append (λ (e : Entry). P e.policy) (take at c.entries) (new_entry name (c.attached + 1) policy ∷ drop at c.entries)
+  policies = All-append (λ (e : Entry). P e.policy) (take at c.entries) (new_entry name (c.attached + 1) policy
+      ∷ drop at c.entries)
       (All-take (λ (e : Entry). P e.policy) at c.entries h.policies)
       (All-cons (λ (e : Entry). P e.policy) (new_entry name (c.attached + 1) policy) (drop at c.entries) new
       (All-drop (λ (e : Entry). P e.policy) at c.entries h.policies));
@@ -108,7 +112,8 @@ bounded-step P n c (Upgrade name label policy) new h = record {
       (All-weaker (λ (e : Entry). e.version ≤ n + 1)
       (λ (e : Entry). (if is_named name e then upgraded e policy else e).version ≤ n + 1 + 1)
       (λ e old. upgraded-version n (is_named name e) policy e old) c.entries h.versions);
-  policies = All-map (λ (e : Entry). P e.policy) (λ (e : Entry). if is_named name e then upgraded e policy else e) c.entries
+  policies = All-map (λ (e : Entry). P e.policy) (λ (e : Entry). if is_named name e then upgraded e policy
+      else e) c.entries
       (All-weaker (λ (e : Entry). P e.policy)
       (λ (e : Entry). P (if is_named name e then upgraded e policy else e).policy)
       (λ e old. upgraded-policy P (is_named name e) policy e new old) c.entries h.policies);
@@ -141,7 +146,8 @@ pub record HasEngines (P : Policy → Type 0) (n : ℕ) (c : ChainParts) : Type 
 pub engines-bounded : (P : Policy → Type 0) (all : Option ℕ) (c : Connection) (steps : List DueStep) → IsConnection c
     → HaveCome all (behind c) steps → All (λ due. IfPolicy due.step P) steps → HasEngines P (length steps) c.chain
 engines-bounded P all c steps h came policies =
-    let ops : ops_in (behind c) ≡ map (λ (due : DueStep). due.step) steps = ops-come all (steps_in (behind c)) steps came in
+    let ops : ops_in (behind c) ≡ map (λ (due : DueStep). due.step) steps =
+    ops-come all (steps_in (behind c)) steps came in
     let is : chain_of c.chain ≡ changed_by (map (λ (due : DueStep). due.step) steps) empty_chain =
     h.same_chain ∙ chain-is (behind c) ∙ ap (λ ops. changed_by ops empty_chain) ops in
     let bounded : IsBounded P (0 + length (map (λ (due : DueStep). due.step) steps)) (chain_of c.chain) =

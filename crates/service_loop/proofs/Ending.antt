@@ -1,5 +1,5 @@
 -- What drains and the end of a link leave of submissions.
-use Rattle.std.proofs.Common.{◌≡◌, ℕ, Bool, true, false, List, [], ◌∷◌, ◌++◌, map, take, refl, ap, sym, ◌∙◌, subst, append-nil}
+use Rattle.std.proofs.Common.{◌≡◌, ℕ, true, false, List, [], ◌∷◌, map, sym, ◌∙◌, subst, append-nil}
 use Rattle.mrpc_base.specs.Faults.{HasCause}
 use Rattle.shared_heap.specs.Fresh.{Reading}
 use Rattle.descriptor_ring.specs.Rings.{Receiving}
@@ -15,7 +15,6 @@ use Rattle.call_history.specs.declared.happening.Happening.TheVariants.{Refused}
 use Rattle.call_history.specs.declared.happening.Taken.{Taken}
 use Rattle.conn_core.specs.Connections.{Connection, IsSame, behind, course, frames, under}
 use Rattle.conn_core.specs.Steps.{Steps}
-use Rattle.service_loop.specs.Calls.{moments_at_calls, moments_in}
 use Rattle.service_loop.specs.Serving.{IsServed, Serves}
 use Rattle.service_loop.specs.Within.{HasDrained}
 use Rattle.service_loop.specs.declared.due_step.DueStep.{DueStep}
@@ -63,7 +62,8 @@ frames-failed a b same step = frames-from a b same (none-failed (under a) (cours
 served-by : (old : Submissions) (b : Connection) → Steps old.conn fails b → IsSame old.conn b
     → IsCourse (under b) (course b) → IsServed old → IsServed (record old { conn = b })
 served-by old b step same is-course h =
-    let views : SameViews (behind old.conn) (behind b) = views-failed (under old.conn) (course old.conn) (course b) step in
+    let views : SameViews (behind old.conn) (behind b) =
+    views-failed (under old.conn) (course old.conn) (course b) step in
     let ended : b.ended ≡ true = (failed-in (under old.conn) (course old.conn) (course b) step).ended in
     record {
       serving = serves-beside old.conn b old.reader old.calls old.steps.now old.applied old.accepted same

@@ -1,9 +1,9 @@
 -- What a step, a moment and an acceptance leave behind.
-use Rattle.std.proofs.Common.{◌≡◌, ◌⊎◌, inl, inr, ℕ, ◌+◌, ◌<◌, ◌≤◌, false, List, [], ◌∷◌, ◌++◌, length, refl, ap, sym, ◌∙◌, subst, append-nil}
+use Rattle.std.proofs.Common.{◌≡◌, ◌⊎◌, inl, inr, ℕ, ◌≤◌, [], ◌∷◌, ◌++◌, refl, ap, sym, ◌∙◌, subst, append-nil}
 use Rattle.mrpc_table.specs.declared.table.Table.{Table}
 use Rattle.engine_core.specs.declared.op.Op.{Op as Step}
 use Rattle.call_history.specs.Behind.{Behind, moment, taken}
-use Rattle.call_history.specs.Events.{Comes, Course, accepted, accepts, changes, has_turn, is_away, is_sent, link_failed, operates, rises, shows, stays, takes}
+use Rattle.call_history.specs.Events.{Comes, Course, accepts, changes, has_turn, is_away, is_sent, link_failed, operates, rises, shows, stays, takes}
 use Rattle.call_history.specs.Frames.{frames_behind}
 use Rattle.call_history.specs.Rules.{MayTake, Under}
 use Rattle.call_history.specs.Tickets.{tickets_behind}
@@ -12,7 +12,7 @@ use Rattle.call_history.specs.declared.happening.Happening.TheVariants.{Moment, 
 use Rattle.call_history.specs.declared.happening.Taken.{Taken}
 use Rattle.call_history.specs.declared.happening.TookCopy.{TookCopy}
 use Rattle.call_history.specs.declared.happening.TookCopy.TheVariants.{Copy, Malformed}
-use Rattle.conn_core.specs.Connections.{Connection, IsSame, behind, course, frames, under}
+use Rattle.conn_core.specs.Connections.{Connection, IsSame, behind, frames}
 use Rattle.service_loop.specs.Calls.{moments_at_calls, moments_in, turned_away}
 use Rattle.service_loop.specs.Steps.{steps_in}
 

@@ -1,6 +1,6 @@
 -- What holds of submissions as they go on.
-use Rattle.std.proofs.Common.{◌≡◌, ◌⊎◌, inl, inr, ℕ, ◌+◌, ◌<◌, ◌≤◌, Bool, true, false, List, [], ◌∷◌, ◌++◌, length, map, flat_map, take, drop, refl, ap, sym, ◌∙◌, subst, arith, append_assoc, append-nil}
-use Rattle.std.specs.Prelude.{Option, Some, None, slice_get}
+use Rattle.std.proofs.Common.{◌≡◌, ◌⊎◌, ℕ, ◌+◌, ◌≤◌, Bool, true, false, List, [], ◌∷◌, ◌++◌, length, map, flat_map, take, drop, refl, ap, sym, ◌∙◌, subst, arith, append_assoc, append-nil}
+use Rattle.std.specs.Prelude.{Some, slice_get}
 use Rattle.std.specs.List.{AllZip}
 use Rattle.std.proofs.lemmas.List.{map-append, length-append}
 use Rattle.std.proofs.lemmas.Grind.{flat_map-append}
@@ -8,18 +8,17 @@ use Rattle.mrpc_table.specs.declared.table.Table.{Table}
 use Rattle.shared_heap.specs.Fresh.{CallLoads, Fresh, HeapId, Reading, word_of}
 use Rattle.descriptor_ring.specs.Rings.{Receiving}
 use Rattle.descriptor_ring.specs.declared.descriptor.Descriptor.{Descriptor}
-use Rattle.call_history.specs.Behind.{Behind, taken}
+use Rattle.call_history.specs.Behind.{taken}
 use Rattle.call_history.specs.Loads.{IsLoaded, Loads}
 use Rattle.call_history.specs.declared.happening.Taken.{Taken}
 use Rattle.conn_core.specs.Connections.{Connection, IsSame, behind, course, under}
 use Rattle.conn_core.specs.Steps.{Accepts}
-use Rattle.conn_core.specs.declared.answers.Ask.{Ask}
 use Rattle.service_loop.specs.Calls.{AcceptsAll, AreReaders, HasLoads, ask_of, asked, turned_away}
 use Rattle.service_loop.specs.Serving.{Serves}
 use Rattle.service_loop.specs.Steps.{CountsAscend, HaveCome, all_taken, steps_in}
 use Rattle.service_loop.specs.declared.due_step.DueStep.{DueStep}
-use Rattle.service_loop.proofs.Coming.{ascend-lower, come-beside, come-next, come-open, left-next}
-use Rattle.service_loop.proofs.Events.{HasAccepted, HasStepped, TakesIn, accepted-in}
+use Rattle.service_loop.proofs.Coming.{come-beside, come-next, come-open, left-next}
+use Rattle.service_loop.proofs.Events.{HasAccepted, HasStepped, accepted-in}
 use Rattle.service_loop.proofs.Lists.{IsAt, zip-push}
 
 -- ---- where no call is taken
@@ -103,7 +102,8 @@ serves-given-up c r old new steps applied count d ended items closed heap h = re
   loads = h.loads;
   calls = record {
     given_up = h.calls.given_up ++ ask_of d ∷ [];
-    in_order = ap (map ask_of) items ∙ map-append ask_of old.taken (d ∷ []) ∙ ap (λ xs. xs ++ ask_of d ∷ []) h.calls.in_order
+    in_order = ap (map ask_of) items ∙ map-append ask_of old.taken (d ∷ []) ∙ ap (λ xs. xs
+        ++ ask_of d ∷ []) h.calls.in_order
         ∙ append_assoc (map asked (taken (behind c))) h.calls.given_up (ask_of d ∷ []);
     all = λ is. absurd (let wrong : true ≡ false = sym ended ∙ is in cc);
     none_away = h.calls.none_away;
@@ -167,20 +167,37 @@ pub serves-call : (a b : Connection) (r s : Reading) (old new : Receiving) (step
     → new.taken ≡ old.taken ++ d ∷ [] → old.closed ≡ false → new.closed ≡ false → new.heap ≡ old.heap
     → CountsAscend (count + 1) (drop applied steps) → Serves a r old steps applied count
     → Serves b s new steps applied seq
-serves-call a b r s old new steps applied count seq H d own same linked size accepts read items unclosed-before unclosed heap left h =
+serves-call a b r s old new steps applied count seq H d own same linked size accepts read items unclosed-before unclosed
+    heap left h =
     let in' : HasAccepted (under a) accepts.call (course a) (course b) =
     accepted-in (under a) (course a) (course b) accepts.call accepts.step in
     let words : s.heap.words ≡ r.heap.words = ap (λ (x : HeapId). x.words) read.heap in
     let number : seq ≡ count + 1 =
     sym accepts.number ∙ in'.may.number ∙ ap (λ (n : ℕ). n + 1) (sym h.count) in
     let ask : asked accepts.call ≡ ask_of d =
-    ap (λ (n : ℕ). record { method = n; number = accepts.call.number; addr = accepts.call.addr; after = accepts.call.after }) accepts.method
-    ∙ ap (λ (n : ℕ). record { method = d.method; number = n; addr = accepts.call.addr; after = accepts.call.after }) accepts.request
-    ∙ ap (λ (n : ℕ). record { method = d.method; number = d.number; addr = n; after = accepts.call.after }) accepts.address
+    ap (λ (n : ℕ). record {
+      method = n;
+      number = accepts.call.number;
+      addr = accepts.call.addr;
+      after = accepts.call.after;
+    }) accepts.method
+    ∙ ap (λ (n : ℕ). record {
+      method = d.method;
+      number = n;
+      addr = accepts.call.addr;
+      after = accepts.call.after;
+    }) accepts.request
+    ∙ ap (λ (n : ℕ). record {
+      method = d.method;
+      number = d.number;
+      addr = n;
+      after = accepts.call.after;
+    }) accepts.address
     ∙ ap (λ (n : ℕ). record { method = d.method; number = d.number; addr = d.addr; after = n }) accepts.stores in
     let none-up : h.calls.given_up ≡ [] = h.calls.all linked in
     let before : map ask_of old.taken ≡ map asked (taken (behind a)) =
-    h.calls.in_order ∙ ap (λ xs. map asked (taken (behind a)) ++ xs) none-up ∙ append-nil (map asked (taken (behind a))) in
+    h.calls.in_order ∙ ap (λ xs. map asked (taken (behind a)) ++ xs) none-up ∙ append-nil
+    (map asked (taken (behind a))) in
     record {
       least_heap = omega (arith, words, h.least_heap);
       greatest_heap = omega (arith, words, h.greatest_heap);
@@ -188,11 +205,15 @@ serves-call a b r s old new steps applied count seq H d own same linked size acc
       are_steps = h.are_steps;
       loads = record {
         calls = h.loads.calls ++ (record { after = accepts.call.after; loads = own }) ∷ [];
-        each = subst (λ (T : Table). AllZip (HasLoads T s.heap.words b.limit) (taken (behind b)) (h.loads.calls ++ (record { after = accepts.call.after; loads = own }) ∷ [])) (sym same.table)
-            (subst (λ (n : ℕ). AllZip (HasLoads a.table s.heap.words n) (taken (behind b)) (h.loads.calls ++ (record { after = accepts.call.after; loads = own }) ∷ [])) (sym same.limit)
-            (subst (λ (xs : List Taken). AllZip (HasLoads a.table s.heap.words a.limit) xs (h.loads.calls ++ (record { after = accepts.call.after; loads = own }) ∷ [])) (sym in'.views.taken)
+        each = subst (λ (T : Table). AllZip (HasLoads T s.heap.words b.limit) (taken (behind b)) (h.loads.calls
+            ++ (record { after = accepts.call.after; loads = own }) ∷ [])) (sym same.table)
+            (subst (λ (n : ℕ). AllZip (HasLoads a.table s.heap.words n) (taken (behind b)) (h.loads.calls
+            ++ (record { after = accepts.call.after; loads = own }) ∷ [])) (sym same.limit)
+            (subst (λ (xs : List Taken). AllZip (HasLoads a.table s.heap.words a.limit) xs (h.loads.calls
+            ++ (record { after = accepts.call.after; loads = own }) ∷ [])) (sym in'.views.taken)
             (readers-more a.table s.heap.words a.limit (taken (behind a)) h.loads.calls accepts.call own
-            (subst (λ (n : ℕ). AllZip (HasLoads a.table n a.limit) (taken (behind a)) h.loads.calls) (sym words) h.loads.each)
+            (subst (λ (n : ℕ). AllZip (HasLoads a.table n a.limit) (taken (behind a)) h.loads.calls)
+            (sym words) h.loads.each)
             (subst (λ (n : ℕ). IsLoaded a.table n a.limit accepts.call own) (size ∙ sym words) accepts.loaded))));
         all = more-loads h.loads.calls (record { after = accepts.call.after; loads = own }) (map word_of r.loads)
             (map word_of s.loads) h.loads.all read.adds;
@@ -213,6 +234,7 @@ serves-call a b r s old new steps applied count seq H d own same linked size acc
       within = h.within;
       came = subst (λ (x : Bool). HaveCome (all_taken x (behind b)) (behind b) (take applied steps)) (sym unclosed)
           (come-open (behind a) (behind b) (take applied steps) in'.views.steps
-          (subst (λ (x : Bool). HaveCome (all_taken x (behind a)) (behind a) (take applied steps)) unclosed-before h.came));
+          (subst (λ (x : Bool). HaveCome (all_taken x (behind a)) (behind a) (take applied steps)) unclosed-before
+          h.came));
       left = subst (λ (n : ℕ). CountsAscend n (drop applied steps)) (sym number) left;
     }

@@ -1,31 +1,31 @@
 -- What each part of a round leaves.
-use Rattle.std.proofs.Common.{◌≡◌, ◌⊎◌, inl, inr, ℕ, ◌+◌, ◌<◌, ◌≤◌, Bool, true, false, List, [], ◌∷◌, ◌++◌, length, map, drop, refl, ap, sym, ◌∙◌, subst, arith}
+use Rattle.std.proofs.Common.{◌≡◌, inl, inr, ℕ, ◌+◌, ◌<◌, ◌≤◌, true, List, [], ◌∷◌, ◌++◌, length, map, drop, ap, sym, ◌∙◌, subst, arith}
 use Rattle.std.specs.Prelude.{Some, slice_get}
 use Rattle.std.proofs.lemmas.List.{drop_all}
 use Rattle.mrpc_base.specs.Heap.{AfterLoads}
 use Rattle.shared_heap.specs.Fresh.{AfterLoad, BeginsWith, CallLoads, Fresh, HasLoaded, Reading, word_of}
 use Rattle.shared_heap.specs.declared.view.Load.{Load}
 use Rattle.engine_core.specs.declared.op.Op.{Op as Step}
-use Rattle.call_history.specs.Behind.{moment, taken}
-use Rattle.call_history.specs.Draining.{BeginsToDrain, Drains}
-use Rattle.call_history.specs.Events.{Comes, Course, accepts, fails, operates, shows}
+use Rattle.call_history.specs.Behind.{moment}
+use Rattle.call_history.specs.Events.{shows}
 use Rattle.call_history.specs.Loads.{Loads}
 use Rattle.call_history.specs.declared.happening.Taken.{Taken}
 use Rattle.conn_core.specs.Connections.{Connection, IsSame, behind, course, under}
 use Rattle.conn_core.specs.Steps.{Reads, Steps}
 use Rattle.service_loop.specs.Calls.{moments_at_calls, moments_in}
 use Rattle.service_loop.specs.Steps.{CountsAscend}
-use Rattle.service_loop.specs.Within.{HasDrained, Shows, StaysBeside, TakesNow}
+use Rattle.service_loop.specs.Within.{HasDrained, Shows, StaysBeside}
 use Rattle.service_loop.specs.declared.due_step.DueStep.{DueStep}
 use Rattle.service_loop.proofs.Coming.{ascend-above}
-use Rattle.service_loop.proofs.Events.{HandsNone, HasAccepted, HasShown, HasStepped, frames-from, hands-none, none-shown, none-stepped, shown-in, stepped-in}
+use Rattle.service_loop.proofs.Events.{HandsNone, HasAccepted, HasShown, HasStepped, frames-from, hands-none, none-shown, none-stepped, shown-in}
 use Rattle.service_loop.proofs.Going.{HasRead}
 use Rattle.service_loop.proofs.Lists.{IsAt, is-at}
-use Rattle.service_loop.proofs.Views.{SameViews, StaysLinked, linked-drained, views-failing, failed-in}
+use Rattle.service_loop.proofs.Views.{SameViews}
 
 -- ---- steps
 
-stepped-none : (a b : Connection) (step : Step) → HasStepped (course a) (course b) step → HandsNone (behind a) (behind b)
+stepped-none : (a b : Connection) (step : Step) → HasStepped (course a) (course b) step
+    → HandsNone (behind a) (behind b)
 stepped-none a b step stepped = subst (HandsNone (behind a)) (sym stepped.past) (none-stepped (behind a) step)
 
 pub beside-stepped : (a b : Connection) (step : Step) → IsSame a b → HasStepped (course a) (course b) step
@@ -41,7 +41,8 @@ beside-stepped a b step same stepped = record {
 
 -- the first step that is left isn't due
 pub none-due : (steps : List DueStep) (applied accepted : ℕ) (due : DueStep) → slice_get steps applied ≡ Some due
-    → accepted < due.count → CountsAscend accepted (drop applied steps) → CountsAscend (accepted + 1) (drop applied steps)
+    → accepted < due.count → CountsAscend accepted (drop applied steps)
+    → CountsAscend (accepted + 1) (drop applied steps)
 none-due steps applied accepted due found above left =
     let at : IsAt steps applied due = is-at steps applied due found in
     subst (CountsAscend (accepted + 1)) (sym at.from)
@@ -58,7 +59,8 @@ shows-by a b now same step =
     let shown : HasShown (course a) (course b) now = shown-in (under a) (course a) (course b) now step in
     elim shown.which [
       | inl stays ↦
-          let none : HandsNone (behind a) (behind b) = subst (HandsNone (behind a)) (sym stays.0) (hands-none (behind a)) in
+          let none : HandsNone (behind a) (behind b) =
+          subst (HandsNone (behind a)) (sym stays.0) (hands-none (behind a)) in
           record {
             same = same;
             frames = frames-from a b same none;
@@ -69,7 +71,8 @@ shows-by a b now same step =
             latest = subst (λ (n : ℕ). now ≤ n) (sym (ap moment stays.0)) stays.1;
           }
       | inr rose ↦
-          let none : HandsNone (behind a) (behind b) = subst (HandsNone (behind a)) (sym rose) (none-shown (behind a) now) in
+          let none : HandsNone (behind a) (behind b) =
+          subst (HandsNone (behind a)) (sym rose) (none-shown (behind a) now) in
           let latest : moment (behind b) ≡ now = ap moment rose in
           record {
             same = same;

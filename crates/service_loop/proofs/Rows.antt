@@ -1,12 +1,11 @@
 -- The definitions on small histories.
-use Rattle.std.proofs.Common.{◌≡◌, ◌⊎◌, inl, inr, ℕ, ◌<◌, List, [], ◌∷◌, refl, arith}
+use Rattle.std.proofs.Common.{◌≡◌, inr, [], ◌∷◌, refl, arith}
 use Rattle.std.specs.Prelude.{Some, None}
 use Rattle.engine_core.specs.declared.op.Op.{Op as Step}
 use Rattle.call_history.specs.declared.happening.Happening.TheVariants.{Away, Moment, Op, Took}
 use Rattle.call_history.specs.declared.happening.Taken.{Taken}
 use Rattle.service_loop.specs.Calls.{moments_at_calls, moments_in, turned_away}
 use Rattle.service_loop.specs.Steps.{CountsAscend, IsInPlace, steps_in}
-use Rattle.service_loop.specs.declared.due_step.DueStep.{DueStep}
 
 -- a step before the first call and one behind it
 steps-row : (first second : Step) (call : Taken)

@@ -1,9 +1,8 @@
 -- A descriptor that was taken, and what comes of it.
-use Rattle.std.proofs.Common.{◌≡◌, ℕ, Bool, true, false, List, [], ◌∷◌, ◌++◌, Ok, Err, OnOk, map, take, refl, ap, sym, ◌∙◌, subst}
+use Rattle.std.proofs.Common.{◌≡◌, ℕ, Bool, true, false, List, Ok, Err, OnOk, map, refl, sym, ◌∙◌, subst}
 use Rattle.std.specs.Prelude.{Result}
 use Rattle.mrpc_table.specs.declared.memory.Memory.{Memory}
 use Rattle.shared_heap.specs.Fresh.{Reading}
-use Rattle.descriptor_ring.specs.Rings.{Receiving}
 use Rattle.descriptor_ring.specs.declared.descriptor.Descriptor.{Descriptor}
 use Rattle.call_history.specs.Behind.{Behind}
 use Rattle.call_history.specs.Places.{IsSettled}

@@ -58,7 +58,8 @@ one-charged seq name left past = record {
   moment = refl;
 }
 
-one-drawn : (seq : ℕ) (name : List ℕ) (window : ℕ) (ticket : ℕ) (past : Behind) → SameViews past (Drawn seq name window ticket ∷ past)
+one-drawn : (seq : ℕ) (name : List ℕ) (window : ℕ) (ticket : ℕ) (past : Behind)
+    → SameViews past (Drawn seq name window ticket ∷ past)
 one-drawn seq name window ticket past = record {
   taken = refl;
   steps = refl;
@@ -78,7 +79,8 @@ one-counted seq name past = record {
   moment = refl;
 }
 
-one-redacted : (seq : ℕ) (name : List ℕ) (version : ℕ) (past : Behind) → SameViews past (Redacted seq name version ∷ past)
+one-redacted : (seq : ℕ) (name : List ℕ) (version : ℕ) (past : Behind)
+    → SameViews past (Redacted seq name version ∷ past)
 one-redacted seq name version past = record {
   taken = refl;
   steps = refl;

@@ -1,5 +1,5 @@
 -- The calls of a connection, as its history and its heap tell them (this project's own).
-use Rattle.std.specs.Prelude.{◌≡◌, ℕ, ◌+◌, Bool, false, List, [], ◌∷◌, ◌++◌, map, flat_map, All}
+use Rattle.std.specs.Prelude.{◌≡◌, ℕ, ◌+◌, false, List, [], ◌∷◌, ◌++◌, map, flat_map}
 use Rattle.std.specs.List.{AllZip}
 use Rattle.mrpc_table.specs.declared.table.Table.{Table}
 use Rattle.shared_heap.specs.Fresh.{CallLoads, Fresh, Reading, word_of}

@@ -1,5 +1,5 @@
 -- The code's own: what the parts of a round leave as it was.
-use Rattle.std.specs.Prelude.{◌≡◌, ◌⊎◌, ℕ, ◌+◌, ◌≤◌, ◌<◌, Bool, true, false, [], ◌∷◌, ◌++◌, length, drop, Some, slice_get}
+use Rattle.std.specs.Prelude.{◌≡◌, ◌⊎◌, ℕ, ◌+◌, ◌≤◌, Bool, true, false, [], ◌∷◌, ◌++◌, length, drop, Some, slice_get}
 use Rattle.call_history.specs.Behind.{moment}
 use Rattle.call_history.specs.Tickets.{tickets_behind}
 use Rattle.conn_core.specs.Connections.{Connection, IsSame, behind, frames}

@@ -6,8 +6,8 @@
 //! a round that concerns calls. It shares nothing with other threads but the heap and the ring, has no lock, and may be
 //! driven by any loop. `specs/Serving.antt` says what holds behind each round. It stands on `conn_core`, `shared_heap`
 //! and `descriptor_ring`. The layers above use one contract: as far as it has come, the history is legal, its loads are
-//! those of the reader and fresh, its calls are those of the ring, all and in order, the steps came where they were due,
-//! each moment is the clock's, and what the link was handed is the frames of the history.
+//! those of the reader and fresh, its calls are those of the ring, all and in order, the steps came where they were
+//! due, each moment is the clock's, and what the link was handed is the frames of the history.
 #![tactic(auto)]
 
 mod activity;

@@ -92,8 +92,9 @@ impl<'t> Submissions<'t> {
         }
     }
 
-    /// Makes the part of a round that concerns calls: the steps of operators that are due come to the chain, the clock's
-    /// moment is shown, at most one call is taken unless as many stand as may, and what can go on is judged and sent.
+    /// Makes the part of a round that concerns calls: the steps of operators that are due come to the chain, the
+    /// clock's moment is shown, at most one call is taken unless as many stand as may, and what can go on is judged and
+    /// sent.
     /// Behind the closing of the ring all steps that are left come, and the link's sending side is ended; from then on
     /// there is nothing to do. A link that fails ends the connection, whose further submissions are given up. After
     /// `Memory` the parts are still of the same heap and ring, and no more is said of them.

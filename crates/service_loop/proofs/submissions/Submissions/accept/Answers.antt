@@ -1,4 +1,4 @@
-use Rattle.std.proofs.Common.{◌≡◌, ℕ, true, false, refl, ap, sym, ◌∙◌, subst}
+use Rattle.std.proofs.Common.{◌≡◌, false, refl, ap, sym, ◌∙◌}
 use Rattle.shared_heap.specs.Fresh.{HeapId}
 use Rattle.service_loop.proofs.Going.{serves-call}
 use Rattle.service_loop.proofs.Parts.{read-by}

@@ -1,4 +1,4 @@
-use Rattle.std.proofs.Common.{◌≡◌, ℕ, true, false, refl, ap, sym, ◌∙◌, subst}
+use Rattle.std.proofs.Common.{◌≡◌, ap, ◌∙◌, subst}
 use Rattle.std.specs.Prelude.{IsSomeAnd}
 use Rattle.std.proofs.lemmas.Option.{get_or_from_slice_get}
 use Rattle.engine_core.specs.Chains.{Refuses}
@@ -10,7 +10,7 @@ use Rattle.conn_core.specs.Connections.{behind, course, under}
 use Rattle.conn_core.specs.Steps.{Steps}
 use Rattle.service_loop.specs.Steps.{all_taken}
 use Rattle.service_loop.specs.declared.due_step.DueStep.{DueStep}
-use Rattle.service_loop.proofs.Chained.{HasEngines, engines-first, few-attached, few-versions, never-refused}
+use Rattle.service_loop.proofs.Chained.{engines-first, few-attached, few-versions, never-refused}
 use Rattle.service_loop.proofs.Events.{stepped-in}
 use Rattle.service_loop.proofs.Going.{serves-step}
 use Rattle.service_loop.proofs.Lists.{is-at}

@@ -1,7 +1,6 @@
-use Rattle.std.proofs.Common.{◌≡◌, ℕ, true, false, inl, inr, refl, sym, ◌∙◌}
+use Rattle.std.proofs.Common.{◌≡◌, false, inl, inr, refl, sym, ◌∙◌}
 use Rattle.engine_core.specs.Policies.{KnowsTenantOf}
-use Rattle.call_history.specs.Events.{Course}
-use Rattle.conn_core.specs.Connections.{Connection, behind, course, under}
+use Rattle.conn_core.specs.Connections.{behind}
 use Rattle.conn_core.specs.declared.answers.Drained.TheVariants as drained
 use Rattle.service_loop.specs.Steps.{all_taken}
 use Rattle.service_loop.proofs.Chained.{engines-first}
@@ -22,7 +21,8 @@ returns-in-Done g c =
     let unended : c.args.self.now.conn.ended ≡ false = untrue c.args.self.now.conn.ended c.if-ended.ensures.1 in
     let ends : Ends (c.drain-drained.result ≡ drained.Failed) c.args.self.now.conn c.drain-drained.new.self =
     elim c.in-Done.is [
-      | inl is ↦ ends-done (c.drain-drained.result ≡ drained.Failed) c.args.self.now.conn c.drain-drained.new.self unended
+      | inl is ↦ ends-done (c.drain-drained.result
+          ≡ drained.Failed) c.args.self.now.conn c.drain-drained.new.self unended
           (λ failed. (let wrong : drained.Done ≡ drained.Failed = sym is ∙ failed in cc))
           (c.drain-drained.ensures.done is) (c.drain-drained.ensures.settled is)
       | inr is ↦ ends-failed (c.drain-drained.result ≡ drained.Failed) c.args.self.now.conn c.drain-drained.new.self
@@ -34,7 +34,8 @@ returns-in-Done g c =
           c.args.self.now.reader c.args.self.now.calls c.args.self.now.steps.now c.args.self.now.applied
           c.args.self.now.accepted ends c.drain-drained.ensures.same c.requires.serving;
       settled = ends.settled;
-      drained = drained-ends (c.drain-drained.result ≡ drained.Failed) c.args.self.now.conn c.drain-drained.new.self ends;
+      drained = drained-ends (c.drain-drained.result
+          ≡ drained.Failed) c.args.self.now.conn c.drain-drained.new.self ends;
       handed = c.drain-drained.ensures.handed;
       draws = c.drain-drained.ensures.draws;
       cause = cause-ends (c.drain-drained.result ≡ drained.Failed) c.args.self.now.conn c.drain-drained.new.self

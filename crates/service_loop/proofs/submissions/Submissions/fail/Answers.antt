@@ -1,9 +1,9 @@
-use Rattle.std.proofs.Common.{◌≡◌, ℕ, true, false, refl, ap, sym, ◌∙◌, subst}
-use Rattle.conn_core.specs.Connections.{Connection, behind, course, frames, under}
+use Rattle.std.proofs.Common.{ap, sym, ◌∙◌, subst}
+use Rattle.conn_core.specs.Connections.{behind, course, frames, under}
 use Rattle.service_loop.specs.Calls.{moments_at_calls, moments_in}
 use Rattle.service_loop.specs.Serving.{IsServed}
 use Rattle.service_loop.specs.declared.submissions.Submissions.{Submissions}
-use Rattle.service_loop.proofs.Ending.{FailsBy, frames-failed, served-failed}
+use Rattle.service_loop.proofs.Ending.{frames-failed, served-failed}
 use Rattle.service_loop.proofs.Views.{views-failed}
 use Rattle.service_loop.proofs.submissions.Submissions.fail.Goals.{then-not-ended, else-not-ended}
 use Rattle.service_loop.proofs.submissions.Submissions.fail.Goals as goal

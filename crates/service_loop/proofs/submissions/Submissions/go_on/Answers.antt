@@ -1,4 +1,4 @@
-use Rattle.std.proofs.Common.{◌≡◌, true, false, ap, sym, ◌∙◌}
+use Rattle.std.proofs.Common.{◌≡◌, false, ap, sym, ◌∙◌}
 use Rattle.descriptor_ring.specs.Rings.{Receiving}
 use Rattle.service_loop.proofs.Taking.{served-open, untrue}
 use Rattle.service_loop.proofs.submissions.Submissions.go_on.Goals as goal

@@ -1,4 +1,4 @@
-use Rattle.std.proofs.Common.{◌≡◌, ℕ, ◌≤◌, true, inl, inr, sym, ◌∙◌, slice_index_or, arith}
+use Rattle.std.proofs.Common.{inl, inr, sym, ◌∙◌, slice_index_or, arith}
 use Rattle.std.proofs.lemmas.Option.{slice_get-get_or}
 use Rattle.service_loop.specs.Within.{IsDue}
 use Rattle.service_loop.proofs.Deciding.{on-so, on-within, there}
@@ -17,6 +17,7 @@ returns-else-closing-clause-due c =
     on-within (slice_index_or c.args.self.now.steps.now c.args.self.now.applied c.index-self-self.result).count
     c.from.result (IsDue c.args.self.now) (λ least. record {
       due = slice_index_or c.args.self.now.steps.now c.args.self.now.applied c.index-self-self.result;
-      first = slice_get-get_or c.args.self.now.steps.now c.args.self.now.applied c.index-self-self.result c.if-self.true;
+      first = slice_get-get_or c.args.self.now.steps.now c.args.self.now.applied c.index-self-self.result
+          c.if-self.true;
       reached = inr (omega (arith, least, c.from.ensures));
     })

@@ -3,7 +3,8 @@ use Rattle.service_loop.proofs.submissions.Submissions.take_and_send.Goals as go
 
 pub returns-clause-moments : goal.returns-clause-moments
 returns-clause-moments g c =
-    λ all. moments-through (g.C.Clock.gives c.args.clock.now) c.now.result c.args.self.now.conn c.apply_due.new.self.conn
+    λ all. moments-through (g.C.Clock.gives c.args.clock.now) c.now.result c.args.self.now.conn
+    c.apply_due.new.self.conn
     c.show.new.self.conn c.take_call.new.self.conn c.go_on.new.self.conn (record {
       steps = (c.in_ok-apply_due.ensures.only.beside.moments, c.in_ok-apply_due.ensures.only.at_calls);
       shows = c.in_ok-show.ensures.shown;

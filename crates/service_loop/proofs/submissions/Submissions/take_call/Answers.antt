@@ -1,4 +1,3 @@
-use Rattle.std.proofs.Common.{◌≡◌, ℕ, true, false, refl, ap, sym, ◌∙◌, subst}
 use Rattle.conn_core.specs.Connections.{behind}
 use Rattle.std.specs.Prelude.{take}
 use Rattle.service_loop.proofs.Going.{serves-closing}
