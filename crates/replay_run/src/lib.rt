@@ -1,9 +1,9 @@
 //! What follows from a replay script: which history of its connections, which loads, and where their calls stand.
 //!
 //! `specs/Follows.antt` says what follows, a step a line, `specs/Tickets.antt` which tickets quotas give, and
-//! `specs/Sound.antt` what holds of each connection behind any line. `specs/Running.antt` says what a run of a script leaves,
-//! with `specs/Stands.antt` for the calls that stand. It stands on scripts, on histories, and on the audit text. The layers
-//! above use the laws on what follows.
+//! `specs/Sound.antt` what holds of each connection behind any line. `specs/Running.antt` says what a run of a script
+//! leaves, with `specs/Stands.antt` for the calls that stand. It stands on scripts, on histories, and on the audit
+//! text. The layers above use the laws on what follows.
 #![tactic(auto)]
 
 mod laws;
