@@ -6,6 +6,17 @@
 //! text. The layers above use the laws on what follows.
 #![tactic(auto)]
 
+mod connection;
+mod following;
 mod laws;
+mod operating;
+mod running;
+mod sending;
+mod standing;
+mod stop;
+mod submitting;
+mod telling;
 
 pub use laws::{a_drained_connection_is_settled, what_follows_is_sound};
+pub use running::run_script;
+pub use stop::Stop;
