@@ -21,7 +21,7 @@ use Rattle.replay_run.proofs.Lines.{openings, Lacks}
 use Rattle.replay_run.proofs.Spelled.{event-spells}
 use Rattle.replay_run.proofs.Sound.{IsNext, Stands, AreSound, start-stands, leads-stand, goes-stand, gets-next, one-course, one-spelled}
 
-allowed-front : (loads : ℕ) (policies : List NamedPolicy) (before lines rest : List Line) → AreAllowed loads policies before (lines ++ rest) → AreAllowed loads policies before lines
+pub allowed-front : (loads : ℕ) (policies : List NamedPolicy) (before lines rest : List Line) → AreAllowed loads policies before (lines ++ rest) → AreAllowed loads policies before lines
 allowed-front loads policies before [] rest allowed = tt
 allowed-front loads policies before (l ∷ lines) rest allowed = (allowed.0, allowed-front loads policies (before ++ l ∷ []) lines rest allowed.1)
 

@@ -101,7 +101,7 @@ module _ (laws : HistoryLaws) (s : Script) where
       ap (λ b. cons_option (cond b (Some x) None) (on conn (map (on_connection conn) xs))) (eq-eqb conn conn refl)
       ∙ ap (λ ys. x ∷ ys) (on-own conn xs)
 
-  behind-own : (conn : ℕ) (h : History) (piece : List Happening) → behind conn (h ++ map (on_connection conn) piece) ≡ reverse piece ++ behind conn h
+  pub behind-own : (conn : ℕ) (h : History) (piece : List Happening) → behind conn (h ++ map (on_connection conn) piece) ≡ reverse piece ++ behind conn h
   behind-own conn h piece = laws.joined conn h (map (on_connection conn) piece) ∙ ap (λ xs. reverse xs ++ behind conn h) (on-own conn piece)
 
   behind-other : (conn other : ℕ) (h : History) (piece : List Happening) → conn ≢ other → behind other (h ++ map (on_connection conn) piece) ≡ behind other h
@@ -134,7 +134,7 @@ module _ (laws : HistoryLaws) (s : Script) where
   abbrev pub AreSound : History → List Opened → Type 0
   AreSound h opened = AllByRecursion (IsSoundOn s h) opened
 
-  abbrev numbers : List Opened → List ℕ
+  abbrev pub numbers : List Opened → List ℕ
   numbers opened = map (λ o. o.conn) opened
 
   -- what is known behind some lines of a script
@@ -144,7 +144,7 @@ module _ (laws : HistoryLaws) (s : Script) where
     pub each : AreSound st.history st.opened
     pub quiet : (conn : ℕ) → Lacks conn (openings before) → behind conn st.history ≡ []
 
-  middle : (P : ℕ → Type 0) (front back : List Opened) (o : Opened) → AllByRecursion P (numbers (front ++ o ∷ back)) → P o.conn
+  pub middle : (P : ℕ → Type 0) (front back : List Opened) (o : Opened) → AllByRecursion P (numbers (front ++ o ∷ back)) → P o.conn
   middle P [] back o all = all.0
   middle P (x ∷ front) back o all = middle P front back o all.1
 

@@ -1,5 +1,5 @@
--- What follows from a script, line by line: what happens on its connections, by which loads, and where calls stand (this
--- project's own).
+-- What follows from a script, line by line: what happens on its connections, by which loads, and where calls stand
+-- (this project's own).
 use Rattle.std.specs.Prelude.{◌≡◌, ℕ, List, [], ◌∷◌, ◌++◌, length, map, reverse, Some, None}
 use Rattle.mrpc_base.specs.Heap.{Race, word_after, stores_of, races_up_to, races_with}
 use Rattle.mrpc_table.specs.declared.call.Call.{Call}
@@ -23,8 +23,8 @@ use Rattle.call_history.specs.declared.happening.Taken.{Taken}
 use Rattle.replay_run.specs.Tickets.{AreInTurn}
 
 -- A connection that was opened: its number, the words of its heap, the stores that were made to it so far, each a place
--- and a value, the races that wait for its next submission, in the order in which they are made, what was loaded for its
--- calls so far, and how far its course has come.
+-- and a value, the races that wait for its next submission, in the order in which they are made, what was loaded for
+-- its calls so far, and how far its course has come.
 pub record Opened : Type 0 where
   pub conn : ℕ
   pub words : ℕ
@@ -33,8 +33,8 @@ pub record Opened : Type 0 where
   pub loads : Loads
   pub course : Course
 
--- where a script stands between two lines: the connections, in the order in which they were opened, and what happened on
--- all of them
+-- where a script stands between two lines: the connections, in the order in which they were opened, and what happened
+-- on all of them
 pub record State : Type 0 where
   pub opened : List Opened
   pub history : History
@@ -111,8 +111,8 @@ pub data GetsTo (s : Script) (l : Line) (old : Opened) (c : Course) : Type 0 whe
   by_send : l ≡ line.Send old.conn → c ≡ old.course → GetsTo s l old c
   by_drain : l ≡ line.Drain old.conn → BeginsToDrain (under s old.conn) old.course c → GetsTo s l old c
 
--- A line that sends leads an open connection to the failing of its link: a call is ready, and it is this one, in its form;
--- then all that stand are refused.
+-- A line that sends leads an open connection to the failing of its link: a call is ready, and it is this one, in its
+-- form; then all that stand are refused.
 pub record Fails (s : Script) (l : Line) (old : Opened) (tried : Call) (new : Opened) : Type 0 where
   pub at : Course
   pub gets : GetsTo s l old at

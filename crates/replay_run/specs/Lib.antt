@@ -1,4 +1,5 @@
 pub mod Follows
+pub mod Kept
 pub mod Running
 pub mod Sound
 pub mod Stands

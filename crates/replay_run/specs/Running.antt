@@ -31,8 +31,8 @@ pub record Replays (s : Script) (out out' wire wire' : Option (List ℕ)) : Type
   pub told : Appends out out' (text s end)
   pub handed : Appends wire wire' (sent s end)
 
--- The script was run up to a sending that failed: a front of the call's frame, and not all of it, is behind the frames of
--- the calls that were sent.
+-- The script was run up to a sending that failed: a front of the call's frame, and not all of it, is behind the frames
+-- of the calls that were sent.
 pub record Breaks (s : Script) (out out' wire wire' : Option (List ℕ)) : Type 0 where
   pub end : State
   pub tried : Call
@@ -67,8 +67,8 @@ pub record TellsFront (s : Script) (before end : State) (out out' : Option (List
   pub most : many ≤ length (text s end)
   pub told : Appends out out' (take many (text s end))
 
--- The run stopped: with all frames of the calls that were sent, or behind a sending that failed. So each sending that is
--- told is on the wire, and those that aren't told are of one line.
+-- The run stopped: with all frames of the calls that were sent, or behind a sending that failed. So each sending that
+-- is told is on the wire, and those that aren't told are of one line.
 pub data Stops (s : Script) (out out' wire wire' : Option (List ℕ)) : Type 0 where
   stops_in : (before end : State) → RunsInto s before end → TellsFront s before end out out'
       → Appends wire wire' (sent s end) → Stops s out out' wire wire'

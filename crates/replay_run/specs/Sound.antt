@@ -8,8 +8,8 @@ use Rattle.call_history.specs.Loads.{AreSpelled}
 use Rattle.call_history.specs.Rules.{Under, Lets}
 use Rattle.replay_run.specs.Follows.{Opened, under}
 
--- Its course is what happened on it: that is legal, the calls that stand are in its row, at places where they may stand.
--- Its loads are those of its calls, and no others.
+-- Its course is what happened on it: that is legal, the calls that stand are in its row, at places where they may
+-- stand. Its loads are those of its calls, and no others.
 pub record IsSoundOn (s : Script) (h : History) (o : Opened) : Type 0 where
   pub past : o.course.past ≡ behind o.conn h
   pub course : IsCourse (under s o.conn) o.course

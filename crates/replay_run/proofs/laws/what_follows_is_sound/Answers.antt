@@ -8,6 +8,7 @@ use Rattle.replay_run.proofs.laws.what_follows_is_sound.Goals.{After-drains_sett
 laws : After-drains_settle → HistoryLaws
 laws c = record {
   joined = c.histories_go_on.ensures.joined;
+  one_more = c.histories_go_on.ensures.one_more;
   apart = c.connections_are_apart.ensures.behind;
   begins = c.events_keep.ensures.beginning;
   event = c.events_keep.ensures.event;

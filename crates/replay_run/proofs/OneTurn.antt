@@ -1,0 +1,103 @@
+-- Turns from one course come out alike, where the tickets that they draw are the next of their windows.
+use Rattle.std.proofs.Common.{◌≡◌, ◌≢◌, ℕ, min, ◌/◌, sym, ap, ◌∙◌, subst}
+use Rattle.mrpc_table.specs.declared.call.Call.{Call}
+use Rattle.engine_core.specs.Answers.{Answer, Answers, Past, allows, charges, counts, denies, drawn, draws, holds, is_clear, is_over, is_within, note, redacts, refuses, was_charged, was_counted}
+use Rattle.engine_core.specs.Turns.{ComesOut, is_held, is_noted, is_noted_and_refused, is_redacted, is_refused, noted_in, passes, refusal}
+use Rattle.engine_core.specs.declared.outcome.Noted.{Noted}
+use Rattle.engine_core.specs.declared.outcome.Noted.TheVariants as notes
+use Rattle.engine_core.specs.declared.outcome.Outcome.{Outcome}
+use Rattle.engine_core.specs.declared.outcome.Why.{Why}
+use Rattle.engine_core.specs.declared.outcome.Why.TheVariants.{Denied, Short, Over}
+use Rattle.engine_core.specs.declared.policy.Policy.{Policy}
+use Rattle.engine_core.specs.declared.policy.Policy.TheVariants.{Quota}
+
+-- ---- a quota that draws
+
+-- a call for which a quota has drawn nothing
+pub record IsUndrawn (policy : Policy) (at window : ℕ) (past : Past) : Type 0 where
+  pub tenant : ℕ
+  pub per : ℕ
+  pub cap : ℕ
+  pub quota : policy ≡ Quota tenant per cap
+  pub none : (t : ℕ) → past ≢ drawn t
+  pub window_is : window ≡ min (at / per) 1023
+
+draws-only : (policy : Policy) (left at : ℕ) (form : Call) (past : Past) (window ticket : ℕ) → Answers policy left at form past (note (notes.Drawn window ticket)) → IsUndrawn policy at window past
+draws-only policy left at form past window ticket (allows p is allowed answer) = cc
+draws-only policy left at form past window ticket (denies p is denied answer) = cc
+draws-only policy left at form past window ticket (was_charged r is some answer) = cc
+draws-only policy left at form past window ticket (charges r is none enough answer) = cc
+draws-only policy left at form past window ticket (holds r is none short hold answer) = cc
+draws-only policy left at form past window ticket (refuses r is none short hold answer) = cc
+draws-only policy left at form past window ticket (is_within tenant per cap t is was below answer) = cc
+draws-only policy left at form past window ticket (is_over tenant per cap t is was above answer) = cc
+draws-only policy left at form past window ticket (draws tenant per cap t is none answer) = record { tenant = tenant; per = per; cap = cap; quota = is; none = none; window_is = cc }
+draws-only policy left at form past window ticket (was_counted is some answer) = cc
+draws-only policy left at form past window ticket (counts is none answer) = cc
+draws-only policy left at form past window ticket (is_clear clears is same answer) = cc
+draws-only policy left at form past window ticket (redacts clears is differs answer) = cc
+
+-- of such a call nothing but a draw is answered
+record IsDraw (at per : ℕ) (answer : Answer) : Type 0 where
+  ticket : ℕ
+  is : answer ≡ note (notes.Drawn (min (at / per) 1023) ticket)
+
+only-draws : (policy : Policy) (left at tenant per cap : ℕ) (form : Call) (past : Past) (answer : Answer) → policy ≡ Quota tenant per cap → ((t : ℕ) → past ≢ drawn t)
+    → Answers policy left at form past answer → IsDraw at per answer
+only-draws policy left at tenant per cap form past answer quota undrawn (allows p is allowed was) = cc
+only-draws policy left at tenant per cap form past answer quota undrawn (denies p is denied was) = cc
+only-draws policy left at tenant per cap form past answer quota undrawn (was_charged r is some was) = cc
+only-draws policy left at tenant per cap form past answer quota undrawn (charges r is none enough was) = cc
+only-draws policy left at tenant per cap form past answer quota undrawn (holds r is none short hold was) = cc
+only-draws policy left at tenant per cap form past answer quota undrawn (refuses r is none short hold was) = cc
+only-draws policy left at tenant per cap form past answer quota undrawn (is_within owner every most t is has below was) = absurd (undrawn t has)
+only-draws policy left at tenant per cap form past answer quota undrawn (is_over owner every most t is has above was) = absurd (undrawn t has)
+only-draws policy left at tenant per cap form past answer quota undrawn (draws owner every most t is none was) =
+    let same : every ≡ per = cc in record { ticket = t; is = was ∙ ap (λ p. note (notes.Drawn (min (at / p) 1023) t)) same }
+only-draws policy left at tenant per cap form past answer quota undrawn (was_counted is some was) = cc
+only-draws policy left at tenant per cap form past answer quota undrawn (counts is none was) = cc
+only-draws policy left at tenant per cap form past answer quota undrawn (is_clear clears is same was) = cc
+only-draws policy left at tenant per cap form past answer quota undrawn (redacts clears is differs was) = cc
+
+-- a turn that notes a draw was answered so
+turn-draws : (policy : Policy) (left at : ℕ) (form : Call) (past : Past) (outcome : Outcome) (window ticket : ℕ) → ComesOut policy left at form past outcome
+    → noted_in outcome ≡ notes.Drawn window ticket → IsUndrawn policy at window past
+turn-draws policy left at form past outcome window ticket (passes answers is) draw = let none : notes.Nothing ≡ notes.Drawn window ticket = sym (ap noted_in is) ∙ draw in cc
+turn-draws policy left at form past outcome window ticket (is_noted n answers after is) draw =
+    let same : n ≡ notes.Drawn window ticket = sym (ap noted_in is) ∙ draw in
+    draws-only policy left at form past window ticket (subst (λ m. Answers policy left at form past (note m)) same answers)
+turn-draws policy left at form past outcome window ticket (is_held l cost answers is) draw = let none : notes.Nothing ≡ notes.Drawn window ticket = sym (ap noted_in is) ∙ draw in cc
+turn-draws policy left at form past outcome window ticket (is_refused why answers is) draw = let none : notes.Nothing ≡ notes.Drawn window ticket = sym (ap noted_in is) ∙ draw in cc
+turn-draws policy left at form past outcome window ticket (is_noted_and_refused n why answers after is) draw =
+    let same : n ≡ notes.Drawn window ticket = sym (ap noted_in is) ∙ draw in
+    draws-only policy left at form past window ticket (subst (λ m. Answers policy left at form past (note m)) same answers)
+turn-draws policy left at form past outcome window ticket (is_redacted answers is) draw = let none : notes.Nothing ≡ notes.Drawn window ticket = sym (ap noted_in is) ∙ draw in cc
+
+-- a turn with a call for which nothing was drawn notes a draw
+record NotesDraw (at per : ℕ) (outcome : Outcome) : Type 0 where
+  ticket : ℕ
+  is : noted_in outcome ≡ notes.Drawn (min (at / per) 1023) ticket
+
+no-refusal : (why : Why) (n : Noted) → refusal why ≡ note n → ⊥
+no-refusal (Denied rule) n is = cc
+no-refusal (Short left cost) n is = cc
+no-refusal (Over ticket cap) n is = cc
+
+undrawn-draws : (policy : Policy) (left at tenant per cap : ℕ) (form : Call) (past : Past) (outcome : Outcome) → policy ≡ Quota tenant per cap → ((t : ℕ) → past ≢ drawn t)
+    → ComesOut policy left at form past outcome → NotesDraw at per outcome
+undrawn-draws policy left at tenant per cap form past outcome quota undrawn (passes answers is) =
+    let d = (only-draws policy left at tenant per cap form past _ quota undrawn answers).is in cc
+undrawn-draws policy left at tenant per cap form past outcome quota undrawn (is_noted n answers after is) =
+    let d = only-draws policy left at tenant per cap form past (note n) quota undrawn answers in
+    let same : n ≡ notes.Drawn (min (at / per) 1023) d.ticket = let e = d.is in cc in
+    record { ticket = d.ticket; is = ap noted_in is ∙ same }
+undrawn-draws policy left at tenant per cap form past outcome quota undrawn (is_held l cost answers is) =
+    let d = (only-draws policy left at tenant per cap form past _ quota undrawn answers).is in cc
+undrawn-draws policy left at tenant per cap form past outcome quota undrawn (is_refused why answers is) =
+    absurd (no-refusal why _ (only-draws policy left at tenant per cap form past (refusal why) quota undrawn answers).is)
+undrawn-draws policy left at tenant per cap form past outcome quota undrawn (is_noted_and_refused n why answers after is) =
+    let d = only-draws policy left at tenant per cap form past (note n) quota undrawn answers in
+    let same : n ≡ notes.Drawn (min (at / per) 1023) d.ticket = let e = d.is in cc in
+    record { ticket = d.ticket; is = ap noted_in is ∙ same }
+undrawn-draws policy left at tenant per cap form past outcome quota undrawn (is_redacted answers is) =
+    let d = (only-draws policy left at tenant per cap form past _ quota undrawn answers).is in cc

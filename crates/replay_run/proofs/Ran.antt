@@ -1,0 +1,74 @@
+-- What telling makes of what a line came to.
+use Rattle.std.proofs.Common.{◌≡◌, ◌≢◌, ℕ, false, List, refl, sym, subst, arith}
+use Rattle.std.specs.Prelude.{Err, Ok, OnErr, OnOk, Option, Result}
+use Rattle.std.specs.Io.KnownBytes.{Appends}
+use Rattle.mrpc_base.specs.Faults.{HasCause}
+use Rattle.mrpc_base.specs.Quota.{Counters}
+use Rattle.script_text.specs.Lines.{is_conn}
+use Rattle.script_text.specs.declared.script.Line.{Line}
+use Rattle.script_text.specs.declared.script.Line.TheVariants as line
+use Rattle.script_text.specs.declared.script.Script.{Script}
+use Rattle.conn_core.specs.Connections.{IsConnection}
+use Rattle.replay_run.specs.Kept.{BrokenOn, BrokenTold, DoneOn, DoneTold, IsTold, OnRan, StoppedOn, StopsAt, TellsSome, behind_failure, behind_line, in_line, untold}
+use Rattle.replay_run.specs.declared.connection.Connection.{Connection}
+use Rattle.replay_run.specs.declared.stop.Stop.{Stop}
+use Rattle.replay_run.specs.declared.stop.Stop.TheVariants.{Memory, Out, Wire}
+
+module _ (s : Script) (l : Line) (c mid d : Connection) (quotas quotas' : Counters) (out out' wire wire' : Option (List ℕ)) where
+  -- the line was done
+  pub done-told : (result : Result (Unit {0}) Stop) (Broken : Type 0) → DoneOn s l c mid quotas quotas' wire wire' → IsConnection mid.calls → OnOk result (IsTold mid d)
+      → OnOk result (Appends out out' (untold s.table mid)) → OnErr result (TellsSome out out' (untold s.table mid)) → result ≢ Err Wire
+      → OnRan result (DoneTold s l c d quotas quotas' out out' wire wire') Broken (StopsAt s l c out out' wire wire') (StopsAt s l c out out' wire wire')
+  done-told (Ok value) Broken done sound told lines front no_wire =
+      record { mid = mid; done = done; told = told; lines = lines; sound = subst IsConnection (sym told.calls) sound }
+  done-told (Err Wire) Broken done sound told lines front no_wire = absurd (no_wire refl)
+  done-told (Err Memory) Broken done sound told lines front no_wire = behind_line mid quotas quotas' done front
+  done-told (Err Out) Broken done sound told lines front no_wire = behind_line mid quotas quotas' done front
+
+  -- a sending failed, and then telling stopped
+  pub broken-stopped : (stop : Stop) (Done Broken : Type 0) → BrokenOn s l c mid quotas quotas' wire wire' → TellsSome out out' (untold s.table mid) → stop ≢ Wire
+      → OnRan {T = Unit {0}} (Err stop) Done Broken (StopsAt s l c out out' wire wire') (StopsAt s l c out out' wire wire')
+  broken-stopped Wire Done Broken broken front no_wire = absurd (no_wire refl)
+  broken-stopped Memory Done Broken broken front no_wire = behind_failure mid quotas quotas' broken front
+  broken-stopped Out Done Broken broken front no_wire = behind_failure mid quotas quotas' broken front
+
+  pub broken-told : BrokenOn s l c mid quotas quotas' wire wire' → IsTold mid d → Appends out out' (untold s.table mid) → BrokenTold s l c d quotas quotas' out out' wire wire'
+  broken-told broken told lines = record { mid = mid; broken = broken; told = told; lines = lines }
+
+-- the line stopped before anything was told
+pub stopped-before : (s : Script) (l : Line) (c : Connection) (out wire wire' : Option (List ℕ)) (stop : Stop) (Done Broken Done' Broken' : Type 0) → stop ≢ Wire
+    → OnRan {T = Unit {0}} (Err stop) Done Broken (StoppedOn s l c wire wire') ⊥
+    → OnRan {T = Unit {0}} (Err stop) Done' Broken' (StopsAt s l c out out wire wire') (StopsAt s l c out out wire wire')
+stopped-before s l c out wire wire' Wire Done Broken Done' Broken' other stopped = absurd (other refl)
+stopped-before s l c out wire wire' Memory Done Broken Done' Broken' other stopped = in_line stopped refl
+stopped-before s l c out wire wire' Out Done Broken Done' Broken' other stopped = absurd stopped
+
+pub cause-none : {Failing : Type 0} (before now : ℕ) → (Failing → ⊥) → now ≡ before → HasCause Failing before now
+cause-none before now none same = record { rose = λ f. absurd (none f); stays = λ _. same; never_falls = omega arith }
+
+-- ---- a line of a script
+
+-- it stopped for want of memory
+pub ran-stopped : (stop : Stop) (Done Broken Stopped : Type 0) → stop ≡ Memory → Stopped → OnRan {T = Unit {0}} (Err stop) Done Broken Stopped Stopped
+ran-stopped Wire Done Broken Stopped is stopped = cc
+ran-stopped Memory Done Broken Stopped is stopped = stopped
+ran-stopped Out Done Broken Stopped is stopped = stopped
+
+pub not-conn : (l : Line) → ((conn words : ℕ) → l ≡ line.Conn conn words → ⊥) → is_conn l ≡ false
+not-conn (line.Conn conn words) other = absurd (other conn words refl)
+not-conn (line.Store conn place value) other = refl
+not-conn (line.Race conn load place value) other = refl
+not-conn (line.Submit conn method number addr) other = refl
+not-conn (line.Attach conn at name policy) other = refl
+not-conn (line.Detach conn name) other = refl
+not-conn (line.Upgrade conn name policy) other = refl
+not-conn (line.Moment conn ms) other = refl
+not-conn (line.Turn conn at) other = refl
+not-conn (line.Send conn) other = refl
+not-conn (line.Drain conn) other = refl
+
+pub ran-map : {D B M D' B' M' : Type 0} (result : Result (Unit {0}) Stop) → (D → D') → (B → B') → (M → M') → OnRan result D B M M → OnRan result D' B' M' M'
+ran-map (Ok value) done broken stopped ran = done ran
+ran-map (Err Wire) done broken stopped ran = broken ran
+ran-map (Err Memory) done broken stopped ran = stopped ran
+ran-map (Err Out) done broken stopped ran = stopped ran

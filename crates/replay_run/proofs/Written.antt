@@ -1,0 +1,167 @@
+-- Lines that are written one after another.
+use Rattle.std.proofs.Common.{◌≡◌, ℕ, zero, suc, ◌+◌, ◌≤◌, List, [], ◌∷◌, ◌++◌, length, take, drop, map, reverse, Option, Some, refl, sym, ap, ◌∙◌, subst, append_assoc, append-nil, length-append, arith}
+use Rattle.std.proofs.lemmas.List.{reverse-append, take-append-le}
+use Rattle.std.specs.Prelude.{Err, Ok, OnErr, Result, slice_get}
+use Rattle.std.specs.List.{AllByRecursion, flat_map}
+use Rattle.std.specs.Io.KnownBytes.{Appends}
+use Rattle.mrpc_table.specs.declared.table.Table.{Table}
+use Rattle.call_history.specs.Behind.{Behind}
+use Rattle.call_history.specs.Legal.{IsPrefix}
+use Rattle.call_history.specs.Rules.{Under}
+use Rattle.call_history.specs.declared.happening.Happening.{Happening}
+use Rattle.call_history.specs.declared.happening.Happening.TheVariants.{Away, Charged, Counted, Drawn, Moment, Op, Redacted, Refused, Sent, Took}
+use Rattle.call_history.specs.declared.happening.Taken.{Taken}
+use Rattle.call_history.specs.declared.happening.TookCopy.{TookCopy}
+use Rattle.call_history.specs.declared.happening.TookCopy.TheVariants.{Copy, Malformed}
+use Rattle.call_history.specs.Rules.{IsTakenBy}
+use Rattle.audit_text.specs.Lines.{FitsCall, FitsTable, audit, audit_line}
+use Rattle.replay_run.specs.Follows.{on_connection}
+use Rattle.replay_run.specs.Kept.{TellsSome}
+use Rattle.replay_run.specs.declared.stop.Stop.{Stop}
+use Rattle.replay_run.proofs.Bytes.{appends-more, appends-nothing, take-behind}
+
+-- of some text a front was written, and this is the rest
+pub record TellsRest (first out : Option (List ℕ)) (rest all : List ℕ) : Type 0 where
+  pub done : List ℕ
+  pub told : Appends first out done
+  pub both : done ++ rest ≡ all
+
+pub rest-begins : (out : Option (List ℕ)) (all : List ℕ) → TellsRest out out all all
+rest-begins out all = record { done = []; told = appends-nothing out; both = refl }
+
+pub rest-more : (first out next : Option (List ℕ)) (one rest all : List ℕ) → TellsRest first out (one ++ rest) all → Appends out next one → TellsRest first next rest all
+rest-more first out next one rest all t a = record {
+  done = t.done ++ one;
+  told = appends-more first out next t.done one t.told a;
+  both = append_assoc t.done one rest ∙ t.both;
+}
+
+pub rest-ends : (first out : Option (List ℕ)) (rest all : List ℕ) → rest ≡ [] → TellsRest first out rest all → Appends first out all
+rest-ends first out rest all none t = subst (Appends first out) (sym (append-nil t.done) ∙ ap (λ r. t.done ++ r) (sym none) ∙ t.both) t.told
+
+-- a front of the rest was written, too
+pub rest-some : (first out next : Option (List ℕ)) (rest all : List ℕ) → TellsRest first out rest all → TellsSome out next rest → TellsSome first next all
+rest-some first out next rest all t some =
+    let few : some.0 ≤ length rest = some.1 in
+    let long : length (t.done ++ rest) ≡ length t.done + length rest = length-append t.done rest in
+    subst (TellsSome first next) t.both (
+      length t.done + some.0,
+      omega arith,
+      subst (Appends first next) (sym (take-behind t.done rest some.0)) (appends-more first out next t.done (take some.0 rest) t.told some.2),
+    )
+
+pub some-none : (out : Option (List ℕ)) (rest : List ℕ) → TellsSome out out rest
+some-none out rest = (0, omega arith, appends-nothing out)
+
+pub some-in : (out next : Option (List ℕ)) (one rest : List ℕ) → TellsSome out next one → TellsSome out next (one ++ rest)
+some-in out next one rest some =
+    let few : some.0 ≤ length one = some.1 in
+    let long : length (one ++ rest) ≡ length one + length rest = length-append one rest in
+    (some.0, omega arith, subst (Appends out next) (sym (take-append-le some.0 one rest few)) some.2)
+
+-- ---- what a table can print
+
+taken-fits : (T : Table) (call : Taken) (copy : TookCopy) → IsTakenBy T call copy → FitsCall T call copy
+taken-fits T call (Copy tree) taken = taken
+taken-fits T call (Malformed reason place value) taken = tt
+
+behind-fits : (u : Under) (past : Behind) → IsPrefix u past → AllByRecursion (FitsTable u.table) past
+behind-fits u [] prefix = tt
+behind-fits u (Took call ∷ past) prefix = (taken-fits u.table call call.copy prefix.1.numbered.copy, behind-fits u past prefix.0)
+behind-fits u (Away method number addr ∷ past) prefix = (tt, behind-fits u past prefix.0)
+behind-fits u (Op step ∷ past) prefix = (tt, behind-fits u past prefix.0)
+behind-fits u (Moment ms ∷ past) prefix = (tt, behind-fits u past prefix.0)
+behind-fits u (Charged seq name left ∷ past) prefix = (tt, behind-fits u past prefix.0)
+behind-fits u (Drawn seq name window ticket ∷ past) prefix = (tt, behind-fits u past prefix.0)
+behind-fits u (Counted seq name ∷ past) prefix = (tt, behind-fits u past prefix.0)
+behind-fits u (Redacted seq name version ∷ past) prefix = (tt, behind-fits u past prefix.0)
+behind-fits u (Sent seq bytes ∷ past) prefix = (tt, behind-fits u past prefix.0)
+behind-fits u (Refused seq why ∷ past) prefix = (tt, behind-fits u past prefix.0)
+
+module _ (P : Happening → Type 0) where
+  all-back : (front back : List Happening) → AllByRecursion P (front ++ back) → AllByRecursion P front
+  all-back [] back all = tt
+  all-back (x ∷ front) back all = (all.0, all-back front back all.1)
+
+  all-front : (front back : List Happening) → AllByRecursion P (front ++ back) → AllByRecursion P back
+  all-front [] back all = all
+  all-front (x ∷ front) back all = all-front front back all.1
+
+  -- what holds of all, told the other way round, holds of the one at a place
+  pub reversed-at : (xs : List Happening) (place : ℕ) (x : Happening) → AllByRecursion P (reverse xs) → slice_get xs place ≡ Some x → P x
+  reversed-at [] place x all at = cc
+  reversed-at (y ∷ xs) zero x all at =
+      let same : y ≡ x = cc in
+      subst P same ((all-front (reverse xs) (y ∷ []) (subst (AllByRecursion P) (reverse-append (y ∷ []) xs) all)).0)
+  reversed-at (y ∷ xs) (suc place) x all at = reversed-at xs place x (all-back (reverse xs) (y ∷ []) (subst (AllByRecursion P) (reverse-append (y ∷ []) xs) all)) at
+
+pub happenings-fit : (u : Under) (xs : List Happening) → IsPrefix u (reverse xs) → (place : ℕ) (x : Happening) → slice_get xs place ≡ Some x → FitsTable u.table x
+happenings-fit u xs prefix place x at = reversed-at (FitsTable u.table) xs place x (behind-fits u (reverse xs) prefix) at
+
+-- ---- lists from a place on
+
+pub drop-at : {A : Type 0} (xs : List A) (place : ℕ) (x : A) → slice_get xs place ≡ Some x → drop place xs ≡ x ∷ drop (suc place) xs
+drop-at [] place x at = cc
+drop-at (y ∷ xs) zero x at = let same : y ≡ x = cc in ap (λ z. z ∷ xs) same
+drop-at (y ∷ xs) (suc place) x at = drop-at xs place x at
+
+-- the one at a place within a list
+pub there : {A : Type 0} (xs : List A) (place : ℕ) → suc place ≤ length xs → (x : A) × (slice_get xs place ≡ Some x)
+there [] place low = absurd (omega arith)
+there (x ∷ xs) zero low = (x, refl)
+there (x ∷ xs) (suc place) low = there xs place (omega arith)
+
+pub drop-past : {A : Type 0} (xs : List A) (place : ℕ) → length xs ≤ place → drop place xs ≡ []
+drop-past [] zero past = refl
+drop-past [] (suc place) past = refl
+drop-past (x ∷ xs) zero past = absurd (omega arith)
+drop-past (x ∷ xs) (suc place) past = drop-past xs place (omega arith)
+
+pub on-err : {T P : Type 0} (result : Result T Stop) → P → OnErr result P
+on-err (Ok value) p = tt
+on-err (Err stop) p = p
+
+pub after-none : (old new all line : List ℕ) → old ≡ [] → new ≡ old ++ line → all ≡ new → all ≡ line
+after-none old new all line none more same = same ∙ more ∙ ap (λ l. l ++ line) none
+
+-- ---- the lines of happenings from a place on
+
+module _ (T : Table) (conn : ℕ) (hs : List Happening) (first out : Option (List ℕ)) (all : List ℕ) where
+  pub told-one : (next : Option (List ℕ)) (place after : ℕ) (what : Happening) (line : List ℕ) → TellsRest first out (audit T (map (on_connection conn) (drop place hs))) all
+      → slice_get hs place ≡ Some what → line ≡ audit_line T (on_connection conn what) → after ≡ suc place → Appends out next line
+      → TellsRest first next (audit T (map (on_connection conn) (drop after hs))) all
+  told-one next place after what line t at is after_is a =
+      subst (λ n. TellsRest first next (audit T (map (on_connection conn) (drop n hs))) all) (sym after_is)
+      (rest-more first out next (audit_line T (on_connection conn what)) (audit T (map (on_connection conn) (drop (suc place) hs))) all
+      (subst (λ d. TellsRest first out (audit T (map (on_connection conn) d)) all) (drop-at hs place what at) t) (subst (Appends out next) is a))
+
+  -- a write of the next line failed
+  pub told-some : (next : Option (List ℕ)) (place : ℕ) (what : Happening) (line : List ℕ) → TellsRest first out (audit T (map (on_connection conn) (drop place hs))) all
+      → slice_get hs place ≡ Some what → line ≡ audit_line T (on_connection conn what) → TellsSome out next line → TellsSome first next all
+  told-some next place what line t at is some =
+      rest-some first out next (audit_line T (on_connection conn what) ++ audit T (map (on_connection conn) (drop (suc place) hs))) all
+      (subst (λ d. TellsRest first out (audit T (map (on_connection conn) d)) all) (drop-at hs place what at) t)
+      (some-in out next (audit_line T (on_connection conn what)) (audit T (map (on_connection conn) (drop (suc place) hs))) (subst (TellsSome out next) is some))
+
+  pub told-all : (place : ℕ) → TellsRest first out (audit T (map (on_connection conn) (drop place hs))) all → length hs ≤ place → Appends first out all
+  told-all place t past = rest-ends first out (audit T (map (on_connection conn) (drop place hs))) all (ap (λ d. audit T (map (on_connection conn) d)) (drop-past hs place past)) t
+
+-- ---- the lines of other items from a place on
+
+module _ {A : Type 0} (line_of : A → List ℕ) (xs : List A) (first out : Option (List ℕ)) (all : List ℕ) where
+  pub item-one : (next : Option (List ℕ)) (place after : ℕ) (x : A) (line : List ℕ) → TellsRest first out (flat_map line_of (drop place xs)) all
+      → slice_get xs place ≡ Some x → line ≡ line_of x → after ≡ suc place → Appends out next line → TellsRest first next (flat_map line_of (drop after xs)) all
+  item-one next place after x line t at is after_is a =
+      subst (λ n. TellsRest first next (flat_map line_of (drop n xs)) all) (sym after_is)
+      (rest-more first out next (line_of x) (flat_map line_of (drop (suc place) xs)) all
+      (subst (λ d. TellsRest first out (flat_map line_of d) all) (drop-at xs place x at) t) (subst (Appends out next) is a))
+
+  pub item-some : (next : Option (List ℕ)) (place : ℕ) (x : A) (line : List ℕ) → TellsRest first out (flat_map line_of (drop place xs)) all
+      → slice_get xs place ≡ Some x → line ≡ line_of x → TellsSome out next line → TellsSome first next all
+  item-some next place x line t at is some =
+      rest-some first out next (line_of x ++ flat_map line_of (drop (suc place) xs)) all
+      (subst (λ d. TellsRest first out (flat_map line_of d) all) (drop-at xs place x at) t)
+      (some-in out next (line_of x) (flat_map line_of (drop (suc place) xs)) (subst (TellsSome out next) is some))
+
+  pub item-all : (place : ℕ) → TellsRest first out (flat_map line_of (drop place xs)) all → length xs ≤ place → Appends first out all
+  item-all place t past = rest-ends first out (flat_map line_of (drop place xs)) all (ap (flat_map line_of) (drop-past xs place past)) t

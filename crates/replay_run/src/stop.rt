@@ -1,0 +1,37 @@
+//! Why a run ends before the last line of its script.
+
+ghost use Rattle.std.specs.Prelude.{◌≡◌};
+
+use mrpc_table::Memory;
+use std::alloc::AllocFailed;
+
+/// Why a run stops before its end.
+#[derive(Clone, Copy)]
+pub enum Stop {
+    /// No memory was found.
+    Memory,
+    /// A write of the audit failed.
+    Out,
+    /// A write of the frames failed.
+    Wire,
+}
+
+impl From<Memory> for Stop {
+    ghost use Rattle.replay_run.specs.declared.stop.Stop.TheVariants.{Memory as NoMemory};
+
+    ghost from_gives = { λ _ stop. stop ≡ NoMemory };
+
+    fn from(_: Memory) -> Stop {
+        Stop::Memory
+    }
+}
+
+impl<T: Drop> From<AllocFailed<T>> for Stop {
+    ghost use Rattle.replay_run.specs.declared.stop.Stop.TheVariants.{Memory as NoMemory};
+
+    ghost from_gives = { λ _ stop. stop ≡ NoMemory };
+
+    fn from(_: AllocFailed<T>) -> Stop {
+        Stop::Memory
+    }
+}

@@ -1,0 +1,56 @@
+//! The audit lines of what has happened on a connection.
+
+ghost use Rattle.std.specs.Prelude.{◌≡◌, ◌≢◌, Err, IfErr, OnErr, OnOk, length};
+ghost use Rattle.std.specs.Io.KnownBytes.{Appends};
+ghost use Rattle.mrpc_base.specs.Faults.{HasCause};
+ghost use Rattle.mrpc_base.specs.Writing.{AppendsFront};
+ghost use Rattle.mrpc_table.specs.Valid.{IsValid};
+ghost use Rattle.replay_run.specs.Kept.{IsTold, TellsSome, untold};
+
+use crate::connection::Connection;
+use crate::stop::Stop;
+use audit_text::append_record;
+use mrpc_base::{Sink, write_all};
+use mrpc_table::{Bytes, Table};
+use std::alloc::Global;
+
+/// Writes the lines of what has happened on a connection since its last lines were written.
+pub(crate) fn tell<K: Sink>(
+    alloc: Global,
+    table: &Table,
+    connection: &mut Connection<'_>,
+    out: &mut K,
+) -> Result<(), Stop>
+    requires valid { IsValid table.now }
+    requires same { connection.old.calls.table ≡ table.now }
+    ensures told { OnOk result (IsTold connection.old connection.new) }
+    ensures lines { OnOk result (Appends (K.written out.old) (K.written out.new) (untold table.now connection.old)) }
+    ensures front { OnErr result (TellsSome (K.written out.old) (K.written out.new) (untold table.now connection.old)) }
+    ensures not_wire { result ≢ Err Stop.Wire }
+    ensures cause { HasCause (result ≡ Err Stop.Out) (K.faults out.old) (K.faults out.new) }
+{
+    connection.calls.is_connection();
+    let history = connection.calls.history();
+    let conn = connection.calls.number();
+    for place in connection.told..history.len() {
+        let mut line = Bytes::new(alloc);
+        append_record(alloc, &mut line, conn, history, place, table)?;
+        write_line(out, line.as_slice())?;
+    }
+    connection.told = history.len();
+    Ok(())
+}
+
+/// Writes a line.
+pub(crate) fn write_line<K: Sink>(out: &mut K, line: &[u8]) -> Result<(), Stop>
+    ensures written { OnOk result (Appends (K.written out.old) (K.written out.new) line.now) }
+    ensures front { OnErr result (AppendsFront (K.written out.old) (K.written out.new) line.now) }
+    ensures reason { IfErr result (λ stop. stop ≡ Stop.Out) }
+    ensures cause { HasCause (result ≡ Err Stop.Out) (K.faults out.old) (K.faults out.new) }
+{
+    if write_all(out, line) {
+        Ok(())
+    } else {
+        Err(Stop::Out)
+    }
+}
