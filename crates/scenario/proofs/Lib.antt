@@ -1,3 +1,4 @@
 mod Refusals
 mod Rows
 mod Texts
+mod SameKeys

@@ -1,23 +1,16 @@
 -- The definitions on texts, chains and policies at fault that were worked out by hand.
-use Rattle.std.proofs.Common.{◌≡◌, ◌⊎◌, ◌<◌, ℕ, ◌+◌, zero, suc, true, false, pos, List, [], ◌∷◌, codes, Some, None, Option, Contains, slice_index_or, refl, inl, inr, sym, ◌∙◌, ◌≤◌, subst, arith, lit≤, lit<}
+use Rattle.std.proofs.Common.{◌≡◌, ◌<◌, true, false, pos, List, [], codes, Some, None, refl, inl, inr, sym, ◌∙◌, ◌≤◌, subst, arith, lit≤, lit<}
 use Rattle.engine_core.specs.Chains.{Refusal, Refuses, detaches_none, full, no_place, no_such, order_of, taken}
 use Rattle.engine_core.specs.Chains as chains
-use Rattle.engine_core.specs.declared.op.Op.{Op}
 use Rattle.engine_core.specs.declared.op.Op.TheVariants as op
-use Rattle.engine_core.specs.declared.policy.Policy.TheVariants as policy
-use Rattle.mrpc_table.specs.declared.words.Decimal.TheVariants.{Small}
 use Rattle.policy_blocks.specs.declared.item.NamedPolicy.{NamedPolicy}
 use Rattle.run_plan.specs.Chains.{empty_chain}
-use Rattle.script_words.specs.Sorts.{name, number, unbounded, word}
-use Rattle.script_words.specs.declared.keyword.Keyword.TheVariants as keyword
-use Rattle.toml.specs.Data.{string, integer, array, table, no_items, item, Items, Members, no_members, member}
+use Rattle.toml.specs.Data.{string, integer, array, table, no_items, item, Members, no_members, member}
 use Rattle.toml.specs.Parse.{parse_document}
 use Rattle.toml.proofs.OnLiterals.{toml_on_literals}
-use Rattle.scenario.specs.Applications.{AppAgainst, AreAttached, FirstRefused, is_other, work}
+use Rattle.scenario.specs.Applications.{AppAgainst, is_other}
 use Rattle.scenario.specs.Keys.{format}
 use Rattle.scenario.specs.Reasons as reasons
-use Rattle.scenario.specs.Operators as operators
-use Rattle.scenario.specs.Operators.{OperatorAgainst, Steps, attaches, detaches}
 use Rattle.scenario.specs.Scenarios.{HasFault, IsAgainst, IsFirst, IsTableText, TopAgainst, no_toml}
 use Rattle.scenario.specs.Scenarios as scenarios
 use Rattle.scenario.specs.declared.fault.Entry.TheVariants as entry

@@ -1,14 +1,11 @@
 -- The definitions on scenarios that were worked out by hand: a client on connection 1 linked with an echo on connection
 -- 2, and entries that are at fault.
-use Rattle.std.proofs.Common.{◌≡◌, ◌⊎◌, ℕ, zero, suc, true, false, pos, List, [], ◌∷◌, codes, Some, None, Option, Contains, slice_index_or, refl, inl, inr, arith, lit≤, lit<}
-use Rattle.mrpc_table.specs.Lines.{words_of}
-use Rattle.mrpc_table.specs.Names.{IsFullName}
+use Rattle.std.proofs.Common.{◌≡◌, ℕ, true, false, pos, List, [], ◌∷◌, codes, Some, None, refl, arith, lit≤, lit<}
 use Rattle.mrpc_table.specs.declared.words.Decimal.TheVariants.{Small}
 use Rattle.app_program.specs.declared.program.ProgramLine.TheVariants as program
 use Rattle.policy_blocks.specs.declared.item.NamedPolicy.{NamedPolicy}
 use Rattle.run_plan.specs.declared.application.Application.{Application}
 use Rattle.run_plan.specs.declared.application.Role.TheVariants as plan_role
-use Rattle.run_plan.specs.declared.plan.Pair.{Pair}
 use Rattle.script_words.specs.Sorts.{number, unbounded}
 use Rattle.script_words.specs.Values.{plain}
 use Rattle.toml.specs.Data.{string, integer, array, table, no_items, item, Members, no_members, member}
@@ -17,7 +14,7 @@ use Rattle.toml.proofs.OnLiterals.{toml_on_literals}
 use Rattle.scenario.specs.Applications.{AppAgainst, LinkAgainst, app_tables, tenant_tables}
 use Rattle.scenario.specs.Applications as applications
 use Rattle.scenario.specs.Scenarios as scenarios
-use Rattle.scenario.specs.Keys.{end_a, format, heap, loads, receive, ring, role_of, top_keys, weight, workers}
+use Rattle.scenario.specs.Keys.{format, loads, top_keys, workers}
 use Rattle.scenario.specs.Lines.{submits_of}
 use Rattle.scenario_lines.specs.Lines.{LineSays, no_form}
 use Rattle.scenario_lines.specs.Programs.{in_line}
@@ -25,8 +22,8 @@ use Rattle.scenario_lines.specs.declared.form.LineForm.TheVariants as line
 use Rattle.scenario_lines.specs.declared.form.ProgramRole.TheVariants as of
 use Rattle.scenario_lines.specs.declared.reason.LineReason.TheVariants as reason
 use Rattle.scenario.specs.Scenarios.{AppSays, LinkSays, TopAgainst}
-use Rattle.scenario.specs.Values.{flag_at, has_keys, is_out, number_in, word_at}
-use Rattle.scenario.specs.declared.fault.ScenarioReason.TheVariants.{Key, Number, Name, Known, Unknown, Word, Place, Pair as NoPair}
+use Rattle.scenario_values.specs.Values.{flag_at, has_keys, number_in}
+use Rattle.scenario.specs.declared.fault.ScenarioReason.TheVariants.{Key, Number, Name, Known, Unknown, Word, Pair as NoPair}
 
 abbrev schema : List ℕ
 schema = codes "syntax = \"proto3\";\nmessage M { uint64 a = 1; }\nservice S { rpc Get (M) returns (M); }\n"

@@ -1,5 +1,5 @@
 -- What stands against applications and links of a scenario (this project's own).
-use Rattle.std.specs.Prelude.{◌≡◌, ℕ, ◌+◌, ◌*◌, ◌<◌, Bool, true, false, List, [], ◌∷◌, ◌++◌, map, flat_map, sum, codes, Contains, Option, Some, None, option_and_then, option_to_list}
+use Rattle.std.specs.Prelude.{◌≡◌, ℕ, ◌+◌, ◌*◌, ◌<◌, true, false, List, [], ◌∷◌, ◌++◌, map, flat_map, sum, codes, Contains, Option, Some, option_and_then, option_to_list}
 use Rattle.mrpc_table.specs.Names.{IsName}
 use Rattle.mrpc_table.specs.declared.policy_lines.RuleReason.{RuleReason}
 use Rattle.mrpc_table.specs.declared.table.Table.{Table}
@@ -9,7 +9,6 @@ use Rattle.schema_resolve.specs.Resolving.{Resolves}
 use Rattle.engine_core.specs.Chains.{Chain, Refusal, Refuses}
 use Rattle.engine_core.specs.declared.op.Op.{Op}
 use Rattle.engine_core.specs.declared.op.Op.TheVariants as op
-use Rattle.engine_core.specs.declared.policy.Policy.{Policy}
 use Rattle.policy_blocks.specs.declared.item.NamedPolicy.{NamedPolicy}
 use Rattle.run_plan.specs.Chains.{Changing, empty_chain}
 use Rattle.run_plan.specs.declared.limits.TheConstants.{MAX_WORK}
@@ -21,7 +20,7 @@ use Rattle.scenario_lines.specs.declared.form.ProgramRole.{ProgramRole}
 use Rattle.scenario_lines.specs.declared.reason.LineReason.{LineReason}
 use Rattle.scenario.specs.Policies.{LinesFail, name_of, names_of}
 use Rattle.scenario.specs.Reasons.{of_line, of_refusal, of_rule}
-use Rattle.scenario.specs.Values.{Range, has_keys, is_out, number_in, tables_at, text_at, texts_at, word_at}
+use Rattle.scenario_values.specs.Values.{TheRange, has_keys, is_out, number_in, tables_at, text_at, texts_at}
 use Rattle.scenario.specs.declared.fault.ScenarioReason.{ScenarioReason}
 use Rattle.scenario.specs.declared.fault.ScenarioReason.TheVariants.{Key, Number, Name, Known, Unknown, Schema, OtherKind, Pair, Work}
 use Rattle.scenario.specs.declared.form.Kind.TheVariants as kind
@@ -126,7 +125,7 @@ pub record FailsUnderOwn (all app : Members) (IsNamed : List ℕ → Type 0) (wh
 pub data AppAgainst (all : Members) (declared : List NamedPolicy) (before : List Members) (ms : Members)
     (reason : ScenarioReason) : Type 0 where
   wrong_keys : has_app_keys (role_of ms) ms ≡ false → reason ≡ Key → AppAgainst all declared before ms reason
-  out_of_range : (r : Range) → Contains app_ranges r → is_out ms r ≡ true → reason ≡ Number
+  out_of_range : (r : TheRange) → Contains app_ranges r → is_out ms r ≡ true → reason ≡ Number
       → AppAgainst all declared before ms reason
   in_program : (r : ProgramRole) (why : LineReason) → option_and_then program_role (role_of ms) ≡ Some r
       → ProgramAgainst r (number_in heap ms) (program_of ms) why → reason ≡ of_line why → AppAgainst all declared before ms reason
@@ -160,7 +159,7 @@ pub record IsClientOn (entries : List Members) (number : ℕ) : Type 0 where
 -- a reason stands against a link behind others
 pub data LinkAgainst (all : Members) (before : List Members) (ms : Members) (reason : ScenarioReason) : Type 0 where
   wrong_keys : has_keys link_keys ms ≡ false → reason ≡ Key → LinkAgainst all before ms reason
-  out_of_range : (r : Range) → Contains link_ranges r → is_out ms r ≡ true → reason ≡ Number
+  out_of_range : (r : TheRange) → Contains link_ranges r → is_out ms r ≡ true → reason ≡ Number
       → LinkAgainst all before ms reason
   no_app : (number : ℕ) → Contains (ends_of ms) number → (Contains (conns_of (app_tables all)) number → ⊥) → reason ≡ Unknown
       → LinkAgainst all before ms reason

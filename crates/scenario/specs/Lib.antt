@@ -1,4 +1,3 @@
-pub mod Values
 pub mod Keys
 pub mod Reasons
 pub mod Lines

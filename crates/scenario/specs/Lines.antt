@@ -1,5 +1,5 @@
 -- What programs and operators say by their lines, beyond each line by itself (this project's own).
-use Rattle.std.specs.Prelude.{◌≡◌, ℕ, ◌<◌, Bool, false, true, List, [], ◌∷◌, ◌++◌, count_by, Option, Some, None}
+use Rattle.std.specs.Prelude.{◌≡◌, ℕ, ◌<◌, Bool, false, true, List, ◌∷◌, ◌++◌, count_by, Option, Some, None}
 use Rattle.scenario_lines.specs.Lines.{form_of}
 use Rattle.scenario_lines.specs.Steps.{StepSays}
 use Rattle.scenario_lines.specs.declared.form.LineForm.{LineForm}

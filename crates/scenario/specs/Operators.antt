@@ -1,5 +1,5 @@
 -- What stands against the operators of a scenario (this project's own).
-use Rattle.std.specs.Prelude.{◌≡◌, ℕ, Bool, true, false, List, [], ◌∷◌, codes, Contains, Some}
+use Rattle.std.specs.Prelude.{◌≡◌, ℕ, ◌<◌, true, false, List, length, codes, Contains, Some}
 use Rattle.mrpc_table.specs.declared.policy_lines.RuleReason.{RuleReason}
 use Rattle.mrpc_table.specs.Lines.{in_64_bits}
 use Rattle.engine_core.specs.Chains.{Chain, Refusal}
@@ -7,6 +7,7 @@ use Rattle.engine_core.specs.declared.op.Op.{Op}
 use Rattle.engine_core.specs.declared.op.Op.TheVariants as op
 use Rattle.policy_blocks.specs.declared.item.NamedPolicy.{NamedPolicy}
 use Rattle.run_plan.specs.Chains.{Changing, empty_chain}
+use Rattle.run_plan.specs.declared.limits.TheConstants.{MAX_STEPS}
 use Rattle.toml.specs.Data.{Members}
 use Rattle.scenario.specs.Applications.{AreAttached, FailsUnderOwn, FirstRefused, app_tables, chain_of, conn_of, conns_of, policy_tables}
 use Rattle.scenario.specs.Keys.{operator_keys, operator_ranges}
@@ -18,7 +19,7 @@ use Rattle.scenario_lines.specs.declared.step.StepText.{StepText}
 use Rattle.scenario_lines.specs.declared.step.StepText.TheVariants as text
 use Rattle.scenario.specs.Policies.{names_of}
 use Rattle.scenario.specs.Reasons.{of_line, of_refusal, of_rule}
-use Rattle.scenario.specs.Values.{Range, has_keys, is_out, texts_at}
+use Rattle.scenario_values.specs.Values.{TheRange, has_keys, is_out, texts_at}
 use Rattle.scenario.specs.declared.fault.ScenarioReason.{ScenarioReason}
 use Rattle.scenario.specs.declared.fault.ScenarioReason.TheVariants.{Key, Number, Known, Unknown}
 
@@ -60,10 +61,11 @@ pub record NamesPolicy (lines : List (List ℕ)) (name : List ℕ) : Type 0 wher
 pub data OperatorAgainst (all : Members) (declared : List NamedPolicy) (before : List Members) (ms : Members)
     (reason : ScenarioReason) : Type 0 where
   wrong_keys : has_keys operator_keys ms ≡ false → reason ≡ Key → OperatorAgainst all declared before ms reason
-  out_of_range : (r : Range) → Contains operator_ranges r → is_out ms r ≡ true → reason ≡ Number
+  out_of_range : (r : TheRange) → Contains operator_ranges r → is_out ms r ≡ true → reason ≡ Number
       → OperatorAgainst all declared before ms reason
   in_line : (line : List ℕ) (why : LineReason) → Contains (steps_of ms) line → StepAgainst line why → reason ≡ of_line why
       → OperatorAgainst all declared before ms reason
+  too_many : MAX_STEPS < length (steps_of ms) → reason ≡ Number → OperatorAgainst all declared before ms reason
   falls : Falls (steps_of ms) → reason ≡ Number → OperatorAgainst all declared before ms reason
   is_known : Contains (conns_of before) (conn_of ms) → reason ≡ Known → OperatorAgainst all declared before ms reason
   no_app : (Contains (conns_of (app_tables all)) (conn_of ms) → ⊥) → reason ≡ Unknown

@@ -1,5 +1,5 @@
 -- What tenants and policies of a scenario say, and what stands against them (this project's own).
-use Rattle.std.specs.Prelude.{◌≡◌, ℕ, ◌≤◌, Bool, true, false, List, map, length, codes, Contains, Option, Some, None, position, slice_get}
+use Rattle.std.specs.Prelude.{◌≡◌, ℕ, ◌≤◌, Bool, true, false, List, map, length, codes, Contains, Option, Some, position, slice_get}
 use Rattle.std.specs.Str.{bytes_eq}
 use Rattle.mrpc_table.specs.Names.{IsName}
 use Rattle.mrpc_table.specs.declared.policy_lines.RuleReason.{RuleReason}
@@ -16,7 +16,7 @@ use Rattle.policy_blocks.specs.declared.limits.TheConstants.{MAX_TENANTS}
 use Rattle.toml.specs.Data.{Members}
 use Rattle.scenario.specs.Keys.{tenant_keys, per, kind_of, has_policy_keys, policy_ranges, amount, burst, cap}
 use Rattle.scenario.specs.Reasons.{of_rule}
-use Rattle.scenario.specs.Values.{Range, has_keys, is_out, number_in, word_at, texts_at}
+use Rattle.scenario_values.specs.Values.{TheRange, has_keys, is_out, number_in, word_at, texts_at}
 use Rattle.scenario.specs.declared.fault.ScenarioReason.{ScenarioReason}
 use Rattle.scenario.specs.declared.fault.ScenarioReason.TheVariants.{Key, Number, Name, Known, Unknown}
 use Rattle.scenario.specs.declared.form.Kind.{Kind}
@@ -54,7 +54,7 @@ LinesFail _ T ms why = ⊥
 pub data PolicyAgainst (T : Table) (tenants before : List Members) (ms : Members)
     (reason : ScenarioReason) : Type 0 where
   wrong_keys : has_policy_keys (kind_of ms) ms ≡ false → reason ≡ Key → PolicyAgainst T tenants before ms reason
-  out_of_range : (r : Range) → Contains (policy_ranges (kind_of ms)) r → is_out ms r ≡ true → reason ≡ Number
+  out_of_range : (r : TheRange) → Contains (policy_ranges (kind_of ms)) r → is_out ms r ≡ true → reason ≡ Number
       → PolicyAgainst T tenants before ms reason
   no_name : (IsName (name_of ms) → ⊥) → reason ≡ Name → PolicyAgainst T tenants before ms reason
   no_tenant_name : kind_of ms ≡ Some kind.Quota → (IsName (word_at (codes "tenant") ms) → ⊥) → reason ≡ Name

@@ -1,5 +1,5 @@
 -- The reasons of faults: their words, their order, and those of lines, of policies and of chains among them.
-use Rattle.std.specs.Prelude.{ℕ, List, codes}
+use Rattle.std.specs.Prelude.{ℕ, Bool, nat_le, if◌then◌else◌, List, codes, Option, Some, None}
 use Rattle.mrpc_table.specs.declared.policy_lines.RuleReason.{RuleReason}
 use Rattle.mrpc_table.specs.declared.policy_lines.RuleReason.TheVariants as rule
 use Rattle.engine_core.specs.Chains.{Refusal, no_such, taken, no_place, full, other_kind}
@@ -50,6 +50,19 @@ order_of ChainFull = 14
 order_of OtherKind = 15
 order_of Pair = 16
 order_of Work = 17
+
+abbrev pub first_of : ScenarioReason → ScenarioReason → ScenarioReason
+first_of one other = if nat_le (order_of one) (order_of other) then one else other
+
+-- the first of two reasons, where there are any
+abbrev pub earlier : Option ScenarioReason → Option ScenarioReason → Option ScenarioReason
+earlier None other = other
+earlier (Some one) None = Some one
+earlier (Some one) (Some other) = Some (first_of one other)
+
+-- the reason, where it holds
+abbrev pub reason_if : Bool → ScenarioReason → Option ScenarioReason
+reason_if holds reason = if holds then Some reason else None
 
 -- the reasons of program lines and step lines
 abbrev pub of_line : LineReason → ScenarioReason

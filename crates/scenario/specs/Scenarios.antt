@@ -1,5 +1,5 @@
 -- What a scenario says as a plan, entry by entry, and what stands against it (this project's own).
-use Rattle.std.specs.Prelude.{◌≡◌, ◌⊎◌, ◌↔◌, IsUtf8, ℕ, ◌+◌, ◌<◌, ◌≤◌, Bool, true, false, List, [], ◌∷◌, ◌++◌, map, length, codes, All, Contains, Option, Some, None, option_and_then, option_to_list, position, slice_get}
+use Rattle.std.specs.Prelude.{◌≡◌, ◌⊎◌, ◌↔◌, IsUtf8, ℕ, ◌+◌, ◌<◌, true, false, List, ◌∷◌, ◌++◌, map, length, codes, All, Contains, Option, Some, None, option_to_list, position, slice_get}
 use Rattle.std.specs.Str.{bytes_eq}
 use Rattle.mrpc_table.specs.Names.{IsFullName}
 use Rattle.mrpc_table.specs.Valid.{Ascends}
@@ -29,7 +29,7 @@ use Rattle.scenario_lines.specs.declared.form.ProgramRole.TheVariants as program
 use Rattle.scenario_lines.specs.declared.step.StepText.{StepText}
 use Rattle.scenario.specs.Policies.{KindSays, PolicyAgainst, PolicySays, TenantAgainst, TenantSays, name_of}
 use Rattle.scenario.specs.Reasons.{list_of_entry, number_of_entry, order_of}
-use Rattle.scenario.specs.Values.{Range, flag_at, has_keys, is_out, number_in, text_at, word_at}
+use Rattle.scenario_values.specs.Values.{TheRange, flag_at, has_keys, is_out, number_in, text_at, word_at}
 use Rattle.scenario.specs.declared.fault.Entry.{Entry}
 use Rattle.scenario.specs.declared.fault.Entry.TheVariants as entry
 use Rattle.scenario.specs.declared.fault.ScenarioFault.{ScenarioFault}
@@ -46,7 +46,7 @@ schema_of all = word_at (codes "schema") all
 -- a reason stands against the keys of the whole
 pub data TopAgainst (all : Members) (reason : ScenarioReason) : Type 0 where
   wrong_keys : has_keys top_keys all ≡ false → reason ≡ Key → TopAgainst all reason
-  out_of_range : (r : Range) → Contains top_ranges r → is_out all r ≡ true → reason ≡ Number → TopAgainst all reason
+  out_of_range : (r : TheRange) → Contains top_ranges r → is_out all r ≡ true → reason ≡ Number → TopAgainst all reason
   no_name : (IsFullName (word_at (codes "service") all) → ⊥) → reason ≡ Name → TopAgainst all reason
   no_table : ((T : Table) → HasTable (schema_of all) T → ⊥) → reason ≡ Schema → TopAgainst all reason
 

@@ -2,6 +2,9 @@
 
 ghost use Rattle.std.specs.Prelude.{◌≡◌};
 ghost use Rattle.scenario.specs.Reasons.{number_of_entry, order_of, reason_word};
+ghost use Rattle.scenario.specs.declared.fault.ScenarioFault.TheVariants.{Memory as NoMemory};
+
+use mrpc_table::Memory;
 
 /// What is wrong with an entry. Of several reasons at one entry, the first of this list counts.
 #[derive(Clone, Copy)]
@@ -116,5 +119,13 @@ impl Entry {
             | Entry::Link(number)
             | Entry::Operator(number) => number,
         }
+    }
+}
+
+impl From<Memory> for ScenarioFault {
+    ghost from_gives = { λ _ fault. fault ≡ NoMemory };
+
+    fn from(_: Memory) -> ScenarioFault {
+        ScenarioFault::Memory
     }
 }

@@ -1,0 +1,56 @@
+//! The first of several reasons.
+
+ghost use Rattle.std.specs.Prelude.{◌≡◌};
+ghost use Rattle.scenario.specs.Reasons.{earlier, of_line, of_rule, reason_if};
+
+use crate::fault::ScenarioReason;
+use mrpc_table::RuleReason;
+use scenario_lines::LineReason;
+
+/// The reason, where it holds.
+pub fn reason_if(holds: bool, reason: ScenarioReason) -> Option<ScenarioReason>
+    ensures { result ≡ reason_if holds reason }
+{
+    if holds { Some(reason) } else { None }
+}
+
+/// The first of two reasons.
+pub fn earlier(one: Option<ScenarioReason>, other: Option<ScenarioReason>) -> Option<ScenarioReason>
+    ensures { result ≡ earlier one other }
+{
+    match (one, other) {
+        (Some(one), Some(other)) => Some(if one.order() <= other.order() {
+            one
+        } else {
+            other
+        }),
+        (Some(one), None) => Some(one),
+        (None, other) => other,
+    }
+}
+
+/// The reason of a line of a program or of an operator.
+pub fn of_line(reason: LineReason) -> ScenarioReason
+    ensures { result ≡ of_line reason }
+{
+    match reason {
+        LineReason::Number => ScenarioReason::Number,
+        LineReason::Name => ScenarioReason::Name,
+        LineReason::Word => ScenarioReason::Word,
+        LineReason::Place => ScenarioReason::Place,
+    }
+}
+
+/// The reason of a line of a policy.
+pub fn of_rule(reason: RuleReason) -> ScenarioReason
+    ensures { result ≡ of_rule reason }
+{
+    match reason {
+        RuleReason::Word => ScenarioReason::Word,
+        RuleReason::Number => ScenarioReason::Number,
+        RuleReason::Name => ScenarioReason::Name,
+        RuleReason::Known => ScenarioReason::Known,
+        RuleReason::Path => ScenarioReason::Path,
+        RuleReason::Default => ScenarioReason::Default,
+    }
+}
