@@ -11,7 +11,9 @@ mod fault;
 mod first;
 mod form;
 pub mod keys;
+mod schema;
 
 pub use fault::{Entry, ScenarioFault, ScenarioReason};
 pub use first::{earlier, of_line, of_rule, reason_if};
 pub use form::{Kind, RoleWord};
+pub use schema::table_in;
