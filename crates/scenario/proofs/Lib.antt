@@ -2,3 +2,4 @@ mod Refusals
 mod Rows
 mod Texts
 mod SameKeys
+mod FirstReason

@@ -1,5 +1,5 @@
 -- What stands against applications and links of a scenario (this project's own).
-use Rattle.std.specs.Prelude.{◌≡◌, ℕ, ◌+◌, ◌*◌, ◌<◌, true, false, List, [], ◌∷◌, ◌++◌, map, flat_map, sum, codes, Contains, Option, Some, option_and_then, option_to_list}
+use Rattle.std.specs.Prelude.{◌≡◌, ℕ, ◌+◌, ◌*◌, ◌<◌, true, false, List, [], ◌∷◌, ◌++◌, map, flat_map, sum, codes, Contains, Option, Some, option_and_then, option_to_list, None}
 use Rattle.mrpc_table.specs.Names.{IsName}
 use Rattle.mrpc_table.specs.declared.policy_lines.RuleReason.{RuleReason}
 use Rattle.mrpc_table.specs.declared.table.Table.{Table}
@@ -32,6 +32,11 @@ pub record HasTable (text : List ℕ) (T : Table) : Type 0 where
   pub file : File
   pub reads : IsTextOf text file
   pub resolves : Resolves file T
+
+-- what a text has for a table; none where it has none
+abbrev pub IsTableIn : List ℕ → Option Table → Type 0
+IsTableIn text (Some T) = HasTable text T
+IsTableIn text None = (T : Table) → HasTable text T → ⊥
 
 -- ---- the lists of a scenario
 

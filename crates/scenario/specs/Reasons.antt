@@ -1,5 +1,5 @@
 -- The reasons of faults: their words, their order, and those of lines, of policies and of chains among them.
-use Rattle.std.specs.Prelude.{ℕ, Bool, nat_le, if◌then◌else◌, List, codes, Option, Some, None}
+use Rattle.std.specs.Prelude.{ℕ, Bool, nat_le, if◌then◌else◌, List, codes, Option, Some, None, ◌≤◌}
 use Rattle.mrpc_table.specs.declared.policy_lines.RuleReason.{RuleReason}
 use Rattle.mrpc_table.specs.declared.policy_lines.RuleReason.TheVariants as rule
 use Rattle.engine_core.specs.Chains.{Refusal, no_such, taken, no_place, full, other_kind}
@@ -63,6 +63,16 @@ earlier (Some one) (Some other) = Some (first_of one other)
 -- the reason, where it holds
 abbrev pub reason_if : Bool → ScenarioReason → Option ScenarioReason
 reason_if holds reason = if holds then Some reason else None
+
+-- of the reasons that stand, this is the first
+pub record IsFirstReason (Stands : ScenarioReason → Type 0) (reason : ScenarioReason) : Type 0 where
+  pub stands : Stands reason
+  pub first : (other : ScenarioReason) → Stands other → order_of reason ≤ order_of other
+
+-- the first of the reasons that stand, or none
+abbrev pub IsSoFar : (ScenarioReason → Type 0) → Option ScenarioReason → Type 0
+IsSoFar Stands None = (reason : ScenarioReason) → Stands reason → ⊥
+IsSoFar Stands (Some reason) = IsFirstReason Stands reason
 
 -- the reasons of program lines and step lines
 abbrev pub of_line : LineReason → ScenarioReason
