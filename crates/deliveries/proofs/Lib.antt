@@ -1,0 +1,4 @@
+mod Lived
+mod Reclaiming
+mod Rows
+mod Told

@@ -1,0 +1,105 @@
+-- Numbers of blocks that are judged, one by one.
+use Rattle.std.proofs.Common.{◌≡◌, ℕ, List, [], ◌∷◌, ◌++◌, refl, sym, ap, subst, ◌∙◌, append_assoc, append-nil, IsPermutation, Result, Ok, Err, OnOk, OnErr, is_err, true, false}
+use Rattle.std.proofs.lemmas.List.Sorted.{IsPermutation-append, IsPermutation-append_comm, IsPermutation-refl, IsPermutation-trans}
+use Rattle.std.proofs.lemmas.Bool.{true≢false}
+use Rattle.receive_heap.specs.Layout.{IsWithout}
+use Rattle.receive_heap.specs.declared.extents.Block.{Block}
+use Rattle.deliveries.specs.Telling.{IsCounting, IsReclaiming, LosesEach}
+use Rattle.deliveries.specs.declared.reclaims.Reclaims.{Reclaims}
+
+-- what a loop over the numbers keeps
+abbrev pub HasJudged : Reclaims → Reclaims → List Block → List Block → Type 0
+HasJudged old new held left = (numbers back : List ℕ) → IsReclaiming numbers back old → (more : List ℕ)
+    × (gained : List ℕ) × IsReclaiming (numbers ++ more) (back ++ gained) new × LosesEach gained held left
+
+pub judged-none : (r : Reclaims) (held : List Block) → HasJudged r r held held
+judged-none r held numbers back h = (
+  [],
+  [],
+  subst (λ xs. IsReclaiming xs (back ++ []) r) (sym (append-nil numbers))
+      (subst (λ xs. IsReclaiming numbers xs r) (sym (append-nil back)) h),
+  refl,
+)
+
+loses-more : (gained : List ℕ) (number : ℕ) (old between new : List Block) → LosesEach gained old between
+    → IsWithout number between new → LosesEach (gained ++ number ∷ []) old new
+loses-more [] number old between new same without =
+    (new, subst (λ b. IsWithout number b new) same without, refl)
+loses-more (first ∷ gained) number old between new each without =
+    (each.0, each.1, loses-more gained number each.0 between new each.2 without)
+
+-- a number named a held block
+pub judged-back : (old mid new : Reclaims) (held between left : List Block) (number : ℕ) → HasJudged old mid held between
+    → ((numbers : List ℕ) → IsCounting numbers mid → IsCounting (numbers ++ number ∷ []) new)
+    → new.not_held.items ≡ mid.not_held.items → IsWithout number between left → HasJudged old new held left
+judged-back old mid new held between left number judged counts same without numbers back h =
+    let j = judged numbers back h in (
+      j.0 ++ number ∷ [],
+      j.1 ++ number ∷ [],
+      record {
+        counting = subst (λ xs. IsCounting xs new) (append_assoc numbers j.0 (number ∷ [])) (counts (numbers ++ j.0)
+            j.2.counting);
+        split = subst (λ xs. IsPermutation xs (new.not_held.items ++ (back ++ (j.1 ++ number ∷ []))))
+            (append_assoc numbers j.0 (number ∷ []))
+            (subst (IsPermutation ((numbers ++ j.0) ++ number ∷ []))
+            (append_assoc mid.not_held.items (back ++ j.1) (number ∷ []) ∙ ap (λ xs. mid.not_held.items ++ xs)
+            (append_assoc back j.1 (number ∷ [])) ∙ ap (λ xs. xs ++ (back ++ (j.1 ++ number ∷ []))) (sym same))
+            (IsPermutation-append (numbers ++ j.0) (mid.not_held.items ++ (back ++ j.1)) (number ∷ []) (number ∷ [])
+            j.2.split (IsPermutation-refl (number ∷ []))));
+      },
+      loses-more j.1 number held between left j.3 without,
+    )
+
+-- and one that named none
+pub judged-not : (old mid new : Reclaims) (held left : List Block) (number : ℕ) → HasJudged old mid held left
+    → ((numbers : List ℕ) → IsCounting numbers mid → IsCounting (numbers ++ number ∷ []) new)
+    → new.not_held.items ≡ mid.not_held.items ++ number ∷ [] → HasJudged old new held left
+judged-not old mid new held left number judged counts grown numbers back h =
+    let j = judged numbers back h in (
+      j.0 ++ number ∷ [],
+      j.1,
+      record {
+        counting = subst (λ xs. IsCounting xs new) (append_assoc numbers j.0 (number ∷ [])) (counts (numbers ++ j.0)
+            j.2.counting);
+        split = subst (λ xs. IsPermutation xs (new.not_held.items ++ (back ++ j.1)))
+            (append_assoc numbers j.0 (number ∷ []))
+            (IsPermutation-trans ((numbers ++ j.0) ++ number ∷ [])
+            ((mid.not_held.items ++ (back ++ j.1)) ++ number ∷ []) (new.not_held.items ++ (back ++ j.1))
+            (IsPermutation-append (numbers ++ j.0) (mid.not_held.items ++ (back ++ j.1)) (number ∷ []) (number ∷ [])
+            j.2.split (IsPermutation-refl (number ∷ [])))
+            (subst (IsPermutation ((mid.not_held.items ++ (back ++ j.1)) ++ number ∷ []))
+            (ap (λ xs. xs ++ (back ++ j.1)) (sym grown))
+            (between mid.not_held.items (back ++ j.1) number)));
+      },
+      j.3,
+    )
+  where
+    between : (xs ys : List ℕ) (x : ℕ) → IsPermutation ((xs ++ ys) ++ x ∷ []) ((xs ++ x ∷ []) ++ ys)
+    between xs ys x = subst (λ zs. IsPermutation zs ((xs ++ x ∷ []) ++ ys)) (sym (append_assoc xs ys (x ∷ [])))
+        (subst (IsPermutation (xs ++ (ys ++ x ∷ []))) (sym (append_assoc xs (x ∷ []) ys))
+        (IsPermutation-append xs xs (ys ++ x ∷ []) (x ∷ ys) (IsPermutation-refl xs)
+        (IsPermutation-append_comm ys (x ∷ []))))
+
+-- the answer of the ring was that nothing came
+pub judged-same : (old mid new : Reclaims) (held left : List Block) → HasJudged old mid held left
+    → ((numbers : List ℕ) → IsCounting numbers mid → IsCounting numbers new)
+    → new.not_held.items ≡ mid.not_held.items → HasJudged old new held left
+judged-same old mid new held left judged counts same numbers back h =
+    let j = judged numbers back h in (
+      j.0,
+      j.1,
+      record {
+        counting = counts (numbers ++ j.0) j.2.counting;
+        split = subst (λ xs. IsPermutation (numbers ++ j.0) (xs ++ (back ++ j.1))) (sym same) j.2.split;
+      },
+      j.3,
+    )
+
+-- what holds of an answer without a fault, and of a fault
+pub ok-of : {A E P : Type 0} (r : Result A E) → is_err r ≡ false → OnOk r P → P
+ok-of (Ok x) is h = h
+ok-of (Err e) is h = absurd (true≢false is)
+
+pub err-of : {A E P : Type 0} (r : Result A E) → is_err r ≡ true → OnErr r P → P
+err-of (Ok x) is h = absurd (true≢false (sym is))
+err-of (Err e) is h = h

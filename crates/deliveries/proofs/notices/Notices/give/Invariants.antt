@@ -1,0 +1,15 @@
+use Rattle.std.proofs.Common.{◌≡◌, List, length}
+use Rattle.deliveries.specs.Telling.{AreSameRings, IsTelling}
+use Rattle.deliveries.specs.declared.arrivals.Delivered.{Delivered}
+use Rattle.deliveries.proofs.notices.Notices.give.Given as goal
+
+abbrev pub invariant-loop-self : goal.invariant-loop-self
+invariant-loop-self g l = record {
+  telling : (placed : List Delivered) → IsTelling l.fn.writer.heap placed l.fn.self
+      → IsTelling l.fn.writer.heap placed l.self;
+  rings : AreSameRings l.fn.self l.self;
+  writer : l.writer ≡ l.fn.writer;
+}
+
+abbrev pub decreases-loop-self : goal.decreases-loop-self
+decreases-loop-self g l = length l.self.waiting.items

@@ -1,0 +1,193 @@
+//! What an application is told of.
+
+ghost use Rattle.std.specs.Prelude.{◌≡◌, ◌≤◌, ◌<◌, ◌+◌, ◌++◌, ◌∷◌, [], List, length, true, false, None, IfOk, OnOk, OnErr};
+ghost use Rattle.shared_heap.specs.Fresh.{HeapId};
+ghost use Rattle.deliveries.specs.declared.arrivals.Delivered.{Delivered as Message};
+ghost use Rattle.deliveries.specs.Telling.{AreSameRings, AreTelling, IsMessage, IsTelling, TellsOf};
+ghost use Rattle.descriptor_ring.specs.Rings.{IsOf};
+
+use crate::arrivals::Delivered;
+use descriptor_ring::{Descriptor, Full, NumberSender, NumbersSent, Sender, Sent};
+use mrpc_table::Memory;
+use shared_heap::Writer;
+use std::collections::VecDeque;
+use std::sync::Wait;
+
+/// The rings on which an application is told of messages, and what it isn't told of yet.
+#[derive(Drop)]
+pub struct Notices {
+    /// Messages that wait for their notices, in order.
+    pub waiting: VecDeque<Delivered>,
+    /// The ring of notices; none once it was closed.
+    pub notices: Option<Sender>,
+    /// The ring of the numbers of blocks; none once it was closed.
+    pub blocks: Option<NumberSender>,
+    /// A number whose notice was given, and which found no room yet.
+    pub owed: Option<u64>,
+    /// How many numbers were given.
+    pub given: u64,
+    /// What is left of both rings.
+    pub noticed: Option<Sent>,
+    pub numbered: Option<NumbersSent>,
+}
+
+impl Notices {
+    /// Puts a message behind those that wait.
+    pub fn add(&mut self, message: Delivered) -> Result<(), Memory>
+        ensures telling { (heap : HeapId) (placed : List Message) → IsTelling heap placed self.old → IsMessage message
+            → length placed + 1 < 4294967294 → OnOk result (IsTelling heap (placed ++ message ∷ []) self.new) }
+        ensures rings { AreSameRings self.old self.new }
+        ensures memory { OnErr result (self.new.waiting.items ≡ self.old.waiting.items) }
+    {
+        self.waiting.push_back(message)?;
+        Ok(())
+    }
+
+    /// Gives notices, each with its number behind it, while both rings have room. Tells whether one was given.
+    pub fn give<R: Wait>(&mut self, rt: &R, writer: &mut Writer) -> bool
+        requires { AreTelling writer.old.heap self.old }
+        ensures telling { (placed : List Message) → IsTelling writer.old.heap placed self.old
+            → IsTelling writer.old.heap placed self.new }
+        ensures rings { AreSameRings self.old self.new }
+        ensures writer { writer.new ≡ writer.old }
+    {
+        let mut gave = false;
+        while self.give_number(rt) && self.give_notice(rt, writer) {
+            gave = true;
+        }
+        gave
+    }
+
+    // Gives the number that is owed. False where the ring is full.
+    fn give_number<R: Wait>(&mut self, rt: &R) -> bool
+        requires { (heap : HeapId) × AreTelling heap self.old }
+        ensures telling { (heap : HeapId) (placed : List Message) → IsTelling heap placed self.old
+            → IsTelling heap placed self.new }
+        ensures rings { AreSameRings self.old self.new }
+        ensures waiting { self.new.waiting ≡ self.old.waiting }
+        ensures given { result ≡ true → self.new.owed ≡ None }
+    {
+        let Some(number) = self.owed else {
+            return true;
+        };
+        let Some(blocks) = &mut self.blocks else {
+            return false;
+        };
+        if blocks.send(rt, number).is_err() {
+            return false;
+        }
+        self.owed = None;
+        self.given += 1;
+        true
+    }
+
+    // Gives the next notice. False where none waits, or the ring is full.
+    fn give_notice<R: Wait>(&mut self, rt: &R, writer: &mut Writer) -> bool
+        requires telling { AreTelling writer.old.heap self.old }
+        requires none_owed { self.old.owed ≡ None }
+        ensures telling { (placed : List Message) → IsTelling writer.old.heap placed self.old
+            → IsTelling writer.old.heap placed self.new }
+        ensures rings { AreSameRings self.old self.new }
+        ensures fewer { result ≡ true → length self.new.waiting.items + 1 ≤ length self.old.waiting.items }
+        ensures writer { writer.new ≡ writer.old }
+    {
+        let Some(message) = self.waiting.front().copied() else {
+            return false;
+        };
+        let Some(notices) = &mut self.notices else {
+            return false;
+        };
+        if notices.send(rt, notice(writer, message)).is_err() {
+            return false;
+        }
+        self.waiting.pop_front();
+        self.owed = Some(message.block);
+        true
+    }
+
+    /// Whether each message was given as a notice, with its number.
+    pub fn is_given(&self) -> bool
+        ensures { result ≡ true → (self.now.waiting.items ≡ []) × (self.now.owed ≡ None) }
+    {
+        self.waiting.is_empty() && self.owed.is_none()
+    }
+
+    /// Closes both rings, as far as they have room, once each message was given. Tells whether one was closed.
+    pub fn close<R: Wait>(&mut self, rt: &R) -> bool
+        ensures telling { (heap : HeapId) (placed : List Message) → IsTelling heap placed self.old
+            → IsTelling heap placed self.new }
+        ensures rings { AreSameRings self.old self.new }
+        ensures given { result ≡ true → (self.old.waiting.items ≡ []) × (self.old.owed ≡ None) }
+    {
+        if !self.is_given() {
+            return false;
+        }
+        let notices = self.close_notices(rt);
+        let blocks = self.close_blocks(rt);
+        notices || blocks
+    }
+
+    fn close_notices<R: Wait>(&mut self, rt: &R) -> bool
+        ensures telling { (heap : HeapId) (placed : List Message) → IsTelling heap placed self.old
+            → IsTelling heap placed self.new }
+        ensures rings { AreSameRings self.old self.new }
+    {
+        let Some(notices) = self.notices.take() else {
+            return false;
+        };
+        match notices.close(rt) {
+            Ok(sent) => {
+                self.noticed = Some(sent);
+                true
+            }
+            Err((back, _)) => {
+                self.notices = Some(back);
+                false
+            }
+        }
+    }
+
+    fn close_blocks<R: Wait>(&mut self, rt: &R) -> bool
+        ensures telling { (heap : HeapId) (placed : List Message) → IsTelling heap placed self.old
+            → IsTelling heap placed self.new }
+        ensures rings { AreSameRings self.old self.new }
+    {
+        let Some(blocks) = self.blocks.take() else {
+            return false;
+        };
+        match blocks.close(rt) {
+            Ok(sent) => {
+                self.numbered = Some(sent);
+                true
+            }
+            Err((back, _)) => {
+                self.blocks = Some(back);
+                false
+            }
+        }
+    }
+
+    /// Whether both rings were closed.
+    pub fn is_closed(&self) -> bool
+        ensures { result ≡ true → (self.now.notices ≡ None) × (self.now.blocks ≡ None) }
+    {
+        self.notices.is_none() && self.blocks.is_none()
+    }
+}
+
+// The notice of a message, which knows the stores that placed it.
+fn notice(writer: &mut Writer, message: Delivered) -> Descriptor
+    requires { IsMessage message }
+    ensures of_heap { IsOf writer.old.heap result }
+    ensures tells { TellsOf message result }
+    ensures writer { writer.new ≡ writer.old }
+{
+    Descriptor {
+        kind: message.kind,
+        method: message.method,
+        number: message.number,
+        addr: message.addr,
+        stores: writer.stores(),
+        note: writer.note(),
+    }
+}
