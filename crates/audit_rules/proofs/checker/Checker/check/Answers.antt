@@ -1,5 +1,4 @@
-use Rattle.std.proofs.Common.{◌≡◌, ◌∷◌, ◌∙◌, false, true, ap, arith, subst, sym}
-use Rattle.std.specs.Bool.{OnTrue}
+use Rattle.std.proofs.Common.{◌≡◌, ◌∷◌, ◌∙◌, false, true, ap, subst, sym}
 use Rattle.std.specs.Prelude.{IfNone, IfSome, Option}
 use Rattle.call_history.specs.Rules.{May}
 use Rattle.audit_rules.specs.First.{BreaksFirst}
