@@ -4,6 +4,7 @@ mod Draws
 mod Due
 mod Entries
 mod Firsts
+mod Given
 mod Going
 mod Known
 mod Noting

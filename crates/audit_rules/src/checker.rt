@@ -10,7 +10,7 @@ ghost use Rattle.mrpc_table.specs.declared.table.Table.{Table as TheTable};
 ghost use Rattle.engine_core.specs.Answers.{note, ticket_in};
 ghost use Rattle.engine_core.specs.Chains.{Entry};
 ghost use Rattle.engine_core.specs.Policies.{IsPolicy};
-ghost use Rattle.engine_core.specs.Turns.{refusal};
+ghost use Rattle.engine_core.specs.Turns.{noted_in, refusal};
 ghost use Rattle.engine_core.specs.declared.op.Op.TheVariants.{Attach, Detach, Upgrade};
 ghost use Rattle.call_history.specs.Behind.{Behind, chain, has_failed, policy_of, standing};
 ghost use Rattle.call_history.specs.Events.{note_behind};
@@ -97,32 +97,30 @@ impl Checker {
     }
 
     /// Judges the next happening: answers the first rule that it breaks, if it breaks one. Where it breaks none, the
-    /// checker knows what is behind with it; of a checker that has answered a rule, nothing more is to be asked. It
-    /// answers that memory is wanted only where a turn of a quota drew another ticket than the one that it was given,
-    /// which no turn does and the contract of tickets doesn't say.
-    pub fn check(&mut self, table: &Table, what: Happening) -> Result<Option<Rule>, Memory>
+    /// checker knows what is behind with it; of a checker that has answered a rule, nothing more is to be asked.
+    pub fn check(&mut self, table: &Table, what: Happening) -> Option<Rule>
         requires valid { IsValid table.now }
         requires knowing { IsKnowing table.now self.old }
         requires readable { IsReadable table.now what }
         ensures may { (past : Behind) → Knows table.now past self.old
-            → IfOk result (λ r. IfNone r (May (under table.now self.old) past what)) }
+            → IfNone result (May (under table.now self.old) past what) }
         ensures knows { (past : Behind) → Knows table.now past self.old
-            → IfOk result (λ r. IfNone r (Knows table.now (what ∷ past) self.new)) }
+            → IfNone result (Knows table.now (what ∷ past) self.new) }
         ensures breaks { (past : Behind) → Knows table.now past self.old
-            → IfOk result (λ r. IfSome r (λ rule. BreaksFirst (under table.now self.old) past what rule)) }
+            → IfSome result (λ rule. BreaksFirst (under table.now self.old) past what rule) }
         ensures same { (T : TheTable) → under T self.new ≡ under T self.old }
     {
         if !self.is_numbered(table, &what) {
-            return Ok(Some(Rule::A));
+            return Some(Rule::A);
         }
         if !self.refuses_malformed(&what) {
-            return Ok(Some(Rule::B));
+            return Some(Rule::B);
         }
         let drawn = self.refuses_drawn(&what);
         let linked = self.keeps_link(&what);
         let own = own_rule(&what);
-        let kept = self.meets(table, what)?;
-        Ok(first_of(own, kept, drawn, linked))
+        let kept = self.meets(table, what);
+        first_of(own, kept, drawn, linked)
     }
 
     // ---- what is asked of every happening
@@ -215,34 +213,34 @@ impl Checker {
     // ---- what is asked of each by itself
 
     // Whether a happening keeps the rule of its own kind; what it makes of the connection.
-    fn meets(&mut self, table: &Table, what: Happening) -> Result<bool, Memory>
+    fn meets(&mut self, table: &Table, what: Happening) -> bool
         requires valid { IsValid table.now }
         requires knowing { IsKnowing table.now self.old }
         requires readable { IsReadable table.now what }
         requires numbered { (past : Behind) × Knows table.now past self.old
             × IsNumbered (under table.now self.old) past what }
         requires free { IsFreeBefore what self.old.left }
-        ensures kept { (past : Behind) → Knows table.now past self.old → IfOk result (λ kept. OnTrue kept
-            (Owns (under table.now self.old) past what (own_rule what))) }
-        ensures broken { (past : Behind) → Knows table.now past self.old → IfOk result (λ kept. OnFalse kept
-            (Owns (under table.now self.old) past what (own_rule what) → ⊥)) }
+        ensures kept { (past : Behind) → Knows table.now past self.old
+            → OnTrue result (Owns (under table.now self.old) past what (own_rule what)) }
+        ensures broken { (past : Behind) → Knows table.now past self.old
+            → OnFalse result (Owns (under table.now self.old) past what (own_rule what) → ⊥) }
         ensures knows { (past : Behind) → Knows table.now past self.old → May (under table.now self.old) past what
-            → IfOk result (λ kept. OnTrue kept (Knows table.now (what ∷ past) self.new)) }
+            → OnTrue result (Knows table.now (what ∷ past) self.new) }
         ensures same { (T : TheTable) → under T self.new ≡ under T self.old }
     {
         match what {
             Happening::Took(call) => {
                 self.take(call);
-                Ok(true)
+                true
             }
             Happening::Away { .. } => {
                 self.turn_away();
-                Ok(true)
+                true
             }
-            Happening::Op(step) => Ok(self.operate(step)),
-            Happening::Moment { ms } => Ok(self.show(ms)),
+            Happening::Op(step) => self.operate(step),
+            Happening::Moment { ms } => self.show(ms),
             Happening::Charged { seq, name, level } => {
-                Ok(self.note(table, seq, &name, Noted::Charged { level }))
+                self.note(table, seq, &name, Noted::Charged { level })
             }
             Happening::Drawn {
                 seq,
@@ -250,12 +248,10 @@ impl Checker {
                 window,
                 ticket,
             } => self.draw(table, seq, name, window, ticket),
-            Happening::Counted { seq, name } => Ok(self.note(table, seq, &name, Noted::Counted)),
-            Happening::Redacted { seq, name, version } => {
-                Ok(self.clear(table, seq, &name, version))
-            }
-            Happening::Sent { seq, bytes } => Ok(self.send(table, seq, bytes)),
-            Happening::Refused { seq, cause } => Ok(self.refuse(table, seq, cause)),
+            Happening::Counted { seq, name } => self.note(table, seq, &name, Noted::Counted),
+            Happening::Redacted { seq, name, version } => { self.clear(table, seq, &name, version) }
+            Happening::Sent { seq, bytes } => self.send(table, seq, bytes),
+            Happening::Refused { seq, cause } => self.refuse(table, seq, cause),
         }
     }
 
@@ -441,6 +437,8 @@ impl Checker {
             self.new.engines.items self.new.calls self.new.reached.items) }
         ensures none { (past : Behind) → Knows table.now past self.old
             → IfNone result ((e : Entry) → IsAt (under table.now self.old) past seq name.now e → ⊥) }
+        ensures drawn { IfSome result (λ a. (window drawn : ℕ) → noted_in a.outcome ≡ Noted.Drawn window drawn
+            → drawn ≡ ticket) }
         ensures numbers { seqs_of self.new.calls ≡ seqs_of self.old.calls }
         ensures entries { map (λ e. e.entry) self.new.engines.items ≡ map (λ e. e.entry) self.old.engines.items }
         ensures of_table { All (λ s. IsCallOf table.now s.call) self.new.calls }
@@ -508,50 +506,32 @@ impl Checker {
         true
     }
 
-    // A ticket of a quota. A turn draws the ticket that it is given, which its contract doesn't say: `Memory` comes where
-    // it drew another.
-    fn draw(
-        &mut self,
-        table: &Table,
-        seq: u32,
-        name: Name,
-        window: u64,
-        ticket: u64,
-    ) -> Result<bool, Memory>
+    // A ticket of a quota.
+    fn draw(&mut self, table: &Table, seq: u32, name: Name, window: u64, ticket: u64) -> bool
         requires knowing { IsKnowing table.now self.old }
         requires free { IsFree self.old.left }
-        ensures due { (past : Behind) → Knows table.now past self.old → IfOk result (λ kept. OnTrue kept
-            (IsCalledFor (under table.now self.old) past seq name (Noted.Drawn window ticket))) }
-        ensures not_due { (past : Behind) → Knows table.now past self.old → IfOk result (λ kept. OnFalse kept
-            (IsCalledFor (under table.now self.old) past seq name (Noted.Drawn window ticket) → ⊥)) }
+        ensures due { (past : Behind) → Knows table.now past self.old
+            → OnTrue result (IsCalledFor (under table.now self.old) past seq name (Noted.Drawn window ticket)) }
+        ensures not_due { (past : Behind) → Knows table.now past self.old
+            → OnFalse result (IsCalledFor (under table.now self.old) past seq name (Noted.Drawn window ticket) → ⊥) }
         ensures knows { (past : Behind) → Knows table.now past self.old
-            → May (under table.now self.old) past (Drawn seq name window ticket) → IfOk result (λ kept. OnTrue kept
-            (Knows table.now (Drawn seq name window ticket ∷ past) self.new)) }
+            → May (under table.now self.old) past (Drawn seq name window ticket)
+            → OnTrue result (Knows table.now (Drawn seq name window ticket ∷ past) self.new) }
         ensures same { (T : TheTable) → under T self.new ≡ under T self.old }
     {
         one_answer();
         chain_goes_on();
         let Some(asked) = self.ask(table, seq, &name, ticket) else {
-            return Ok(false);
+            return false;
         };
-        let Noted::Drawn {
-            window: due,
-            ticket: drawn,
-        } = noted_in(asked.outcome)
-        else {
-            return Ok(false);
-        };
-        if due != window {
-            return Ok(false);
-        }
-        if drawn != ticket {
-            return Err(Memory);
+        if noted_in(asked.outcome) != (Noted::Drawn { window, ticket }) {
+            return false;
         }
         if !self.is_next(&asked, seq) {
-            return Ok(false);
+            return false;
         }
         self.await_refusal(asked.at, seq, name, ticket);
-        Ok(true)
+        true
     }
 
     // A call whose ticket isn't below the cap waits for its refusal.

@@ -12,6 +12,7 @@
 
 mod ask;
 mod checker;
+mod drawn;
 mod engines;
 mod left;
 mod prepared;
