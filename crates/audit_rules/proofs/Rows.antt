@@ -1,10 +1,9 @@
 -- The definitions on a small history that was worked out by hand: a policy needs a field that another clears. The call's
 -- copy has the field, so the policy lets it pass; its form doesn't, so the call is refused, and may not be sent.
-use Rattle.std.proofs.Common.{◌≡◌, ℕ, Bool, true, false, ◌<◌, List, [], ◌∷◌, codes, reverse, refl, sym, ap, ◌∙◌, arith}
-use Rattle.std.specs.Prelude.{Option, Some}
+use Rattle.std.proofs.Common.{◌≡◌, ℕ, true, false, ◌<◌, List, [], ◌∷◌, codes, reverse, refl, sym, ap, ◌∙◌, arith}
+use Rattle.std.specs.Prelude.{Some}
 use Rattle.std.proofs.lemmas.List.Elements.{All-head}
 use Rattle.mrpc_table.specs.Node.{Node, no_fields, field, one, number}
-use Rattle.mrpc_table.specs.declared.call.Call.{Call}
 use Rattle.mrpc_table.specs.declared.call.Sort.TheVariants.{Request}
 use Rattle.mrpc_table.specs.declared.table.Field.{Field}
 use Rattle.mrpc_table.specs.declared.table.Kind.TheVariants.{Uint64}
@@ -20,15 +19,12 @@ use Rattle.engine_core.specs.Chains.{new_entry}
 use Rattle.engine_core.specs.declared.op.Op.TheVariants.{Attach}
 use Rattle.engine_core.specs.declared.policy.Policy.{Policy}
 use Rattle.engine_core.specs.declared.policy.Policy.TheVariants.{Access, Redact}
-use Rattle.call_history.specs.Behind.{Behind, chain, form, standing, with_tree}
+use Rattle.call_history.specs.Behind.{Behind, chain, form, with_tree}
 use Rattle.call_history.specs.Rules.{Lets, Under}
-use Rattle.call_history.specs.declared.happening.Cause.TheVariants as cause
-use Rattle.call_history.specs.declared.happening.Happening.TheVariants.{Took, Op, Redacted, Sent, Refused}
+use Rattle.call_history.specs.declared.happening.Happening.TheVariants.{Took, Op, Redacted, Sent}
 use Rattle.call_history.specs.declared.happening.Taken.{Taken}
 use Rattle.call_history.specs.declared.happening.TookCopy.TheVariants.{Copy}
 use Rattle.audit_rules.specs.First.{BreaksFirst, Keeps, order_of}
-use Rattle.audit_rules.specs.Knowing.{with_waiting}
-use Rattle.audit_rules.specs.Sorts.{first_of, own_rule}
 use Rattle.audit_rules.specs.Telling.{name_at}
 use Rattle.audit_rules.specs.declared.rule.Rule.{Rule}
 use Rattle.audit_rules.specs.declared.rule.Rule.TheVariants.{A, B, C, D, E, F, G, Stands}
