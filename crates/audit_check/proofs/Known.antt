@@ -60,11 +60,6 @@ apart_at a b other = let isnt : (a == b) ≡ false = ne_eqb a b other in rw isnt
 abbrev pub KnowsEach : Table → ℕ → History → BTreeMap ℕ Checker → Type 0
 KnowsEach T limit h m = (conn : ℕ) → KnowsOn T limit conn (behind conn h) (get nat_cmp m conn)
 
-pub ok_none : {A E : Type 0} {P Q : Type 0} (r : Result (Option A) E) → (P → Q) → IfOk r (λ o. IfNone o P) → IfOk r (λ o. IfNone o Q)
-ok_none (Ok None) f p = f p
-ok_none (Ok (Some x)) f p = tt
-ok_none (Err e) f p = tt
-
 pub knows_more : (T : Table) (limit : ℕ) (h : History) (next : Happened) (m n : BTreeMap ℕ Checker) (c : Checker)
     → KnowsEach T limit h m → Updates nat_cmp m n next.conn (Some c) → Knows T (next.what ∷ behind next.conn h) c
     → under T c ≡ on_connection T limit next.conn → KnowsEach T limit (h ++ next ∷ []) n

@@ -37,7 +37,8 @@ impl Connections {
         }
     }
 
-    /// Judges the next happening on its connection: the first rule that it breaks, if it breaks one.
+    /// Judges the next happening on its connection: the first rule that it breaks, if it breaks one. `Memory` comes only
+    /// where it is the first one there and no memory was found for its checker.
     pub fn check(
         &mut self,
         alloc: Global,
@@ -56,7 +57,7 @@ impl Connections {
         ensures limit { self.new.limit ≡ self.old.limit }
     {
         match self.checkers.get_mut(&next.conn) {
-            Some(checker) => checker.check(table, next.what),
+            Some(checker) => Ok(checker.check(table, next.what)),
             None => self.begin(alloc, table, next),
         }
     }
@@ -81,7 +82,7 @@ impl Connections {
     {
         let Happened { conn, what } = next;
         let mut checker = Checker::open(alloc, conn, self.limit)?;
-        let rule = checker.check(table, what)?;
+        let rule = checker.check(table, what);
         let _ = self.checkers.insert(conn, checker)?;
         Ok(rule)
     }

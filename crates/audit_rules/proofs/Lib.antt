@@ -4,11 +4,13 @@ mod Draws
 mod Due
 mod Entries
 mod Firsts
+mod Given
 mod Going
 mod Known
 mod Noting
 mod Numbers
 mod Operating
+mod Rows
 mod Sends
 mod States
 mod Stepping

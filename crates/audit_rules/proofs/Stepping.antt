@@ -1,15 +1,13 @@
 -- A step of an operator: whether the chain refuses it, and what it makes of what a checker knows.
-use Rattle.std.proofs.Common.{◌≡◌, ◌≢◌, ℕ, ◌+◌, ◌<◌, ◌≤◌, min, zero, suc, Bool, true, false, cond, not, if◌then◌else◌, ◌⊎◌, inl, inr, List, [], ◌∷◌, ◌++◌, length, map, filter, take, drop, set, get_or, insert, remove, slice_get, Contains, Option, Some, None, is_some, refl, sym, ap, ◌∙◌, subst, arith}
+use Rattle.std.proofs.Common.{◌≡◌, ◌≢◌, ℕ, ◌+◌, ◌<◌, ◌≤◌, min, zero, suc, Bool, true, false, cond, not, if◌then◌else◌, List, [], ◌∷◌, ◌++◌, length, map, filter, take, drop, set, get_or, insert, remove, slice_get, Contains, Option, Some, None, is_some, refl, sym, ap, ◌∙◌, subst, arith}
 use Rattle.std.specs.Prelude.{All, vec_capacity}
 use Rattle.std.specs.List.{AllZip, position}
 use Rattle.std.specs.VecDeque.{deque_capacity}
-use Rattle.std.proofs.lemmas.Grind.{common_steps}
 use Rattle.std.proofs.lemmas.List.{length-map}
-use Rattle.std.proofs.lemmas.List.Elements.{All-append, All-cons, All-drop, All-head, All-nil, All-set, All-tail, All-take}
-use Rattle.std.proofs.lemmas.Slice.Eq.{bytes_eq-Decides}
+use Rattle.std.proofs.lemmas.List.Elements.{All-append, All-cons, All-drop, All-nil, All-set, All-take}
 use Rattle.mrpc_table.specs.Valid.{AreDistinct}
 use Rattle.mrpc_table.specs.declared.table.Table.{Table}
-use Rattle.engine_core.specs.Answers.{Past, nothing}
+use Rattle.engine_core.specs.Answers.{nothing}
 use Rattle.engine_core.specs.Chains.{Chain, Changes, Entry, IsAgainst, IsChain, Refusal, Refuses, changed, is_named, names_of, new_entry, upgraded, no_such, taken, no_place, full, other_kind, detaches_none, upgrades_none, is_taken, is_past, is_full, is_other}
 use Rattle.engine_core.specs.Engines.{EngineParts}
 use Rattle.engine_core.specs.Marks.{IsTrueFor, StandingCall}
@@ -21,7 +19,7 @@ use Rattle.call_history.specs.Behind.{Behind, chain, moment, noted, noted_calls}
 use Rattle.call_history.specs.Rules.{KeepsChain, May}
 use Rattle.call_history.specs.Ties.{AreTied, AttachesOn, DetachesOn, UpgradesOn}
 use Rattle.call_history.specs.declared.happening.Happening.TheVariants.{Op}
-use Rattle.audit_rules.specs.Knowing.{HasRoom, IsLatest, Knows, greatest, under}
+use Rattle.audit_rules.specs.Knowing.{IsLatest, Knows, greatest, under}
 use Rattle.audit_rules.specs.declared.checker.Checker.{Checker}
 use Rattle.audit_rules.proofs.Asked.{All-at, map-at}
 use Rattle.audit_rules.proofs.Entries.{found, named-is, none-found}

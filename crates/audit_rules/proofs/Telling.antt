@@ -1,5 +1,5 @@
 -- The lines of the calls that stand.
-use Rattle.std.proofs.Common.{◌≡◌, ◌≢◌, ℕ, ◌+◌, ◌<◌, ◌≤◌, min, zero, suc, List, [], ◌∷◌, ◌++◌, length, map, take, slice_get, refl, sym, ap, ◌∙◌, subst, arith}
+use Rattle.std.proofs.Common.{◌≡◌, ◌≢◌, ℕ, ◌+◌, ◌<◌, ◌≤◌, zero, suc, List, [], ◌∷◌, ◌++◌, length, map, slice_get, refl, sym, ap, ◌∙◌, subst, arith}
 use Rattle.std.specs.Prelude.{All, IfNone, IfSome, IsSomeAnd, Option, Some, None}
 use Rattle.std.proofs.lemmas.List.{length-append, length-map}
 use Rattle.std.proofs.lemmas.List.Elements.{All-cons, All-head, All-nil, All-tail}
@@ -10,10 +10,9 @@ use Rattle.engine_core.specs.Chains.{Chain, Entry}
 use Rattle.engine_core.specs.Engines.{EngineParts}
 use Rattle.engine_core.specs.Marks.{StandingCall, past_of}
 use Rattle.engine_core.specs.declared.TheConstants.{MAX_ENGINES}
-use Rattle.call_history.specs.Behind.{Behind, chain, form, level, moment, noted, standing}
+use Rattle.call_history.specs.Behind.{Behind, chain, level, moment, noted, standing}
 use Rattle.call_history.specs.Legal.{AwaitsMalformed, IsSettledUp}
-use Rattle.call_history.specs.Places.{IsHeld, MayStandAt}
-use Rattle.call_history.specs.Rules.{Gives, Lets, Under}
+use Rattle.call_history.specs.Rules.{Gives, Under}
 use Rattle.call_history.specs.Ties.{AreTied, IsCallBehind, IsEngineBehind}
 use Rattle.call_history.specs.declared.happening.Taken.{Taken}
 use Rattle.audit_rules.specs.Asking.{LetsAll, seqs_of}
@@ -24,7 +23,6 @@ use Rattle.audit_rules.specs.declared.left.Left.{Left}
 use Rattle.audit_rules.specs.declared.left.Left.TheVariants.{Nothing, Over, Waits}
 use Rattle.audit_rules.proofs.Asked.{All-at, OneAnswer, map-at, one-gives}
 use Rattle.audit_rules.proofs.Known.{known-standing, unmap-at}
-use Rattle.audit_rules.proofs.Numbers.{within}
 
 -- ---- the lowest position
 

@@ -1,5 +1,5 @@
 -- What a line tells of a call that stands (this project's own).
-use Rattle.std.specs.Prelude.{◌≡◌, ℕ, ◌<◌, ◌≤◌, List, ◌∷◌, [], ◌++◌, All, length, map, take, codes, option_map, unwrap_or, slice_get, Option, Some, None}
+use Rattle.std.specs.Prelude.{◌≡◌, ℕ, ◌<◌, ◌≤◌, List, All, length, take, codes, option_map, unwrap_or, slice_get, Option, Some, None}
 use Rattle.std.specs.List.{AllZip}
 use Rattle.engine_core.specs.Chains.{Entry}
 use Rattle.call_history.specs.Behind.{Behind, chain, standing}

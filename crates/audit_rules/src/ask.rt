@@ -7,6 +7,7 @@ ghost use Rattle.mrpc_table.specs.Calls.{IsCallOf};
 ghost use Rattle.engine_core.specs.Answers.{pass};
 ghost use Rattle.engine_core.specs.Chains.{Entry};
 ghost use Rattle.engine_core.specs.Marks.{StandingCall};
+ghost use Rattle.engine_core.specs.Turns.{noted_in};
 ghost use Rattle.engine_core.specs.Working.{Works};
 ghost use Rattle.call_history.specs.Behind.{Behind, moment, standing};
 ghost use Rattle.call_history.specs.Legal.{IsPrefix};
@@ -14,6 +15,7 @@ ghost use Rattle.call_history.specs.Rules.{IsAt, Under};
 ghost use Rattle.call_history.specs.Ties.{AreNumbersApart, AreTied};
 ghost use Rattle.audit_rules.specs.Asking.{IsAsked, IsRising, IsRowBehind, LetsAll, answer_of, seqs_of};
 
+use crate::drawn::Draws;
 use crate::engines::place_of;
 use crate::prepared::Prepared;
 use call_history::{chain_goes_on, ties_go_on};
@@ -74,9 +76,11 @@ pub fn work(
     requires engine { at < length engines.old }
     requires few { length engines.old ≤ 8 }
     requires of_table { All (λ s. IsCallOf table.now s.call) calls.old }
-    ensures { Works engines.old calls.old at place now result engines.new calls.new }
+    ensures works { Works engines.old calls.old at place now result engines.new calls.new }
+    ensures drawn { (window drawn : ℕ) → noted_in result ≡ Noted.Drawn window drawn → drawn ≡ ticket }
 {
-    let mut prepared = Prepared { ticket };
+    let draws = Draws::new();
+    let mut prepared = Prepared { ticket, draws };
     calls.work(place, engines, at, table, now, &mut prepared)
 }
 
@@ -153,6 +157,8 @@ pub fn ask(
         → IsRowBehind u past engines.old attached calls.old reached.old.items now
         → seqs_of calls.old ≡ map (λ call. call.seq) (standing past)
         → IfNone result ((e : Entry) → IsAt u past seq name.now e → ⊥) }
+    ensures drawn { IfSome result (λ a. (window drawn : ℕ) → noted_in a.outcome ≡ Noted.Drawn window drawn
+        → drawn ≡ ticket) }
     ensures numbers { seqs_of calls.new ≡ seqs_of calls.old }
     ensures entries { map (λ e. e.entry) engines.new ≡ map (λ e. e.entry) engines.old }
     ensures of_table { All (λ s. IsCallOf table.now s.call) calls.new }

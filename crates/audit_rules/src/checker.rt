@@ -1,37 +1,43 @@
 //! The checker of one connection.
 
 ghost use Rattle.std.specs.Bool.{OnFalse, OnTrue};
+ghost use Rattle.std.specs.Prelude.{◌≡◌, ◌≢◌, ◌↔◌, ◌<◌, ◌≤◌, ◌+◌, ◌∷◌, [], ℕ, List, All};
+ghost use Rattle.std.specs.Prelude.{IfNone, IfOk, IfSome, IsTrue, None, Some};
+ghost use Rattle.std.specs.Prelude.{length, map, set, slice_get, slice_index, vec_capacity};
 ghost use Rattle.mrpc_table.specs.Calls.{IsCallOf};
-ghost use Rattle.policy_access.specs.Verdict.{AccessPolicy};
-ghost use Rattle.engine_core.specs.Answers.{note, ticket_in};
-ghost use Rattle.engine_core.specs.Chains.{Entry};
-ghost use Rattle.engine_core.specs.Turns.{noted_in, refusal};
-ghost use Rattle.std.specs.Prelude.{◌≡◌, ◌≢◌, ◌↔◌, None, map, ◌+◌, ◌<◌, ◌≤◌, ◌∷◌, ◌++◌, [], ℕ, List, All, IfNone, IfOk, IfSome, IsTrue, length, set, slice_get, slice_index, vec_capacity, Some};
 ghost use Rattle.mrpc_table.specs.Valid.{IsValid};
 ghost use Rattle.mrpc_table.specs.declared.table.Table.{Table as TheTable};
+ghost use Rattle.engine_core.specs.Answers.{note, ticket_in};
+ghost use Rattle.engine_core.specs.Chains.{Entry};
+ghost use Rattle.engine_core.specs.Policies.{IsPolicy};
+ghost use Rattle.engine_core.specs.Turns.{noted_in, refusal};
+ghost use Rattle.engine_core.specs.declared.op.Op.TheVariants.{Attach, Detach, Upgrade};
 ghost use Rattle.call_history.specs.Behind.{Behind, chain, has_failed, policy_of, standing};
 ghost use Rattle.call_history.specs.Events.{note_behind};
 ghost use Rattle.call_history.specs.Legal.{AwaitsLink, IsSettledUp};
-ghost use Rattle.call_history.specs.Rules.{EndsWithLink, IsAnswered, IsAt, IsCalledFor, IsCleared, IsDenied, IsNumbered, IsSentNext, IsTakenBy, KeepsChain, MayTake, Meets, RefusesDrawn, RefusesMalformed, May, cap_of, payload};
+ghost use Rattle.call_history.specs.Rules.{IsNumbered, MayTake, RefusesDrawn, RefusesMalformed, EndsWithLink, May};
+ghost use Rattle.call_history.specs.Rules.{KeepsChain, IsAt, IsCalledFor, IsCleared, IsSentNext};
+ghost use Rattle.call_history.specs.Rules.{IsAnswered, IsDenied, Meets};
 ghost use Rattle.call_history.specs.declared.happening.Cause.{Cause as TheCause};
 ghost use Rattle.call_history.specs.declared.happening.Cause.TheVariants as cause;
 ghost use Rattle.call_history.specs.declared.happening.Happening.{Happening as TheHappening};
-ghost use Rattle.call_history.specs.declared.happening.Happening.TheVariants.{Away, Drawn, Moment, Op as Operated, Redacted, Refused, Sent, Took};
-ghost use Rattle.engine_core.specs.declared.op.Op.TheVariants.{Attach, Detach, Upgrade};
-ghost use Rattle.engine_core.specs.Policies.{IsPolicy};
+ghost use Rattle.call_history.specs.declared.happening.Happening.TheVariants.{Away, Drawn, Moment, Op as Operated};
+ghost use Rattle.call_history.specs.declared.happening.Happening.TheVariants.{Redacted, Refused, Sent, Took};
 ghost use Rattle.audit_rules.specs.Asking.{IsAsked, LetsAll, seqs_of};
 ghost use Rattle.audit_rules.specs.First.{BreaksFirst, IsLeftOpen};
-ghost use Rattle.audit_rules.specs.Knowing.{HasRoom, IsCopyBy, IsFreeBefore, IsFreeFor, IsFree, IsKnowing, IsReadable, IsStep, Knows, KnowsTold, LeavesOpen, Owns, numbers_of, under};
+ghost use Rattle.audit_rules.specs.Knowing.{HasRoom, IsCopyBy, IsFree, IsFreeBefore, IsFreeFor, IsKnowing};
+ghost use Rattle.audit_rules.specs.Knowing.{IsReadable, IsStep, Knows, LeavesOpen, Owns, numbers_of, under};
+ghost use Rattle.audit_rules.specs.Sorts.{IsNoLinkCause, first_of, own_rule};
 ghost use Rattle.audit_rules.specs.declared.left.Left.TheVariants.{Nothing};
-ghost use Rattle.audit_rules.specs.Telling.{TellsHeld, TellsNext, name_at};
-ghost use Rattle.audit_rules.specs.declared.checker.Checker.{Checker as TheChecker};
-ghost use Rattle.call_history.specs.declared.happening.Taken.{Taken};
-ghost use Rattle.audit_rules.specs.Sorts.{IsNoLinkCause, IsRuleNamed, first_of, is_quiet, malformed_in, own_rule, transport_in};
 
 use crate::ask::{Asked, ask, reaches, seq_at};
 use crate::engines::{clock_all, lower, place_of, put};
 use crate::left::Left;
 use crate::rule::Rule;
+use crate::sorts::{
+    cap_of, is_copy_by, is_frame_of, is_named_rule, is_over, is_quiet, malformed_in, noted_in,
+    transport_in,
+};
 use call_history::{
     Cause, Happening, Taken, TookCopy, chain_goes_on, forms_go_on, standing_goes_on, ties_go_on,
 };
@@ -39,32 +45,29 @@ use engine_core::{
     CallRow, Engine, MAX_CALLS, MAX_ENGINES, Noted, Op, Outcome, Policy, Standing, Why,
     change_is_changed, denied_by_a_rule, one_answer,
 };
-use frame_transport::HEADER_LEN;
-use graph_form::Reason;
 use mrpc_table::{Call, Memory, Name, Table};
 use std::alloc::Global;
 use std::collections::VecDeque;
-use wire_encode::encoded_len;
 
 /// What the happenings of one connection have made of it so far, as far as the next one is judged by it.
 #[derive(Drop)]
 pub struct Checker {
-    conn: u32,
-    limit: u64,
-    engines: Vec<Engine>,
+    pub(crate) conn: u32,
+    pub(crate) limit: u64,
+    pub(crate) engines: Vec<Engine>,
     // For each engine the greatest call of which it has noted something since its attachment, 0 where there is none.
-    latest: Vec<u32>,
-    attached: u32,
-    calls: CallRow,
+    pub(crate) latest: Vec<u32>,
+    pub(crate) attached: u32,
+    pub(crate) calls: CallRow,
     // For each call how many entries from the first are known to let it pass.
-    reached: VecDeque<usize>,
-    taken: u32,
-    moment: u64,
-    failed: bool,
-    left: Left,
+    pub(crate) reached: VecDeque<usize>,
+    pub(crate) taken: u32,
+    pub(crate) moment: u64,
+    pub(crate) failed: bool,
+    pub(crate) left: Left,
     // How many of the calls that stand were told, and the position of the last.
-    told: usize,
-    position: usize,
+    pub(crate) told: usize,
+    pub(crate) position: usize,
 }
 
 impl Checker {
@@ -94,32 +97,30 @@ impl Checker {
     }
 
     /// Judges the next happening: answers the first rule that it breaks, if it breaks one. Where it breaks none, the
-    /// checker knows what is behind with it; of a checker that has answered a rule, nothing more is to be asked. It
-    /// answers that memory is wanted only where a turn of a quota drew another ticket than the one that it was given,
-    /// which no turn does and the contract of tickets doesn't say.
-    pub fn check(&mut self, table: &Table, what: Happening) -> Result<Option<Rule>, Memory>
+    /// checker knows what is behind with it; of a checker that has answered a rule, nothing more is to be asked.
+    pub fn check(&mut self, table: &Table, what: Happening) -> Option<Rule>
         requires valid { IsValid table.now }
         requires knowing { IsKnowing table.now self.old }
         requires readable { IsReadable table.now what }
         ensures may { (past : Behind) → Knows table.now past self.old
-            → IfOk result (λ r. IfNone r (May (under table.now self.old) past what)) }
+            → IfNone result (May (under table.now self.old) past what) }
         ensures knows { (past : Behind) → Knows table.now past self.old
-            → IfOk result (λ r. IfNone r (Knows table.now (what ∷ past) self.new)) }
+            → IfNone result (Knows table.now (what ∷ past) self.new) }
         ensures breaks { (past : Behind) → Knows table.now past self.old
-            → IfOk result (λ r. IfSome r (λ rule. BreaksFirst (under table.now self.old) past what rule)) }
+            → IfSome result (λ rule. BreaksFirst (under table.now self.old) past what rule) }
         ensures same { (T : TheTable) → under T self.new ≡ under T self.old }
     {
         if !self.is_numbered(table, &what) {
-            return Ok(Some(Rule::A));
+            return Some(Rule::A);
         }
         if !self.refuses_malformed(&what) {
-            return Ok(Some(Rule::B));
+            return Some(Rule::B);
         }
         let drawn = self.refuses_drawn(&what);
         let linked = self.keeps_link(&what);
         let own = own_rule(&what);
-        let kept = self.meets(table, what)?;
-        Ok(first_of(own, kept, drawn, linked))
+        let kept = self.meets(table, what);
+        first_of(own, kept, drawn, linked)
     }
 
     // ---- what is asked of every happening
@@ -212,34 +213,34 @@ impl Checker {
     // ---- what is asked of each by itself
 
     // Whether a happening keeps the rule of its own kind; what it makes of the connection.
-    fn meets(&mut self, table: &Table, what: Happening) -> Result<bool, Memory>
+    fn meets(&mut self, table: &Table, what: Happening) -> bool
         requires valid { IsValid table.now }
         requires knowing { IsKnowing table.now self.old }
         requires readable { IsReadable table.now what }
         requires numbered { (past : Behind) × Knows table.now past self.old
             × IsNumbered (under table.now self.old) past what }
         requires free { IsFreeBefore what self.old.left }
-        ensures kept { (past : Behind) → Knows table.now past self.old → IfOk result (λ kept. OnTrue kept
-            (Owns (under table.now self.old) past what (own_rule what))) }
-        ensures broken { (past : Behind) → Knows table.now past self.old → IfOk result (λ kept. OnFalse kept
-            (Owns (under table.now self.old) past what (own_rule what) → ⊥)) }
+        ensures kept { (past : Behind) → Knows table.now past self.old
+            → OnTrue result (Owns (under table.now self.old) past what (own_rule what)) }
+        ensures broken { (past : Behind) → Knows table.now past self.old
+            → OnFalse result (Owns (under table.now self.old) past what (own_rule what) → ⊥) }
         ensures knows { (past : Behind) → Knows table.now past self.old → May (under table.now self.old) past what
-            → IfOk result (λ kept. OnTrue kept (Knows table.now (what ∷ past) self.new)) }
+            → OnTrue result (Knows table.now (what ∷ past) self.new) }
         ensures same { (T : TheTable) → under T self.new ≡ under T self.old }
     {
         match what {
             Happening::Took(call) => {
                 self.take(call);
-                Ok(true)
+                true
             }
             Happening::Away { .. } => {
                 self.turn_away();
-                Ok(true)
+                true
             }
-            Happening::Op(step) => Ok(self.operate(step)),
-            Happening::Moment { ms } => Ok(self.show(ms)),
+            Happening::Op(step) => self.operate(step),
+            Happening::Moment { ms } => self.show(ms),
             Happening::Charged { seq, name, level } => {
-                Ok(self.note(table, seq, &name, Noted::Charged { level }))
+                self.note(table, seq, &name, Noted::Charged { level })
             }
             Happening::Drawn {
                 seq,
@@ -247,12 +248,10 @@ impl Checker {
                 window,
                 ticket,
             } => self.draw(table, seq, name, window, ticket),
-            Happening::Counted { seq, name } => Ok(self.note(table, seq, &name, Noted::Counted)),
-            Happening::Redacted { seq, name, version } => {
-                Ok(self.clear(table, seq, &name, version))
-            }
-            Happening::Sent { seq, bytes } => Ok(self.send(table, seq, bytes)),
-            Happening::Refused { seq, cause } => Ok(self.refuse(table, seq, cause)),
+            Happening::Counted { seq, name } => self.note(table, seq, &name, Noted::Counted),
+            Happening::Redacted { seq, name, version } => { self.clear(table, seq, &name, version) }
+            Happening::Sent { seq, bytes } => self.send(table, seq, bytes),
+            Happening::Refused { seq, cause } => self.refuse(table, seq, cause),
         }
     }
 
@@ -412,8 +411,10 @@ impl Checker {
 
     // The clock shows a later moment.
     fn show(&mut self, now: u64) -> bool
-        ensures rises { (T : TheTable) (past : Behind) → Knows T past self.old → OnTrue result (KeepsChain past (Moment now)) }
-        ensures stays { (T : TheTable) (past : Behind) → Knows T past self.old → OnFalse result (KeepsChain past (Moment now) → ⊥) }
+        ensures rises { (T : TheTable) (past : Behind) → Knows T past self.old
+            → OnTrue result (KeepsChain past (Moment now)) }
+        ensures stays { (T : TheTable) (past : Behind) → Knows T past self.old
+            → OnFalse result (KeepsChain past (Moment now) → ⊥) }
         ensures knows { (T : TheTable) (past : Behind) → Knows T past self.old → May (under T self.old) past (Moment now)
             → OnTrue result (Knows T (Moment now ∷ past) self.new) }
         ensures same { (T : TheTable) → under T self.new ≡ under T self.old }
@@ -427,6 +428,7 @@ impl Checker {
         true
     }
 
+    // The entry of a name is asked what it answers to a call, where every entry before lets the call pass.
     fn ask(&mut self, table: &Table, seq: u32, name: &Name, ticket: u64) -> Option<Asked>
         requires knowing { IsKnowing table.now self.old }
         requires free { IsFree self.old.left }
@@ -435,6 +437,8 @@ impl Checker {
             self.new.engines.items self.new.calls self.new.reached.items) }
         ensures none { (past : Behind) → Knows table.now past self.old
             → IfNone result ((e : Entry) → IsAt (under table.now self.old) past seq name.now e → ⊥) }
+        ensures drawn { IfSome result (λ a. (window drawn : ℕ) → noted_in a.outcome ≡ Noted.Drawn window drawn
+            → drawn ≡ ticket) }
         ensures numbers { seqs_of self.new.calls ≡ seqs_of self.old.calls }
         ensures entries { map (λ e. e.entry) self.new.engines.items ≡ map (λ e. e.entry) self.old.engines.items }
         ensures of_table { All (λ s. IsCallOf table.now s.call) self.new.calls }
@@ -502,50 +506,32 @@ impl Checker {
         true
     }
 
-    // A ticket of a quota. A turn draws the ticket that it is given, which its contract doesn't say: `Memory` comes where
-    // it drew another.
-    fn draw(
-        &mut self,
-        table: &Table,
-        seq: u32,
-        name: Name,
-        window: u64,
-        ticket: u64,
-    ) -> Result<bool, Memory>
+    // A ticket of a quota.
+    fn draw(&mut self, table: &Table, seq: u32, name: Name, window: u64, ticket: u64) -> bool
         requires knowing { IsKnowing table.now self.old }
         requires free { IsFree self.old.left }
-        ensures due { (past : Behind) → Knows table.now past self.old → IfOk result (λ kept. OnTrue kept
-            (IsCalledFor (under table.now self.old) past seq name (Noted.Drawn window ticket))) }
-        ensures not_due { (past : Behind) → Knows table.now past self.old → IfOk result (λ kept. OnFalse kept
-            (IsCalledFor (under table.now self.old) past seq name (Noted.Drawn window ticket) → ⊥)) }
+        ensures due { (past : Behind) → Knows table.now past self.old
+            → OnTrue result (IsCalledFor (under table.now self.old) past seq name (Noted.Drawn window ticket)) }
+        ensures not_due { (past : Behind) → Knows table.now past self.old
+            → OnFalse result (IsCalledFor (under table.now self.old) past seq name (Noted.Drawn window ticket) → ⊥) }
         ensures knows { (past : Behind) → Knows table.now past self.old
-            → May (under table.now self.old) past (Drawn seq name window ticket) → IfOk result (λ kept. OnTrue kept
-            (Knows table.now (Drawn seq name window ticket ∷ past) self.new)) }
+            → May (under table.now self.old) past (Drawn seq name window ticket)
+            → OnTrue result (Knows table.now (Drawn seq name window ticket ∷ past) self.new) }
         ensures same { (T : TheTable) → under T self.new ≡ under T self.old }
     {
         one_answer();
         chain_goes_on();
         let Some(asked) = self.ask(table, seq, &name, ticket) else {
-            return Ok(false);
+            return false;
         };
-        let Noted::Drawn {
-            window: due,
-            ticket: drawn,
-        } = noted_in(asked.outcome)
-        else {
-            return Ok(false);
-        };
-        if due != window {
-            return Ok(false);
-        }
-        if drawn != ticket {
-            return Err(Memory);
+        if noted_in(asked.outcome) != (Noted::Drawn { window, ticket }) {
+            return false;
         }
         if !self.is_next(&asked, seq) {
-            return Ok(false);
+            return false;
         }
         self.await_refusal(asked.at, seq, name, ticket);
-        Ok(true)
+        true
     }
 
     // A call whose ticket isn't below the cap waits for its refusal.
@@ -801,146 +787,6 @@ impl Checker {
     {
         self.failed && self.first().is_some()
     }
-
-    // ---- the calls that stand
-
-    /// Judges a line that tells the next of the calls that stand: its number, its position, the name of the entry there
-    /// (`-` at the end of the chain), and the level and the cost at which it is held, where it is.
-    pub fn stands(
-        &mut self,
-        table: &Table,
-        seq: u32,
-        position: u32,
-        name: &[u8],
-        held: Option<(u64, u64)>,
-    ) -> bool
-        requires valid { IsValid table.now }
-        requires known { (past : Behind) × (positions : List ℕ) × KnowsTold table.now past positions self.old }
-        ensures tells { (past : Behind) (positions : List ℕ) → KnowsTold table.now past positions self.old
-            → IsTrue result ↔ TellsNext (under table.now self.old) past positions seq position name.now held }
-        ensures told { (past : Behind) (positions : List ℕ) → KnowsTold table.now past positions self.old
-            → IsTrue result → KnowsTold table.now past (positions ++ position ∷ []) self.new }
-        ensures same { (T : TheTable) → under T self.new ≡ under T self.old }
-    {
-        one_answer();
-        let at = position as usize;
-        if !self.is_next_told(seq, at) {
-            return false;
-        }
-        if !self.reaches_place(table, at) {
-            return false;
-        }
-        if !is_named_at(&self.engines, at, name) {
-            return false;
-        }
-        if !is_same_hold(self.held_at(at), held) {
-            return false;
-        }
-        self.told += 1;
-        self.position = at;
-        true
-    }
-
-    // Whether the next call that isn't told has this number, and may stand at a position as far as the chain and the
-    // calls before go.
-    fn is_next_told(&self, seq: u32, at: usize) -> bool
-        ensures next { OnTrue result (slice_get (seqs_of self.now.calls) self.now.told ≡ Some seq) }
-        ensures within { OnTrue result (at ≤ length self.now.engines.items) }
-        ensures falls { OnTrue result (at ≤ self.now.position) }
-        ensures few { OnTrue result (self.now.told < 64) }
-        ensures not_next { OnFalse result (slice_get (seqs_of self.now.calls) self.now.told ≡ Some seq
-            → at ≤ length self.now.engines.items → at ≤ self.now.position → ⊥) }
-    {
-        if self.told >= self.calls.len() || seq_at(&self.calls, self.told) != seq {
-            return false;
-        }
-        at <= self.engines.len() && at <= self.position
-    }
-
-    // Whether every entry before a position lets the next call that isn't told pass.
-    fn reaches_place(&mut self, table: &Table, at: usize) -> bool
-        requires known { (past : Behind) × (positions : List ℕ) × KnowsTold table.now past positions self.old }
-        requires call { self.old.told < length self.old.calls }
-        requires engine { at ≤ length self.old.engines.items }
-        ensures passes { (past : Behind) (positions : List ℕ) (seq : ℕ) → KnowsTold table.now past positions self.old
-            → slice_get (seqs_of self.old.calls) self.old.told ≡ Some seq
-            → OnTrue result (LetsAll (under table.now self.old) past seq at) }
-        ensures stops { (past : Behind) (positions : List ℕ) (seq : ℕ) → KnowsTold table.now past positions self.old
-            → slice_get (seqs_of self.old.calls) self.old.told ≡ Some seq
-            → OnFalse result (LetsAll (under table.now self.old) past seq at → ⊥) }
-        ensures told { (past : Behind) (positions : List ℕ) → KnowsTold table.now past positions self.old
-            → OnTrue result (KnowsTold table.now past positions self.new) }
-        ensures numbers { seqs_of self.new.calls ≡ seqs_of self.old.calls }
-        ensures entries { map (λ e. e.entry) self.new.engines.items ≡ map (λ e. e.entry) self.old.engines.items }
-        ensures rest { self.new ≡ record self.old { engines = self.new.engines; calls = self.new.calls } }
-    {
-        ties_go_on();
-        chain_goes_on();
-        let from = self.reached[self.told];
-        reaches(
-            &mut self.calls,
-            self.told,
-            &mut self.engines,
-            from,
-            at,
-            table,
-            self.moment,
-        )
-    }
-
-    // Whether no call that was told stands at a position.
-    fn is_first_at(&self, at: usize) -> bool
-        ensures first { OnTrue result (0 < self.now.told → at ≢ self.now.position) }
-        ensures not_first { OnFalse result (at ≡ self.now.position) }
-    {
-        self.told == 0 || at != self.position
-    }
-
-    // The level and the cost at which the next call that isn't told is held at a position, where it is the first there
-    // and is held.
-    fn held_at(&self, at: usize) -> Option<(u64, u64)>
-        requires call { self.now.told < length self.now.calls }
-        ensures { (T : TheTable) (past : Behind) (positions : List ℕ) (call : Taken) → KnowsTold T past positions self.now
-            → slice_get (standing past) self.now.told ≡ Some call → at ≤ self.now.position
-            → TellsHeld (under T self.now) past positions call at result }
-    {
-        if !self.is_first_at(at) {
-            return None;
-        }
-        let engine = self.engines.get(at)?;
-        engine.held(self.calls.at(self.told))
-    }
-
-    /// Whether all calls that stand were told.
-    pub fn all_stood(&self) -> bool
-        ensures { (T : TheTable) (past : Behind) (positions : List ℕ) → KnowsTold T past positions self.now
-            → IsTrue result ↔ (length positions ≡ length (standing past)) }
-    {
-        self.told == self.calls.len()
-    }
-}
-
-/// Where nothing is left open, a checker may be told the calls that stand, the first one first. A law; it does nothing.
-pub fn nothing_told()
-    ensures { (T : TheTable) (past : Behind) (c : TheChecker) → IsSettledUp past → Knows T past c
-        → KnowsTold T past [] c }
-{}
-
-// The entry at a position has this name; at the end of the chain it is `-`.
-fn is_named_at(engines: &[Engine], at: usize, name: &[u8]) -> bool
-    ensures { IsTrue result ↔ (name.now ≡ name_at (map (λ e. e.entry) engines.now) at) }
-{
-    match engines.get(at) {
-        Some(engine) => name == engine.name().as_slice(),
-        None => name == b"-".as_slice(),
-    }
-}
-
-// Both say that a call is held, and at the same level and cost, or that it isn't.
-fn is_same_hold(one: Option<(u64, u64)>, other: Option<(u64, u64)>) -> bool
-    ensures { IsTrue result ↔ (one ≡ other) }
-{
-    one == other
 }
 
 // The first of the rules that a happening breaks, by whether it keeps its own, refuses what was drawn, and keeps to a
@@ -975,115 +821,4 @@ fn own_rule(what: &Happening) -> Rule
         Happening::Sent { .. } => Rule::E,
         Happening::Refused { .. } => Rule::F,
     }
-}
-
-// A call is malformed for lack of a method exactly where the table lacks it.
-fn is_copy_by(table: &Table, call: &Taken) -> bool
-    requires { IsCopyBy table.now call.now call.now.copy }
-    ensures { IsTrue result ↔ IsTakenBy table.now call.now call.now.copy }
-{
-    match &call.copy {
-        TookCopy::Copy { .. } => true,
-        TookCopy::Malformed { reason, .. } => {
-            (*reason == Reason::NoMethod) == (table.methods.len() <= call.method as usize)
-        }
-    }
-}
-
-// The happening refuses a call for a ticket.
-fn is_over(what: &Happening, seq: u32, name: &Name, ticket: u64, cap: u64) -> bool
-    ensures { IsTrue result ↔ (what.now ≡ Refused seq (cause.Quota name.now ticket cap)) }
-{
-    match what {
-        Happening::Refused {
-            seq: refused,
-            cause: Cause::Quota {
-                name: by,
-                ticket: drawn,
-                cap: below,
-            },
-        } => {
-            *refused == seq && by.as_slice() == name.as_slice() && *drawn == ticket && *below == cap
-        }
-        _ => false,
-    }
-}
-
-// A frame of so many bytes is that of a call in its form.
-fn is_frame_of(table: &Table, call: &Call, bytes: u64) -> bool
-    requires valid { IsValid table.now }
-    requires of_table { IsCallOf table.now call.now }
-    ensures { IsTrue result ↔ (bytes ≡ HEADER_LEN + length (payload table.now call.now)) }
-{
-    let message = table.message_at(call.method, call.number);
-    bytes >= HEADER_LEN as u64
-        && bytes - HEADER_LEN as u64 == encoded_len(&call.tree, table, message)
-}
-
-// An entry denies a call by the rule of a name.
-fn is_named_rule(engine: &Engine, outcome: Outcome, name: &Name) -> bool
-    requires { (p : AccessPolicy) (rule : ℕ) → engine.now.entry.policy ≡ Policy.Access p
-        → outcome ≡ Outcome.Refused Noted.Nothing (Why.Denied rule) → rule ≤ length p.rules }
-    ensures denies { OnTrue result (IsRuleNamed engine.now.entry.policy outcome name.now) }
-    ensures denies_not { OnFalse result (IsRuleNamed engine.now.entry.policy outcome name.now → ⊥) }
-{
-    match (engine.policy(), outcome) {
-        (Policy::Access(access), Outcome::Refused(Noted::Nothing, Why::Denied { rule })) => {
-            access.rule_name(rule).as_slice() == name.as_slice()
-        }
-        _ => false,
-    }
-}
-
-// What a turn noted.
-fn noted_in(outcome: Outcome) -> Noted
-    ensures { result ≡ noted_in outcome }
-{
-    match outcome {
-        Outcome::Passed(noted) | Outcome::Refused(noted, _) => noted,
-        Outcome::Held { .. } | Outcome::Redacted => Noted::Nothing,
-    }
-}
-
-// The cap of a policy, if it is a quota.
-fn cap_of(policy: &Policy) -> Option<u64>
-    ensures { result ≡ cap_of policy.now }
-{
-    match policy {
-        Policy::Quota { cap, .. } => Some(*cap),
-        Policy::Access(_) | Policy::Rate(_) | Policy::Count | Policy::Redact(_) => None,
-    }
-}
-
-// The number of the call that is refused as malformed, if one is.
-fn malformed_in(what: &Happening) -> Option<u32>
-    ensures { result ≡ malformed_in what.now }
-{
-    match what {
-        Happening::Refused {
-            seq,
-            cause: Cause::Malformed,
-        } => Some(*seq),
-        _ => None,
-    }
-}
-
-// The number of the call that is refused for the link, if one is.
-fn transport_in(what: &Happening) -> Option<u32>
-    ensures { result ≡ transport_in what.now }
-{
-    match what {
-        Happening::Refused {
-            seq,
-            cause: Cause::Transport,
-        } => Some(*seq),
-        _ => None,
-    }
-}
-
-// A step of an operator, or a moment.
-fn is_quiet(what: &Happening) -> bool
-    ensures { result ≡ is_quiet what.now }
-{
-    matches!(what, Happening::Op(_) | Happening::Moment { .. })
 }

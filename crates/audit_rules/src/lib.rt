@@ -12,10 +12,14 @@
 
 mod ask;
 mod checker;
+mod drawn;
 mod engines;
 mod left;
 mod prepared;
 mod rule;
+mod sorts;
+mod told;
 
-pub use checker::{Checker, nothing_told};
+pub use checker::Checker;
 pub use rule::Rule;
+pub use told::nothing_told;

@@ -2,24 +2,28 @@
 
 ghost use Rattle.std.specs.Prelude.{◌≡◌, ◌≢◌, ◌<◌, ◌⊎◌, ◌∷◌, [], ◌++◌, ℕ, IfSome, IsSomeAnd};
 
+use crate::drawn::{Draw, Draws};
 use mrpc_base::Tickets;
 
-/// Gives a ticket that an audit tells. It tells no tickets, since the audit of one connection has not all of a window.
+// Gives a ticket that an audit tells, in each draw the same one.
 #[derive(Drop)]
 pub struct Prepared {
     pub ticket: u64,
+    pub draws: Draws,
 }
 
 impl Tickets for Prepared {
-    ghost use Rattle.std.specs.Prelude.{None};
+    ghost use Rattle.std.specs.Prelude.{Some};
+    ghost use Rattle.audit_rules.specs.Given.{tickets_in};
 
     ghost knows = { λ prepared tenant. Unit {0} };
 
-    ghost drawn = { λ prepared tenant window. None };
+    ghost drawn = { λ prepared tenant window. Some (tickets_in prepared.ticket prepared.draws.list tenant window) };
 
-    ghost since = { λ first later. Unit {0} };
+    ghost since = { λ first later. later.ticket ≡ first.ticket };
 
-    fn draw(&mut self, _tenant: u32, _window: u64) -> u64 {
+    fn draw(&mut self, tenant: u32, window: u64) -> u64 {
+        self.draws = Draws::with(&self.draws, &Draw { tenant, window });
         self.ticket
     }
 }

@@ -42,15 +42,15 @@ work-outcome-requires-clause-place c =
 
 pub returns-clause-numbers : goal.returns-clause-numbers
 returns-clause-numbers c = numbers-same c.reaches.new.engines c.reaches.new.calls c.in_ok-at.at c.in_ok-place.place c.args.now c.work-outcome.result c.work-outcome.new.engines c.work-outcome.new.calls
-    c.work-outcome.ensures ∙ c.reaches.ensures.numbers
+    c.work-outcome.ensures.works ∙ c.reaches.ensures.numbers
 
 pub returns-clause-entries : goal.returns-clause-entries
 returns-clause-entries c = entries-same c.reaches.new.engines c.reaches.new.calls c.in_ok-at.at c.in_ok-place.place c.args.now c.work-outcome.result c.work-outcome.new.engines c.work-outcome.new.calls
-    c.work-outcome.ensures ∙ c.reaches.ensures.entries
+    c.work-outcome.ensures.works ∙ c.reaches.ensures.entries
 
 pub returns-clause-of_table : goal.returns-clause-of_table
 returns-clause-of_table c = of-table c.reaches.new.engines c.reaches.new.calls c.in_ok-at.at c.in_ok-place.place c.args.now c.work-outcome.result c.work-outcome.new.engines c.work-outcome.new.calls
-    c.work-outcome.ensures c.args.table.now c.reaches.ensures.of_table
+    c.work-outcome.ensures.works c.args.table.now c.reaches.ensures.of_table
 
 pub returns-clause-asked : goal.returns-clause-asked
 returns-clause-asked c = λ u past n row stands.
@@ -61,4 +61,4 @@ returns-clause-asked c = λ u past n row stands.
     c.reaches.ensures.numbers c.reaches.ensures.entries
     (c.if-not-reaches.ensures.passes u past n c.args.seq row.prefix row.ties apart row.shows c.in_ok-place.ensures.found
     (subst (λ (r : ℕ). LetsAll u past c.args.seq r) (sym c.index-from.ensures) (zip-at (LetsAll u past) (seqs_of c.args.calls.now) c.args.reached.now.items c.in_ok-place.place c.args.seq c.index-from.result.now row.reaches c.in_ok-place.ensures.found)))
-    c.work-outcome.ensures c.ties_go_on.ensures.works)
+    c.work-outcome.ensures.works c.ties_go_on.ensures.works)

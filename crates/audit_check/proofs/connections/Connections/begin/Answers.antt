@@ -12,27 +12,27 @@ returns-clause-may c h known =
     let T = c.args.table.now in
     let conn = c.args.next.conn in
     let none = nothing_behind T c.args.self.now.limit conn (behind conn h) _ c.requires.first (known conn) in
-    let P : Under → Behind → Type 0 = λ u past. IfNone c.in_ok-rule.rule (May u past c.args.next.what) in
-    carry P (c.in_ok-checker.ensures.conn T) (sym none) (c.in_ok-rule.ensures.may [] (c.in_ok-checker.ensures.knows T))
+    let P : Under → Behind → Type 0 = λ u past. IfNone c.check-rule.result (May u past c.args.next.what) in
+    carry P (c.in_ok-checker.ensures.conn T) (sym none) (c.check-rule.ensures.may [] (c.in_ok-checker.ensures.knows T))
 
 pub returns-clause-knows : goal.returns-clause-knows
 returns-clause-knows c h known =
     let T = c.args.table.now in
     let conn = c.args.next.conn in
     let none = nothing_behind T c.args.self.now.limit conn (behind conn h) _ c.requires.first (known conn) in
-    let P : Behind → Type 0 = λ past. Knows T (c.args.next.what ∷ past) c.check.new.self in
-    none_map c.in_ok-rule.rule
-    (λ k. knows_more T c.args.self.now.limit h c.args.next c.args.self.now.checkers c.insert.new.self c.check.new.self known
-    c.in_ok-insert.ensures.updates (subst P (sym none) k) (c.in_ok-rule.ensures.same T ∙ c.in_ok-checker.ensures.conn T))
-    (c.in_ok-rule.ensures.knows [] (c.in_ok-checker.ensures.knows T))
+    let P : Behind → Type 0 = λ past. Knows T (c.args.next.what ∷ past) c.check-rule.new.self in
+    none_map c.check-rule.result
+    (λ k. knows_more T c.args.self.now.limit h c.args.next c.args.self.now.checkers c.insert.new.self c.check-rule.new.self known
+    c.in_ok-insert.ensures.updates (subst P (sym none) k) (c.check-rule.ensures.same T ∙ c.in_ok-checker.ensures.conn T))
+    (c.check-rule.ensures.knows [] (c.in_ok-checker.ensures.knows T))
 
 pub returns-clause-breaks : goal.returns-clause-breaks
 returns-clause-breaks c h known =
     let T = c.args.table.now in
     let conn = c.args.next.conn in
     let none = nothing_behind T c.args.self.now.limit conn (behind conn h) _ c.requires.first (known conn) in
-    let P : Under → Behind → Type 0 = λ u past. IfSome c.in_ok-rule.rule (BreaksFirst u past c.args.next.what) in
-    carry P (c.in_ok-checker.ensures.conn T) (sym none) (c.in_ok-rule.ensures.breaks [] (c.in_ok-checker.ensures.knows T))
+    let P : Under → Behind → Type 0 = λ u past. IfSome c.check-rule.result (BreaksFirst u past c.args.next.what) in
+    carry P (c.in_ok-checker.ensures.conn T) (sym none) (c.check-rule.ensures.breaks [] (c.in_ok-checker.ensures.knows T))
 
-pub check-requires-clause-knowing : goal.check-requires-clause-knowing
-check-requires-clause-knowing c = ([], c.in_ok-checker.ensures.knows c.args.table.now, omega arith)
+pub check-rule-requires-clause-knowing : goal.check-rule-requires-clause-knowing
+check-rule-requires-clause-knowing c = ([], c.in_ok-checker.ensures.knows c.args.table.now, omega arith)

@@ -2,7 +2,7 @@ use Rattle.std.proofs.Common.{ℕ, arith, subst, ◌∙◌, sym, rules}
 use Rattle.std.specs.BTreeMap.{BTreeMap}
 use Rattle.call_history.specs.Legal.{behind}
 use Rattle.audit_rules.specs.declared.checker.Checker.{Checker}
-use Rattle.audit_check.proofs.Known.{behind-short, known_by, knows_more, ok_none, KnowsEach}
+use Rattle.audit_check.proofs.Known.{behind-short, known_by, knows_more, none_map, KnowsEach}
 use Rattle.audit_check.proofs.connections.Connections.check.Goals as goal
 
 pub check-requires-clause-knowing : goal.check-requires-clause-knowing
@@ -20,7 +20,7 @@ returns-in-Some-clause-knows c h known =
     let limit = c.args.self.now.limit in
     let here = known_by T limit conn (behind conn h) _ c.in-Some.checker.now (c.in-Some.ensures.value) (known conn) in
     let after = c.check.new.self in
-    ok_none c.check.result
+    none_map c.check.result
     (λ k. knows_more T limit h c.args.next c.args.self.now.checkers (c.get_mut.follows.lender after) after known
     ((c.get_mut.follows.holds after).3 (search rules)) k (c.check.ensures.same T ∙ here.1))
     (c.check.ensures.knows (behind conn h) here.0)

@@ -1,4 +1,4 @@
-use Rattle.std.proofs.Common.{◌≡◌, ◌<◌, ◌∙◌, ℕ, List, Contains, Some, ap, arith, length, map, refl, slice_get, subst, sym}
+use Rattle.std.proofs.Common.{◌∙◌, List, Contains, ap, arith, length, map, refl, subst, sym}
 use Rattle.engine_core.specs.Chains.{names_of}
 use Rattle.engine_core.specs.Engines.{EngineParts}
 use Rattle.audit_rules.specs.Knowing.{IsLatest, under}

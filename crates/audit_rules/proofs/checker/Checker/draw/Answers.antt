@@ -1,4 +1,5 @@
 use Rattle.std.proofs.Common.{◌≡◌, ◌<◌, ◌≤◌, ◌∷◌, ◌∙◌, ℕ, List, get_or, length, arith, ap, map, refl, slice_get, subst, sym}
+use Rattle.std.proofs.lemmas.Grind.{common_steps}
 use Rattle.std.specs.Prelude.{IfSome, Option, Some, vec_capacity}
 use Rattle.engine_core.specs.Chains.{Chain, Entry}
 use Rattle.engine_core.specs.Engines.{EngineParts}
@@ -20,23 +21,12 @@ use Rattle.audit_rules.proofs.checker.Checker.draw.Goals as goal
 pub returns-in_default-clause-not_due : goal.returns-in_default-clause-not_due
 returns-in_default-clause-not_due c = λ past knows due. c.in_default.ensures.none past knows due.meets.entry due.meets.at
 
-pub returns-in_default-noted_in : goal.returns-in_default-noted_in
-returns-in_default-noted_in c = record {
-  due = λ past knows. tt;
-  not_due = λ past knows due.
-      (let d = due-drawn (under c.args.table.now c.args.self.now) past c.args.self.now.attached c.args.seq c.args.name c.in-Some.asked c.args.self.now.calls c.ask.new.self.engines.items c.ask.new.self.calls c.ask.new.self.reached.items (c.in-Some.ensures.asked past knows) c.one_answer.ensures.at_most c.args.window c.args.ticket due.meets in
-      let is : c.noted_in.result ≡ notes.Drawn c.args.window d.0 = c.noted_in.ensures ∙ d.1 in
-      c.in_default-noted_in.not-Drawn c.args.window d.0 is);
-  knows = λ past knows may. tt;
-  same = λ T. ap (λ (d : Checker). under T d) c.ask.ensures.rest;
-}
-
-pub returns-then-due-window-clause-not_due : goal.returns-then-due-window-clause-not_due
-returns-then-due-window-clause-not_due c = λ past knows due.
+pub returns-then-ne-clause-not_due : goal.returns-then-ne-clause-not_due
+returns-then-ne-clause-not_due c = λ past knows due.
     (let d = due-drawn (under c.args.table.now c.args.self.now) past c.args.self.now.attached c.args.seq c.args.name c.in-Some.asked c.args.self.now.calls c.ask.new.self.engines.items c.ask.new.self.calls c.ask.new.self.reached.items (c.in-Some.ensures.asked past knows) c.one_answer.ensures.at_most c.args.window c.args.ticket due.meets in
-    let is : notes.Drawn c.in-Drawn.due c.in-Drawn.drawn ≡ notes.Drawn c.args.window d.0 = sym c.in-Drawn.is ∙ (c.noted_in.ensures ∙ d.1) in
-    let same : c.in-Drawn.due ≡ c.args.window = cc is in
-    c.if-due-window.true same)
+    let given : d.0 ≡ c.args.ticket = c.in-Some.ensures.drawn c.args.window d.0 d.1 in
+    let is : noted_in c.in-Some.asked.outcome ≡ notes.Drawn c.args.window c.args.ticket = d.1 ∙ ap (λ (t : ℕ). notes.Drawn c.args.window t) given in
+    grind (arith, common_steps, is, c.noted_in.ensures, c.ne.ensures, c.if-ne.true))
 
 pub is_next-requires : goal.is_next-requires
 is_next-requires c =
@@ -53,8 +43,7 @@ returns-then-not-is_next-clause-not_due c = λ past knows due.
 
 pub returns-clause-due : goal.returns-clause-due
 returns-clause-due c =
-    let noted : noted_in c.in-Some.asked.outcome ≡ notes.Drawn c.args.window c.args.ticket = sym c.noted_in.ensures ∙ (c.in-Drawn.is
-    ∙ (ap (λ (w : ℕ). notes.Drawn w c.in-Drawn.drawn) c.if-due-window.false ∙ ap (λ (t : ℕ). notes.Drawn c.args.window t) c.if-drawn-ticket.false)) in
+    let noted : noted_in c.in-Some.asked.outcome ≡ notes.Drawn c.args.window c.args.ticket = grind (arith, common_steps, c.noted_in.ensures, c.ne.ensures, c.if-ne.false) in
     λ past knows.
     (let less : get_or c.ask.new.self.latest.items c.in-Some.asked.at 0 < c.args.seq = c.if-not-is_next.ensures.next in
     called-for (under c.args.table.now c.args.self.now) past c.args.self.now.attached c.args.seq c.args.name c.in-Some.asked c.args.self.now.calls c.ask.new.self.engines.items c.ask.new.self.calls c.ask.new.self.reached.items (c.in-Some.ensures.asked past knows) (notes.Drawn c.args.window c.args.ticket) (get_or c.ask.new.self.latest.items c.in-Some.asked.at 0)
@@ -65,8 +54,7 @@ if-some P o x is all = subst (λ p. IfSome p P) is all
 
 pub returns-clause-knows : goal.returns-clause-knows
 returns-clause-knows c =
-    let noted : noted_in c.in-Some.asked.outcome ≡ notes.Drawn c.args.window c.args.ticket = sym c.noted_in.ensures ∙ (c.in-Drawn.is
-    ∙ (ap (λ (w : ℕ). notes.Drawn w c.in-Drawn.drawn) c.if-due-window.false ∙ ap (λ (t : ℕ). notes.Drawn c.args.window t) c.if-drawn-ticket.false)) in
+    let noted : noted_in c.in-Some.asked.outcome ≡ notes.Drawn c.args.window c.args.ticket = grind (arith, common_steps, c.noted_in.ensures, c.ne.ensures, c.if-ne.false) in
     λ past knows may.
     (let what : Happening = Drawn c.args.seq c.args.name c.args.window c.args.ticket in
     let asked = c.in-Some.ensures.asked past knows in

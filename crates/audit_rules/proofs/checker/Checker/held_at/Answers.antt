@@ -1,4 +1,4 @@
-use Rattle.std.proofs.Common.{◌≡◌, ◌<◌, ◌≤◌, ◌∙◌, ℕ, List, Some, length, map, slice_get, arith, ap, refl, sym, subst}
+use Rattle.std.proofs.Common.{◌≡◌, ◌∙◌, List, Some, length, map, slice_get, arith, ap, refl, sym, subst}
 use Rattle.std.proofs.lemmas.Option.{slice_get-get_or}
 use Rattle.engine_core.specs.Chains.{Entry}
 use Rattle.engine_core.specs.Engines.{EngineParts}

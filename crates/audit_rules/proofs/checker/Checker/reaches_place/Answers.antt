@@ -1,4 +1,4 @@
-use Rattle.std.proofs.Common.{◌≡◌, ℕ, ◌≤◌, ◌∙◌, List, length, map, slice_get, arith, ap, refl, sym, subst}
+use Rattle.std.proofs.Common.{◌≡◌, ℕ, ◌∙◌, List, length, map, arith, ap, refl, sym, subst}
 use Rattle.std.proofs.lemmas.Bool.{OnTrue_at, OnTrue_from}
 use Rattle.std.specs.List.{AllZip}
 use Rattle.engine_core.specs.Engines.{EngineParts}

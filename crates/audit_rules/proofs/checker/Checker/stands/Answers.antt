@@ -1,6 +1,5 @@
-use Rattle.std.proofs.Common.{◌≡◌, ◌<◌, ◌≤◌, ◌∙◌, ◌∷◌, ◌++◌, ℕ, List, [], Some, false, true, length, map, slice_get, arith, ap, refl, sym, subst}
+use Rattle.std.proofs.Common.{◌≡◌, ◌≤◌, ◌∙◌, ℕ, List, Some, false, true, length, map, slice_get, arith, ap, refl, sym, subst}
 use Rattle.std.proofs.lemmas.List.{length-map}
-use Rattle.mrpc_table.specs.declared.table.Table.{Table}
 use Rattle.engine_core.specs.Chains.{Entry}
 use Rattle.engine_core.specs.Engines.{EngineParts}
 use Rattle.engine_core.specs.Marks.{StandingCall}

@@ -4,7 +4,7 @@ use Rattle.std.proofs.lemmas.Option.{slice_get-get_or}
 use Rattle.std.proofs.lemmas.Slice.Eq.{bytes_eq-Decides}
 use Rattle.engine_core.specs.Engines.{EngineParts}
 use Rattle.audit_rules.specs.Telling.{name_at}
-use Rattle.audit_rules.proofs.checker.is_named_at.Goals as goal
+use Rattle.audit_rules.proofs.told.is_named_at.Goals as goal
 
 name-some : (es : List EngineParts) (p : ℕ) (e : EngineParts) → slice_get es p ≡ Some e → name_at (map (λ e. e.entry) es) p ≡ e.entry.name
 name-some [] p e is = absurd cc

@@ -1,0 +1,39 @@
+//! Which tickets were drawn. Only contracts read the list, and it takes no bytes.
+
+ghost use Rattle.std.specs.Prelude.{◌≡◌, List, [], ◌∷◌, ℕ};
+ghost use Rattle.std.specs.Borrow.{ftrue};
+
+use std::marker::Model;
+
+// A draw in a window of a tenant.
+#[derive(Clone, Copy)]
+pub struct Draw {
+    pub tenant: u32,
+    pub window: u64,
+}
+
+// The tenant and the window of each draw, the last one first.
+#[derive(Drop)]
+pub struct Draws {
+    pub ghost list: { List (ℕ × ℕ) },
+}
+
+impl Model for Draws {
+    ghost also_owns = { λ _. ftrue };
+}
+
+impl Draws {
+    // Nothing was drawn.
+    pub fn new() -> Draws
+        ensures { result.list ≡ [] }
+    {
+        Draws {}
+    }
+
+    // One draw more.
+    pub fn with(_before: &Draws, _draw: &Draw) -> Draws
+        ensures { result.list ≡ (_draw.now.tenant, _draw.now.window) ∷ _before.now.list }
+    {
+        Draws {}
+    }
+}
