@@ -32,7 +32,7 @@ pub struct Asked {
 }
 
 // The number of the call at a place.
-pub fn seq_at(calls: &CallRow, place: usize) -> u32
+pub(crate) fn seq_at(calls: &CallRow, place: usize) -> u32
     requires { place < length calls.now }
     ensures { slice_get (seqs_of calls.now) place ≡ Some result }
 {
@@ -40,7 +40,7 @@ pub fn seq_at(calls: &CallRow, place: usize) -> u32
 }
 
 // Where the call of a number stands, by binary search.
-pub fn place_of_call(calls: &CallRow, seq: u32) -> Option<usize>
+pub(crate) fn place_of_call(calls: &CallRow, seq: u32) -> Option<usize>
     requires { (top : ℕ) × IsRising 0 top (seqs_of calls.now) }
     ensures found { IfSome result (λ place. slice_get (seqs_of calls.now) place ≡ Some seq) }
     ensures none { IfNone result (Contains (seqs_of calls.now) seq → ⊥) }
@@ -63,7 +63,7 @@ pub fn place_of_call(calls: &CallRow, seq: u32) -> Option<usize>
 }
 
 // A turn of the engine at a position for the call at a place, which is given this ticket where it draws one.
-pub fn work(
+pub(crate) fn work(
     calls: &mut CallRow,
     place: usize,
     engines: &mut [Engine],
@@ -85,7 +85,7 @@ pub fn work(
 }
 
 // Whether every engine before a position lets the call at a place pass. Those before `from` are known to.
-pub fn reaches(
+pub(crate) fn reaches(
     calls: &mut CallRow,
     place: usize,
     engines: &mut [Engine],
@@ -134,7 +134,7 @@ fn is_pass(outcome: Outcome) -> bool
 
 // The call of a number and the entry of a name, where every entry before that lets the call pass, and how a turn of the
 // entry comes out for it, which is given this ticket where it draws one.
-pub fn ask(
+pub(crate) fn ask(
     calls: &mut CallRow,
     reached: &mut VecDeque<usize>,
     engines: &mut [Engine],

@@ -24,14 +24,14 @@ impl Model for Draws {
 
 impl Draws {
     // Nothing was drawn.
-    pub fn new() -> Draws
+    pub(crate) fn new() -> Draws
         ensures { result.list ≡ [] }
     {
         Draws {}
     }
 
     // One draw more.
-    pub fn with(_before: &Draws, _draw: &Draw) -> Draws
+    pub(crate) fn with(_before: &Draws, _draw: &Draw) -> Draws
         ensures { result.list ≡ (_draw.now.tenant, _draw.now.window) ∷ _before.now.list }
     {
         Draws {}

@@ -10,7 +10,7 @@ use mrpc_table::Name;
 use std::collections::VecDeque;
 
 // The position of the engine of a name.
-pub fn place_of(engines: &[Engine], name: &Name) -> Option<usize>
+pub(crate) fn place_of(engines: &[Engine], name: &Name) -> Option<usize>
     ensures { result ≡ position (λ e. is_named name.now e.entry) engines.now }
 {
     engines
@@ -19,7 +19,7 @@ pub fn place_of(engines: &[Engine], name: &Name) -> Option<usize>
 }
 
 // Puts an item at a position, for which there is room.
-pub fn put<T>(items: &mut Vec<T>, at: usize, item: T)
+pub(crate) fn put<T>(items: &mut Vec<T>, at: usize, item: T)
     requires at { at ≤ length items.old.items }
     requires room { length items.old.items < vec_capacity items.old }
     ensures items { items.new.items ≡ insert items.old.items at item }
@@ -32,7 +32,7 @@ pub fn put<T>(items: &mut Vec<T>, at: usize, item: T)
 }
 
 // Brings every bucket to a moment.
-pub fn clock_all(engines: &mut [Engine], now: u64)
+pub(crate) fn clock_all(engines: &mut [Engine], now: u64)
     ensures { engines.new ≡ map (λ e. shown now e) engines.old }
 {
     for engine in engines.iter_mut() {
@@ -41,7 +41,7 @@ pub fn clock_all(engines: &mut [Engine], now: u64)
 }
 
 // Lowers each number to at most this one.
-pub fn lower(numbers: &mut VecDeque<usize>, at: usize)
+pub(crate) fn lower(numbers: &mut VecDeque<usize>, at: usize)
     ensures items { numbers.new.items ≡ map (λ n. min n at) numbers.old.items }
     ensures capacity { deque_capacity numbers.new ≡ deque_capacity numbers.old }
 {

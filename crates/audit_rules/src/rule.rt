@@ -22,19 +22,3 @@ pub enum Rule {
     /// The lines of the calls that stand tell those, at places where they may stand.
     Stands,
 }
-
-impl Rule {
-    /// The word by which it is named.
-    pub fn word(self) -> &'static str {
-        match self {
-            Rule::A => "a",
-            Rule::B => "b",
-            Rule::C => "c",
-            Rule::D => "d",
-            Rule::E => "e",
-            Rule::F => "f",
-            Rule::G => "g",
-            Rule::Stands => "stands",
-        }
-    }
-}

@@ -22,7 +22,7 @@ use wire_encode::encoded_len;
 // ---- happenings
 
 // The number of the call that is refused as malformed, if one is.
-pub fn malformed_in(what: &Happening) -> Option<u32>
+pub(crate) fn malformed_in(what: &Happening) -> Option<u32>
     ensures { result ≡ malformed_in what.now }
 {
     match what {
@@ -35,7 +35,7 @@ pub fn malformed_in(what: &Happening) -> Option<u32>
 }
 
 // The number of the call that is refused for the link, if one is.
-pub fn transport_in(what: &Happening) -> Option<u32>
+pub(crate) fn transport_in(what: &Happening) -> Option<u32>
     ensures { result ≡ transport_in what.now }
 {
     match what {
@@ -48,14 +48,14 @@ pub fn transport_in(what: &Happening) -> Option<u32>
 }
 
 // A step of an operator, or a moment.
-pub fn is_quiet(what: &Happening) -> bool
+pub(crate) fn is_quiet(what: &Happening) -> bool
     ensures { result ≡ is_quiet what.now }
 {
     matches!(what, Happening::Op(_) | Happening::Moment { .. })
 }
 
 // A call is malformed for lack of a method exactly where the table lacks it.
-pub fn is_copy_by(table: &Table, call: &Taken) -> bool
+pub(crate) fn is_copy_by(table: &Table, call: &Taken) -> bool
     requires { IsCopyBy table.now call.now call.now.copy }
     ensures { IsTrue result ↔ IsTakenBy table.now call.now call.now.copy }
 {
@@ -68,7 +68,7 @@ pub fn is_copy_by(table: &Table, call: &Taken) -> bool
 }
 
 // The happening refuses a call for a ticket.
-pub fn is_over(what: &Happening, seq: u32, name: &Name, ticket: u64, cap: u64) -> bool
+pub(crate) fn is_over(what: &Happening, seq: u32, name: &Name, ticket: u64, cap: u64) -> bool
     ensures { IsTrue result ↔ (what.now ≡ Refused seq (cause.Quota name.now ticket cap)) }
 {
     match what {
@@ -89,7 +89,7 @@ pub fn is_over(what: &Happening, seq: u32, name: &Name, ticket: u64, cap: u64) -
 // ---- turns
 
 // What a turn noted.
-pub fn noted_in(outcome: Outcome) -> Noted
+pub(crate) fn noted_in(outcome: Outcome) -> Noted
     ensures { result ≡ noted_in outcome }
 {
     match outcome {
@@ -99,7 +99,7 @@ pub fn noted_in(outcome: Outcome) -> Noted
 }
 
 // The cap of a policy, if it is a quota.
-pub fn cap_of(policy: &Policy) -> Option<u64>
+pub(crate) fn cap_of(policy: &Policy) -> Option<u64>
     ensures { result ≡ cap_of policy.now }
 {
     match policy {
@@ -109,7 +109,7 @@ pub fn cap_of(policy: &Policy) -> Option<u64>
 }
 
 // A frame of so many bytes is that of a call in its form.
-pub fn is_frame_of(table: &Table, call: &Call, bytes: u64) -> bool
+pub(crate) fn is_frame_of(table: &Table, call: &Call, bytes: u64) -> bool
     requires valid { IsValid table.now }
     requires of_table { IsCallOf table.now call.now }
     ensures { IsTrue result ↔ (bytes ≡ HEADER_LEN + length (payload table.now call.now)) }
@@ -120,7 +120,7 @@ pub fn is_frame_of(table: &Table, call: &Call, bytes: u64) -> bool
 }
 
 // An entry denies a call by the rule of a name.
-pub fn is_named_rule(engine: &Engine, outcome: Outcome, name: &Name) -> bool
+pub(crate) fn is_named_rule(engine: &Engine, outcome: Outcome, name: &Name) -> bool
     requires { (p : AccessPolicy) (rule : ℕ) → engine.now.entry.policy ≡ Policy.Access p
         → outcome ≡ Outcome.Refused Noted.Nothing (Why.Denied rule) → rule ≤ length p.rules }
     ensures denies { OnTrue result (IsRuleNamed engine.now.entry.policy outcome name.now) }

@@ -119,7 +119,7 @@ fn access(alloc: Global, table: &Table) -> Option<Policy>
 
 impl<'t> Work<'t> {
     /// A connection without a call, and a message of ten fields at place 2 of its heap.
-    pub fn open(alloc: Global, table: &'t Table) -> Option<Work<'t>>
+    pub(crate) fn open(alloc: Global, table: &'t Table) -> Option<Work<'t>>
         requires { IsValid table.now }
     {
         let Ok(words) = PlainWords::open(alloc, 32) else {
@@ -198,7 +198,7 @@ impl<'t> Work<'t> {
     }
 
     /// Attaches four access policies, a rate and a count.
-    pub fn attach_all(&mut self) -> Option<()> {
+    pub(crate) fn attach_all(&mut self) -> Option<()> {
         self.attach_access(0, b"a")?;
         self.attach_access(1, b"b")?;
         self.attach_access(2, b"c")?;
@@ -208,13 +208,13 @@ impl<'t> Work<'t> {
     }
 
     /// Puts the rules once more into the first policy, so that all calls go back to it.
-    pub fn upgrade_first(&mut self) -> Option<()> {
+    pub(crate) fn upgrade_first(&mut self) -> Option<()> {
         let policy = access(self.alloc, self.table)?;
         self.upgrade(b"a", policy)
     }
 
     /// Attaches a policy in the middle of the chain, upgrades it, and detaches it.
-    pub fn attach_upgrade_detach(&mut self) -> Option<()> {
+    pub(crate) fn attach_upgrade_detach(&mut self) -> Option<()> {
         self.attach(3, b"middle", Policy::Count)?;
         self.upgrade(b"middle", Policy::Count)?;
         let name = name_of(self.alloc, b"middle")?;
@@ -224,7 +224,7 @@ impl<'t> Work<'t> {
     // ---- calls
 
     /// Accepts the message so often.
-    pub fn accept(&mut self, times: u32) -> Option<()> {
+    pub(crate) fn accept(&mut self, times: u32) -> Option<()> {
         for _ in 0..times {
             self.accept_one()?;
         }
@@ -246,7 +246,7 @@ impl<'t> Work<'t> {
     }
 
     /// Has the engines take turns, from the first on, until no call can go on. Nothing is sent.
-    pub fn judge(&mut self) -> Option<()> {
+    pub(crate) fn judge(&mut self) -> Option<()> {
         for at in 0..self.conn.chain().engines() {
             self.turns(at)?;
         }
@@ -269,7 +269,7 @@ impl<'t> Work<'t> {
     }
 
     /// Has the engines take turns, and sends the calls that are ready.
-    pub fn drain(&mut self) -> Option<()> {
+    pub(crate) fn drain(&mut self) -> Option<()> {
         if !knows_tenants(self.conn.chain(), &self.tickets) {
             return None;
         }
@@ -282,12 +282,12 @@ impl<'t> Work<'t> {
     // ---- what came of it
 
     /// How many happenings there are.
-    pub fn happenings(&self) -> usize {
+    pub(crate) fn happenings(&self) -> usize {
         self.conn.history().len()
     }
 
     /// How many frames the link was handed.
-    pub fn frames(&self) -> usize {
+    pub(crate) fn frames(&self) -> usize {
         self.link.handed().len()
     }
 }

@@ -1,5 +1,5 @@
 -- What contracts see of a link over a sink.
-use Rattle.std.specs.Prelude.{◌≡◌, ℕ, Bool, List, ◌++◌, Option}
+use Rattle.std.specs.Prelude.{◌≡◌, ◌≤◌, ℕ, Bool, List, ◌++◌, Option}
 use Rattle.std.specs.List.{flat_map}
 use Rattle.std.specs.Borrow.{GName}
 use Rattle.std.specs.Io.KnownBytes.{Appends}
@@ -42,3 +42,4 @@ pub record IsRefused {W : Type 0} (written : W → Option (List ℕ)) (faults : 
   pub same_sink : sink_name new ≡ sink_name old
   pub front : AppendsFront (written (sink_of old)) (written (sink_of new)) frame
   pub rose : Rose (faults (sink_of old)) (faults (sink_of new))
+  pub never_falls : faults (sink_of old) ≤ faults (sink_of new)

@@ -29,7 +29,12 @@ send-tells g c = record {
   same_link = λ first h. sent-later g.W.Sink.written g.W.Sink.faults first c.args.self.now c.new.self.now c.args.frame.now c.result h
       c.ensures.same_sink c.ensures.appended c.ensures.kept c.ensures.done c.ensures.counted c.ensures.cause c.ensures.raised
       c.ensures.memory;
-  refused = λ failed. record { same_sink = c.ensures.same_sink; front = c.ensures.front failed; rose = c.ensures.cause.rose failed };
+  refused = λ failed. record {
+    same_sink = c.ensures.same_sink;
+    front = c.ensures.front failed;
+    rose = c.ensures.cause.rose failed;
+    never_falls = c.ensures.cause.never_falls;
+  };
   cause = c.ensures.counted;
 }
 
