@@ -271,24 +271,24 @@ sending-adds u old seq bytes new (link_failed is makes) = absurd (subst IsTurnin
 
 -- ---- drains
 
-turned-drains : (e : Entry) (seq : ℕ) (outcome : Outcome) (c : Course) → Adds IsOfDrain c.past (turned e seq outcome c).past
+pub turned-drains : (e : Entry) (seq : ℕ) (outcome : Outcome) (c : Course) → Adds IsOfDrain c.past (turned e seq outcome c).past
 turned-drains e seq outcome c = adds-weaker IsOfTurn IsOfDrain turn-drains c.past (turned e seq outcome c).past (turned-adds e seq outcome c)
 
-turns-add : (u : Under) (position : ℕ) (old : Course) (ending : Ending) (new : Course) → Turns u position old ending new → Adds IsOfDrain old.past new.past
+pub turns-add : (u : Under) (position : ℕ) (old : Course) (ending : Ending) (new : Course) → Turns u position old ending new → Adds IsOfDrain old.past new.past
 turns-add u position old ending new (is_idle c empty) = adds-nothing IsOfDrain c.past
 turns-add u position old ending new (is_held c seq level cost e turn) = adds-nothing IsOfDrain c.past
 turns-add u position old ending new (redacts c seq e turn) = turned-drains e seq outcomes.Redacted c
 turns-add u position old ending new (goes c d other seq outcome e turn done rest) =
     adds-more IsOfDrain c.past (turned e seq outcome c).past d.past (turned-drains e seq outcome c) (turns-add u position (turned e seq outcome c) other d rest)
 
-passes-add : (u : Under) (position : ℕ) (old new : Course) → Passes u position old new → Adds IsOfDrain old.past new.past
+pub passes-add : (u : Under) (position : ℕ) (old new : Course) → Passes u position old new → Adds IsOfDrain old.past new.past
 passes-add u position old new (is_over p c end) = adds-nothing IsOfDrain c.past
 passes-add u position old new (next p c between d within these rest) =
     adds-more IsOfDrain c.past between.past d.past (turns-add u p c at_rest between these) (passes-add u (p + 1) between d rest)
 passes-add u position old new (begins_again p c between d within these rest) =
     adds-more IsOfDrain c.past between.past d.past (turns-add u p c again between these) (passes-add u 0 between d rest)
 
-sends-add : (u : Under) (old new : Course) → SendsSome u old new → Adds IsOfDrain old.past new.past
+pub sends-add : (u : Under) (old new : Course) → SendsSome u old new → Adds IsOfDrain old.past new.past
 sends-add u old new (none c) = adds-nothing IsOfDrain c.past
 sends-add u old new (one c between d seq bytes comes rest) =
     adds-more IsOfDrain c.past between.past d.past (sending-adds u c seq bytes between comes) (sends-add u between d rest)

@@ -55,7 +55,7 @@ ready-of s c at seq bytes of_script ready = record {
   long = ready.long ∙ ap (λ T. HEADER_LEN + length (payload T ready.sent)) of_script.table;
 }
 
-frames-failed : (T : Table) (conn : ℕ) (u : Under) (old new : Course) → Comes u old fails new → frames_behind T conn new.past ≡ frames_behind T conn old.past
+pub frames-failed : (T : Table) (conn : ℕ) (u : Under) (old new : Course) → Comes u old fails new → frames_behind T conn new.past ≡ frames_behind T conn old.past
 frames-failed T conn u old new comes = unmoved (List (List ℕ)) (frames_behind T conn) IsOfTurn (frames-kept-by_turn T conn) old.past new.past (turning-adds u old fails new tt comes)
 
 pub send-broken : {W : Type 0} (written : W → Option (List ℕ)) (faults : W → ℕ) (s : Script) (c : Connection) (calls : Calls) (quotas : Counters) (x y : ByteLink W)

@@ -4,6 +4,7 @@ mod Broken
 mod Built
 mod Bytes
 mod Counted
+mod Counting
 mod Ended
 mod Followed
 mod GivenLaws
@@ -13,7 +14,15 @@ mod Held
 mod InTurn
 mod Known
 mod Lines
+mod Named
 mod Needs
+mod NextTicket
+mod OneCall
+mod OneDrain
+mod OneFailure
+mod OneLaws
+mod OneLine
+mod OneScript
 mod OneTurn
 mod Pasts
 mod Pieces

@@ -1,7 +1,8 @@
 -- Turns from one course come out alike, where the tickets that they draw are the next of their windows.
-use Rattle.std.proofs.Common.{◌≡◌, ◌≢◌, ℕ, min, ◌/◌, sym, ap, ◌∙◌, subst}
+use Rattle.std.proofs.Common.{◌≡◌, ◌≢◌, ℕ, min, ◌/◌, refl, sym, ap, ◌∙◌, subst}
 use Rattle.mrpc_table.specs.declared.call.Call.{Call}
-use Rattle.engine_core.specs.Answers.{Answer, Answers, Past, allows, charges, counts, denies, drawn, draws, holds, is_clear, is_over, is_within, note, redacts, refuses, was_charged, was_counted}
+use Rattle.std.specs.Prelude.{None, Some}
+use Rattle.engine_core.specs.Answers.{Answer, Answers, Past, allows, charges, counts, denies, drawn, draws, holds, is_clear, is_over, is_within, note, redacts, refuses, ticket_in, was_charged, was_counted}
 use Rattle.engine_core.specs.Turns.{ComesOut, is_held, is_noted, is_noted_and_refused, is_redacted, is_refused, noted_in, passes, refusal}
 use Rattle.engine_core.specs.declared.outcome.Noted.{Noted}
 use Rattle.engine_core.specs.declared.outcome.Noted.TheVariants as notes
@@ -101,3 +102,34 @@ undrawn-draws policy left at tenant per cap form past outcome quota undrawn (is_
     record { ticket = d.ticket; is = ap noted_in is ∙ same }
 undrawn-draws policy left at tenant per cap form past outcome quota undrawn (is_redacted answers is) =
     let d = (only-draws policy left at tenant per cap form past _ quota undrawn answers).is in cc
+
+-- ---- two turns
+
+abbrev IsNoDraw : Noted → Type 0
+IsNoDraw (notes.Drawn window ticket) = ⊥
+IsNoDraw _ = Unit {0}
+
+-- where one notes no draw, the other notes none
+none-draws : (policy : Policy) (left at : ℕ) (form : Call) (past : Past) (a b : Outcome) → ComesOut policy left at form past a → ComesOut policy left at form past b
+    → IsNoDraw (noted_in a) → (m : Noted) → noted_in b ≡ m → ticket_in (note m) ≡ None
+none-draws policy left at form past a b first second free (notes.Drawn window ticket) is =
+    let u : IsUndrawn policy at window past = turn-draws policy left at form past b window ticket second is in
+    let d : NotesDraw at u.per a = undrawn-draws policy left at u.tenant u.per u.cap form past a u.quota u.none first in
+    absurd (subst IsNoDraw d.is free)
+none-draws policy left at form past a b first second free notes.Nothing is = refl
+none-draws policy left at form past a b first second free (notes.Charged level) is = refl
+none-draws policy left at form past a b first second free notes.Counted is = refl
+
+-- two turns draw the same ticket, or none, where two draws of one window have one ticket
+pub same-ticket : (policy : Policy) (left at : ℕ) (form : Call) (past : Past) (a b : Outcome) → ComesOut policy left at form past a → ComesOut policy left at form past b
+    → ((tenant per cap window s t : ℕ) → policy ≡ Quota tenant per cap → noted_in a ≡ notes.Drawn window s → noted_in b ≡ notes.Drawn window t → s ≡ t)
+    → (n m : Noted) → noted_in a ≡ n → noted_in b ≡ m → ticket_in (note n) ≡ ticket_in (note m)
+same-ticket policy left at form past a b first second one (notes.Drawn window s) m is other =
+    let u : IsUndrawn policy at window past = turn-draws policy left at form past a window s first is in
+    let d : NotesDraw at u.per b = undrawn-draws policy left at u.tenant u.per u.cap form past b u.quota u.none second in
+    let drawn_here : noted_in b ≡ notes.Drawn window d.ticket = d.is ∙ ap (λ w. notes.Drawn w d.ticket) (sym u.window_is) in
+    let same : s ≡ d.ticket = one u.tenant u.per u.cap window s d.ticket u.quota is drawn_here in
+    ap (λ t. Some t) same ∙ ap (λ k. ticket_in (note k)) (sym drawn_here ∙ other)
+same-ticket policy left at form past a b first second one notes.Nothing m is other = sym (none-draws policy left at form past a b first second (subst IsNoDraw (sym is) tt) m other)
+same-ticket policy left at form past a b first second one (notes.Charged level) m is other = sym (none-draws policy left at form past a b first second (subst IsNoDraw (sym is) tt) m other)
+same-ticket policy left at form past a b first second one notes.Counted m is other = sym (none-draws policy left at form past a b first second (subst IsNoDraw (sym is) tt) m other)

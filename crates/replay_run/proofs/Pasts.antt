@@ -25,7 +25,7 @@ IsAny x = Unit {0}
 pub record IsPiece (old new : Behind) (piece : List Happening) : Type 0 where
   pub is : new ≡ reverse piece ++ old
 
-any-adds : (P : Happening → Type 0) (old new : Behind) → Adds P old new → Adds IsAny old new
+pub any-adds : (P : Happening → Type 0) (old new : Behind) → Adds P old new → Adds IsAny old new
 any-adds P old new adds = adds-weaker P IsAny (λ x holds. tt) old new adds
 
 module _ (s : Script) where

@@ -62,6 +62,10 @@ module _ (laws : HistoryLaws) (T : Table) where
   frames-behind conn [] = refl
   frames-behind conn (x ∷ past) = ap (λ ys. ys ++ handed_by T conn x past) (frames-behind conn past)
 
+  pub frames-further : (h k : History) → frames T (h ++ k) ≡ frames T h ++ told_after laws (List ℕ) (handed_by T) h k
+  frames-further h k =
+      frames-after [] (h ++ k) ∙ after-append laws (List ℕ) (handed_by T) [] h k ∙ ap (λ fs. fs ++ told_after laws (List ℕ) (handed_by T) h k) (sym (frames-after [] h))
+
   pub frames-more : (conn : ℕ) (h : History) (piece : List Happening) (more : List (List ℕ))
       → frames_behind T conn (behind conn (h ++ map (on_connection conn) piece)) ≡ frames_behind T conn (behind conn h) ++ more
       → frames T (h ++ map (on_connection conn) piece) ≡ frames T h ++ more
@@ -82,6 +86,11 @@ module _ (laws : HistoryLaws) (tenant window : ℕ) where
   tickets-behind : (conn : ℕ) (past : Behind) → tickets_behind tenant window past ≡ told_behind laws ℕ drawn_on conn past
   tickets-behind conn [] = refl
   tickets-behind conn (x ∷ past) = ap (λ ys. ys ++ drawn_by tenant window x past) (tickets-behind conn past)
+
+  -- those of a history stand in front of what comes behind it
+  pub tickets-further : (h k : History) → tickets tenant window (h ++ k) ≡ tickets tenant window h ++ told_after laws ℕ drawn_on h k
+  tickets-further h k =
+      tickets-after [] (h ++ k) ∙ after-append laws ℕ drawn_on [] h k ∙ ap (λ ts. ts ++ told_after laws ℕ drawn_on h k) (sym (tickets-after [] h))
 
   pub tickets-more : (conn : ℕ) (h : History) (piece : List Happening) (more : List ℕ)
       → tickets_behind tenant window (behind conn (h ++ map (on_connection conn) piece)) ≡ tickets_behind tenant window (behind conn h) ++ more

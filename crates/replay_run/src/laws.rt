@@ -1,18 +1,23 @@
 //! Laws of what follows from scripts. These functions do nothing; their clauses hold.
 
-ghost use Rattle.std.specs.Prelude.{◌≡◌, ◌++◌, All, List, map};
+ghost use Rattle.std.specs.Prelude.{◌≡◌, ◌++◌, All, List, length, map};
 ghost use Rattle.mrpc_table.specs.declared.call.Call.{Call};
 ghost use Rattle.script_text.specs.Lines.{IsScript};
 ghost use Rattle.script_text.specs.declared.script.Line.{Line};
 ghost use Rattle.script_text.specs.declared.script.Line.TheVariants.{Drain};
 ghost use Rattle.script_text.specs.declared.script.Script.{Script};
 ghost use Rattle.call_history.specs.Events.{IsCourse};
+ghost use Rattle.call_history.specs.Frames.{frames};
 ghost use Rattle.call_history.specs.Legal.{IsLegal};
 ghost use Rattle.call_history.specs.Places.{IsSettled};
 ghost use Rattle.replay_run.specs.Follows.{Does, Follows, FollowsUntil, Leads, Opened, State, start, under};
 ghost use Rattle.replay_run.specs.Sound.{IsAllowed, IsSoundOn};
 
-use call_history::{connections_are_apart, drains_settle, events_keep, histories_go_on};
+use call_history::{
+    an_event_has_one_end, chain_goes_on, connections_are_apart, drains_settle, events_keep,
+    histories_go_on,
+};
+use graph_form::reading_determines_outcome;
 
 /// What follows from a script, whole or up to a sending that fails, is legal. On each connection its loads are those of
 /// its calls, and the calls that stand are at places where they may stand.
@@ -45,4 +50,21 @@ pub fn a_drained_connection_is_settled()
         → IsSettled (under s old.conn) new.course.past (map (λ call. call.1) new.course.row) }
 {
     drains_settle();
+}
+
+/// A script has one history, with its loads and the calls that stand, never two: whole, and up to a sending that fails
+/// behind as many calls that were sent.
+pub fn one_follows()
+    ensures whole { (s : Script) (end other : State) → IsScript s → Follows s end → Follows s other → end ≡ other }
+    ensures until { (s : Script) (tried instead : Call) (end other : State) → IsScript s → FollowsUntil s tried end
+        → FollowsUntil s instead other → length (frames s.table end.history) ≡ length (frames s.table other.history)
+        → (tried ≡ instead) × (end ≡ other) }
+{
+    histories_go_on();
+    connections_are_apart();
+    events_keep();
+    drains_settle();
+    chain_goes_on();
+    an_event_has_one_end();
+    reading_determines_outcome();
 }

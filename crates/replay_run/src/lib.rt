@@ -17,6 +17,6 @@ mod stop;
 mod submitting;
 mod telling;
 
-pub use laws::{a_drained_connection_is_settled, what_follows_is_sound};
+pub use laws::{a_drained_connection_is_settled, one_follows, what_follows_is_sound};
 pub use running::run_script;
 pub use stop::Stop;
