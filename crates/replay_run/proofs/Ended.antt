@@ -2,7 +2,7 @@
 use Rattle.std.proofs.Common.{◌≡◌, ℕ, ◌↔◌, ◌⊎◌, inl, inr, List, length, refl, sym, ap, ◌∙◌, subst}
 use Rattle.std.proofs.lemmas.List.{length-map}
 use Rattle.std.specs.Prelude.{Option, None}
-use Rattle.mrpc_base.specs.Faults.{HasCause, Rose}
+use Rattle.mrpc_base.specs.Faults.{HasCause}
 use Rattle.mrpc_base.specs.Quota.{Counters}
 use Rattle.engine_core.specs.Engines.{EngineParts}
 use Rattle.engine_core.specs.Chains.{Chain}
@@ -14,6 +14,7 @@ use Rattle.script_text.specs.declared.script.Line.TheVariants as line
 use Rattle.script_text.specs.declared.script.Script.{Script}
 use Rattle.call_history.specs.Behind.{chain}
 use Rattle.call_history.specs.Draining.{BeginsToDrain, Drains}
+use Rattle.call_history.specs.Frames.{frame_of}
 use Rattle.conn_core.specs.Connections.{Connection as Calls, IsSame, behind, course, under as under_in}
 use Rattle.conn_core.specs.Steps.{DrawsTickets, FailsInDrain, Hands, OnSent, Sends}
 use Rattle.conn_core.specs.declared.answers.Sending.{Sending}
@@ -22,6 +23,7 @@ use Rattle.replay_run.specs.Kept.{DoneOn, HandsOn, IsOf, IsResting, StoppedOn, d
 use Rattle.replay_run.specs.declared.connection.Connection.{Connection}
 use Rattle.replay_run.proofs.Broken.{later-itself}
 use Rattle.replay_run.proofs.Handed.{drain-done, drain-stopped, handed-on, send-done, send-nothing, send-stopped}
+use Rattle.replay_run.proofs.Ran.{cause-none}
 use Rattle.replay_run.proofs.Sent.{with_calls}
 
 -- what holds of what a link found and left holds of its sink before the link and after it
@@ -80,9 +82,25 @@ module _ {W : Type 0} (written : W → Option (List ℕ)) (faults : W → ℕ) w
       drain-stopped s c calls (written (sink_of x)) (written (sink_of y)) of_script begins
       (handed-on written faults c.calls calls x y same hands later none)
 
+  -- the count of faults stays while no send fails
+  pub fault-free : {Failing : Type 0} → (Failing → ⊥) → (x y : ByteLink W) → IsLater written faults x y → failures_of y ≡ 0
+      → HasCause Failing (faults (sink_of x)) (faults (sink_of y))
+  fault-free none x y later fine = cause-none (faults (sink_of x)) (faults (sink_of y)) none (later.same_faults fine)
+
+  -- a frame that was refused is a cause
+  pub refused-cause : {Failing : Type 0} → Failing → (frame : List ℕ) (x y : ByteLink W) → IsRefused written faults x frame y
+      → HasCause Failing (faults (sink_of x)) (faults (sink_of y))
+  refused-cause failed frame x y refused = record {
+    rose = λ _. refused.rose;
+    stays = λ none. absurd (none failed);
+    never_falls = refused.never_falls;
+  }
+
   -- the link that failed in a drain is the first, later on, in front of that failure
-  pub drain-rose : (old new : Calls) (x y : ByteLink W) → failures_of x ≡ 0
-      → FailsInDrain (IsRefused written faults) frames_of failures_of (IsLater written faults) old new x y → Rose (faults (sink_of x)) (faults (sink_of y))
-  drain-rose old new x y none fault =
+  pub drain-cause : {Failing : Type 0} → Failing → (old new : Calls) (x y : ByteLink W) → failures_of x ≡ 0
+      → FailsInDrain (IsRefused written faults) frames_of failures_of (IsLater written faults) old new x y
+      → HasCause Failing (faults (sink_of x)) (faults (sink_of y))
+  drain-cause {Failing} failed old new x y none fault =
       let later : IsLater written faults x fault.link = fault.since x (later-itself written faults x) in
-      subst (λ n. Rose n (faults (sink_of y))) (later.same_faults (fault.same_faults ∙ none)) fault.refused.rose
+      subst (λ n. HasCause Failing n (faults (sink_of y))) (later.same_faults (fault.same_faults ∙ none))
+      (refused-cause failed (frame_of old.table fault.ready.sent) fault.link y fault.refused)

@@ -58,6 +58,7 @@ pub fn run_script<K: Sink, W: Sink>(
     // Behind a send that failed the audit may fail, or memory be short.
     ensures wire_rose { result ≡ Err Stop.Wire → Rose (W.faults wire.old) (W.faults wire.new) }
     ensures wire_same { OnOk result (W.faults wire.new ≡ W.faults wire.old) }
+    ensures wire_never_falls { W.faults wire.old ≤ W.faults wire.new }
 {
     run_follows();
     if script.lines.as_slice().len() >= LINE_LIMIT {
@@ -141,6 +142,7 @@ fn run_lines<'t, K: Sink, W: Sink>(
     ensures out_cause { HasCause (result ≡ Err Stop.Out) (K.faults out.old) (K.faults out.new) }
     ensures wire_rose { result ≡ Err Stop.Wire → Rose (W.faults wire.old) (W.faults wire.new) }
     ensures wire_same { OnOk result (W.faults wire.new ≡ W.faults wire.old) }
+    ensures wire_never_falls { W.faults wire.old ≤ W.faults wire.new }
 {
     run_follows();
     for line in script.lines.as_slice() {
@@ -174,6 +176,7 @@ fn run_line<'t, K: Sink, W: Sink>(
     ensures out_cause { HasCause (result ≡ Err Stop.Out) (K.faults out.old) (K.faults out.new) }
     ensures wire_rose { result ≡ Err Stop.Wire → Rose (W.faults wire.old) (W.faults wire.new) }
     ensures wire_same { OnOk result (W.faults wire.new ≡ W.faults wire.old) }
+    ensures wire_never_falls { W.faults wire.old ≤ W.faults wire.new }
 {
     run_follows();
     if let Line::Conn { conn, words } = line {
@@ -240,6 +243,7 @@ fn run_at<K: Sink, W: Sink>(
     ensures out_cause { HasCause (result ≡ Err Stop.Out) (K.faults out.old) (K.faults out.new) }
     ensures wire_rose { result ≡ Err Stop.Wire → Rose (W.faults wire.old) (W.faults wire.new) }
     ensures wire_same { OnOk result (W.faults wire.new ≡ W.faults wire.old) }
+    ensures wire_never_falls { W.faults wire.old ≤ W.faults wire.new }
 {
     match run_on(alloc, script, line, connection, tickets, wire) {
         Ok(()) => {
@@ -275,8 +279,7 @@ fn run_on<W: Sink>(
         (StoppedOn script.now line.now connection.old (W.written wire.old) (W.written wire.new))
         ⊥ }
     ensures tenants { tickets.new.tenants ≡ tickets.old.tenants }
-    ensures rose { result ≡ Err Stop.Wire → Rose (W.faults wire.old) (W.faults wire.new) }
-    ensures same { result ≢ Err Stop.Wire → W.faults wire.new ≡ W.faults wire.old }
+    ensures cause { HasCause (result ≡ Err Stop.Wire) (W.faults wire.old) (W.faults wire.new) }
 {
     match line {
         Line::Conn { .. } => unreachable!(),

@@ -1,8 +1,8 @@
 //! Turns of engines, and sendings.
 
-ghost use Rattle.std.specs.Prelude.{◌≡◌, ◌≢◌, ◌<◌, ℕ, Err, List, Option, length};
+ghost use Rattle.std.specs.Prelude.{◌≡◌, ◌<◌, ℕ, Err, List, Option, length};
 ghost use Rattle.mrpc_base.specs.Quota.{Counters};
-ghost use Rattle.mrpc_base.specs.Faults.{Rose};
+ghost use Rattle.mrpc_base.specs.Faults.{HasCause};
 ghost use Rattle.script_text.specs.declared.script.Line.TheVariants.{Drain, Send, Turn};
 ghost use Rattle.replay_run.specs.Kept.{BrokenWhere, DoneWhere, IsResting, KnowsTenants, OnRan, StoppedWhere};
 
@@ -37,8 +37,7 @@ pub(crate) fn send<W: Sink>(
         (BrokenWhere Send connection.old connection.new tickets tickets (W.written wire.old) (W.written wire.new))
         (StoppedWhere Send connection.old (W.written wire.old) (W.written wire.new))
         ⊥ }
-    ensures rose { result ≡ Err Stop.Wire → Rose (W.faults wire.old) (W.faults wire.new) }
-    ensures same { result ≢ Err Stop.Wire → W.faults wire.new ≡ W.faults wire.old }
+    ensures cause { HasCause (result ≡ Err Stop.Wire) (W.faults wire.old) (W.faults wire.new) }
 {
     connection.calls.is_connection();
     let mut link = ByteLink::new(wire);
@@ -66,8 +65,7 @@ pub(crate) fn drain<W: Sink>(
         (StoppedWhere Drain connection.old (W.written wire.old) (W.written wire.new))
         ⊥ }
     ensures tenants { tickets.new.tenants ≡ tickets.old.tenants }
-    ensures rose { result ≡ Err Stop.Wire → Rose (W.faults wire.old) (W.faults wire.new) }
-    ensures same { result ≢ Err Stop.Wire → W.faults wire.new ≡ W.faults wire.old }
+    ensures cause { HasCause (result ≡ Err Stop.Wire) (W.faults wire.old) (W.faults wire.new) }
 {
     let mut link = ByteLink::new(wire);
     match connection.calls.drain(alloc, tickets, &mut link) {

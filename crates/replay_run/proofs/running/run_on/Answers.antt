@@ -3,6 +3,7 @@ use Rattle.script_text.specs.Lines.{conn_of, op_in}
 use Rattle.script_text.specs.declared.script.Line.TheVariants as line
 use Rattle.replay_run.proofs.Arms.{IsOperating, change-ran, done-at, may-operate, no-wire, operating-quiet, race-ran, ran-at, store-ran}
 use Rattle.replay_run.proofs.Quiet.{IsQuiet}
+use Rattle.replay_run.proofs.Ran.{cause-none}
 use Rattle.replay_run.proofs.running.run_on.Goals as goal
 
 -- ---- stores and races
@@ -14,8 +15,8 @@ returns-in-Store-clause-ran g c =
     store-ran c.args.script.now c.args.line.now c.args.connection.now c.args.tickets.now _ c.store.new.heap c.in-Store.place c.in-Store.value c.store.result _ is
     c.requires.ready.rests c.store.ensures.stored c.store.ensures.memory
 
-pub returns-in-Store-clause-rose : goal.returns-in-Store-clause-rose
-returns-in-Store-clause-rose g c = λ wire. absurd (no-wire c.store.result c.store.ensures.memory wire)
+pub returns-in-Store-clause-cause : goal.returns-in-Store-clause-cause
+returns-in-Store-clause-cause g c = cause-none _ _ (no-wire c.store.result c.store.ensures.memory) refl
 
 pub returns-in-Race-clause-ran : goal.returns-in-Race-clause-ran
 returns-in-Race-clause-ran g c =
@@ -24,8 +25,8 @@ returns-in-Race-clause-ran g c =
     race-ran c.args.script.now c.args.line.now c.args.connection.now c.args.tickets.now _ c.race.new.heap c.in-Race.load c.in-Race.place c.in-Race.value c.race.result _ is
     c.requires.ready.rests c.race.ensures.listed c.race.ensures.memory
 
-pub returns-in-Race-clause-rose : goal.returns-in-Race-clause-rose
-returns-in-Race-clause-rose g c = λ wire. absurd (no-wire c.race.result c.race.ensures.memory wire)
+pub returns-in-Race-clause-cause : goal.returns-in-Race-clause-cause
+returns-in-Race-clause-cause g c = cause-none _ _ (no-wire c.race.result c.race.ensures.memory) refl
 
 -- ---- what changes a connection
 
@@ -37,8 +38,8 @@ returns-in-Submit-clause-ran g c =
     (λ s l. l ≡ line.Submit c.args.connection.now.calls.conn c.in-Submit.method c.in-Submit.number c.in-Submit.addr)
     (subst IsQuiet (sym is) tt) c.requires.ready.of_script is c.submit.ensures.does c.submit.ensures.keeps c.submit.ensures.memory
 
-pub returns-in-Submit-clause-rose : goal.returns-in-Submit-clause-rose
-returns-in-Submit-clause-rose g c = λ wire. absurd (no-wire c.submit.result c.submit.ensures.memory wire)
+pub returns-in-Submit-clause-cause : goal.returns-in-Submit-clause-cause
+returns-in-Submit-clause-cause g c = cause-none _ _ (no-wire c.submit.result c.submit.ensures.memory) refl
 
 pub operate_by-requires-clause-may : goal.operate_by-requires-clause-may
 operate_by-requires-clause-may g c =
@@ -60,8 +61,8 @@ returns-in-Attach-clause-ran g c =
     (λ s l. op_in s.declared.policies l ≡ op_in c.args.script.now.declared.policies c.args.line.now)
     (operating-quiet c.args.line.now kind) c.requires.ready.of_script refl c.operate_by.ensures.does c.operate_by.ensures.keeps c.operate_by.ensures.memory
 
-pub returns-in-Attach-clause-rose : goal.returns-in-Attach-clause-rose
-returns-in-Attach-clause-rose g c = λ wire. absurd (no-wire c.operate_by.result c.operate_by.ensures.memory wire)
+pub returns-in-Attach-clause-cause : goal.returns-in-Attach-clause-cause
+returns-in-Attach-clause-cause g c = cause-none _ _ (no-wire c.operate_by.result c.operate_by.ensures.memory) refl
 
 pub returns-in-Moment-clause-ran : goal.returns-in-Moment-clause-ran
 returns-in-Moment-clause-ran g c =
@@ -71,8 +72,8 @@ returns-in-Moment-clause-ran g c =
     (λ s l. l ≡ line.Moment c.args.connection.now.calls.conn c.in-Moment.ms)
     (subst IsQuiet (sym is) tt) c.requires.ready.of_script is c.show.ensures.does c.show.ensures.keeps c.show.ensures.memory
 
-pub returns-in-Moment-clause-rose : goal.returns-in-Moment-clause-rose
-returns-in-Moment-clause-rose g c = λ wire. absurd (no-wire c.show.result c.show.ensures.memory wire)
+pub returns-in-Moment-clause-cause : goal.returns-in-Moment-clause-cause
+returns-in-Moment-clause-cause g c = cause-none _ _ (no-wire c.show.result c.show.ensures.memory) refl
 
 -- ---- turns, sendings, drains
 
@@ -82,6 +83,9 @@ returns-in-Turn-clause-ran g c =
     c.in-Turn.is ∙ ap (λ n. line.Turn n c.in-Turn.at) (sym (ap conn_of c.in-Turn.is) ∙ c.requires.on) in
     done-at c.args.script.now c.args.line.now (line.Turn c.args.connection.now.calls.conn c.in-Turn.at) c.args.connection.now c.turn.new.connection c.args.tickets.now c.turn.new.tickets _ _
     is (c.turn.ensures (g.W.Sink.written c.args.wire.now) c.args.script.now c.requires.ready.of_script)
+
+pub returns-in-Turn-clause-cause : goal.returns-in-Turn-clause-cause
+returns-in-Turn-clause-cause g c = cause-none _ _ (λ e. cc) refl
 
 pub returns-in-Turn-clause-tenants : goal.returns-in-Turn-clause-tenants
 returns-in-Turn-clause-tenants g c = (c.turn.ensures (g.W.Sink.written c.args.wire.now) c.args.script.now c.requires.ready.of_script).draws.same
