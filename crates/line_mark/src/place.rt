@@ -1,0 +1,61 @@
+//! Where a place of a text stands: its line.
+
+ghost use Rattle.std.specs.Prelude.{◌≡◌, ◌<◌, ◌≤◌, ◌+◌, ◌^◌, length};
+ghost use Rattle.line_mark.specs.Pointing.{line_at, BeginsLine, EndsLine, IsLineAt, IsWithinLine};
+
+use mrpc_table::line_count;
+
+/// The line that a place of a text stands in.
+#[derive(Clone, Copy)]
+pub(crate) struct LineAt {
+    /// Its number, from 1.
+    pub number: usize,
+    /// Where it begins in the text, from 0.
+    pub start: usize,
+    /// Where it ends in the text: at its line feed, or at the end of the text.
+    pub end: usize,
+}
+
+impl LineAt {
+    /// The line of a place of a text.
+    pub(crate) fn of(text: &[u8], at: usize) -> LineAt
+        requires within { at ≤ length text.now }
+        requires countable { length text.now < 2 ^ 63 }
+        ensures number { result.number ≡ line_at text.now at }
+        ensures line { IsLineAt text.now at result.start result.end }
+        ensures within { (result.start ≤ at) × (at ≤ result.end) × (result.end ≤ length text.now) }
+    {
+        LineAt {
+            number: line_count(&text[..at]) + 1,
+            start: line_start(text, at),
+            end: line_end(text, at),
+        }
+    }
+}
+
+// Where the line of a place begins.
+fn line_start(text: &[u8], at: usize) -> usize
+    requires within { at ≤ length text.now }
+    ensures begins { BeginsLine text.now result }
+    ensures in_front { (result ≤ at) × IsWithinLine text.now result at }
+{
+    let mut start = at;
+    while start > 0 && text[start - 1] != b'\n' {
+        start -= 1;
+    }
+    start
+}
+
+// Where the line of a place ends.
+fn line_end(text: &[u8], at: usize) -> usize
+    requires within { at ≤ length text.now }
+    ensures ends { EndsLine text.now result }
+    ensures behind { (at ≤ result) × IsWithinLine text.now at result }
+    ensures within { result ≤ length text.now }
+{
+    let mut end = at;
+    while end < text.len() && text[end] != b'\n' {
+        end += 1;
+    }
+    end
+}
