@@ -1,5 +1,5 @@
-//! Tests that need a table and several crates at once: the codec, placed graphs and their sizes, and the lines of the
-//! audit. It has no code of its own, and nothing stands on it.
+//! Tests that need a table and several crates at once: the codec, placed graphs and their sizes. It
+//! has no code of its own, and nothing stands on it.
 #![tactic(auto)]
 
 #[cfg(test)]

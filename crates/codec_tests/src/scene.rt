@@ -5,12 +5,11 @@ ghost use Rattle.mrpc_table.specs.Normal.{IsNormal};
 ghost use Rattle.graph_form.specs.Placed.{Placed as PlacedTree};
 ghost use Rattle.graph_form.specs.Stored.{AreWordsOf};
 
-use call_ledger::{Happening, audit_line};
 use graph_copy::{CopyResult, copy, forget};
 use graph_form::{Placed, Reason, size_words, slot_of};
 use graph_place::{place, place_words};
 use mrpc_base::{PlainWords, Room, Stores};
-use mrpc_table::{Bytes, MAX_LOADS, Memory, Table, Tree, fits};
+use mrpc_table::{Bytes, MAX_LOADS, Table, Tree, fits};
 use std::alloc::Global;
 use std::marker::Model;
 use std::process::Abort;
@@ -114,17 +113,6 @@ impl Scene {
     pub fn encode(&self, rt: &impl Abort, alloc: Global, tree: &Tree) -> Bytes {
         self.check(rt, tree);
         encode(alloc, tree, &self.table, 0).expect(rt, "an encoding")
-    }
-
-    /// The line of a frame of so many bytes that was sent for a call.
-    pub fn sent_line(
-        &self,
-        alloc: Global,
-        conn: u32,
-        seq: u32,
-        bytes: u64,
-    ) -> Result<Bytes, Memory> {
-        audit_line(alloc, &Happening::Sent { conn, seq, bytes }, &self.table)
     }
 
     /// Stores a word; whether there are such a place, and memory.

@@ -1,9 +1,6 @@
-//! The codec, the sizes of messages and the lines of the audit.
+//! The codec and the sizes of messages.
 
 use crate::scene::Scene;
-use call_ledger::{put_hex, stands_line};
-use mrpc_table::Bytes;
-use std::test::Fail;
 use wire_decode::{meaning_is_normal, meaning_of_encoding};
 
 const NUMBERS: &[u8] = b"message M\nfield 6 packed uint64 n\nmethod 0 S Get M M\n";
@@ -38,30 +35,4 @@ fn call_laws() {
 fn a_field_takes_two_words_and_a_oneof_three(rt: HostRuntime) {
     let scene = Scene::open(&rt, rt.alloc(), SLOTS);
     assert!(rt; scene.size_words() == 10);
-}
-
-#[test]
-fn a_sent_call_has_its_line(rt: HostRuntime) -> Result<(), Fail> {
-    let scene = Scene::open(&rt, rt.alloc(), NUMBERS);
-    let line = scene.sent_line(rt.alloc(), 16, 4294967295, 262160)?;
-    assert!(rt; line.as_slice() == b"sent 16 4294967295 262160\n".as_slice());
-    Ok(())
-}
-
-#[test]
-fn a_standing_call_has_its_line(rt: HostRuntime) -> Result<(), Fail> {
-    let line = stands_line(rt.alloc(), 3, 7, 0, b"-")?;
-    assert!(rt; line.as_slice() == b"stands 3 7 0 -\n".as_slice());
-    Ok(())
-}
-
-#[test]
-fn words_stand_behind_a_space(rt: HostRuntime) -> Result<(), Fail> {
-    let alloc = rt.alloc();
-    let mut line = Bytes::new(alloc);
-    line.append_word(70)?;
-    put_hex(alloc, &mut line, b"")?;
-    put_hex(alloc, &mut line, b"\xab\x09")?;
-    assert!(rt; line.as_slice() == b" 70 - ab09".as_slice());
-    Ok(())
 }

@@ -1,8 +1,8 @@
 -- A command does no work on a faulty text.
 use Rattle.std.proofs.Common.{◌≡◌, ℕ, List, Option, sym, subst}
-use Rattle.script_lang.specs.declared.fault.ScriptReason.{ScriptReason}
-use Rattle.script_lang.specs.declared.script.Script.{Script}
-use Rattle.script_lang.specs.Texts.{Spells, IsFault}
+use Rattle.script_words.specs.declared.fault.ScriptReason.{ScriptReason}
+use Rattle.script_text.specs.declared.script.Script.{Script}
+use Rattle.script_text.specs.Texts.{Spells, IsFault}
 use Rattle.mrpc_top.specs.Auditing.{AuditsText, HasAuditFault}
 use Rattle.mrpc_top.specs.Command.{IsFaulty, Refuses, DecodesText, ChecksText, CutsText}
 use Rattle.mrpc_top.specs.declared.command.Command.{Command}

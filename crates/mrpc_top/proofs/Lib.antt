@@ -11,5 +11,6 @@ mod KnownBytes
 mod OneAudit
 mod OneCheck
 mod OneDecoding
+mod Replays
 mod SetSizes
 mod TextAnswers

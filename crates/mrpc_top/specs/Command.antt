@@ -2,12 +2,8 @@
 use Rattle.std.specs.Prelude.{◌≡◌, ℕ, ◌<◌, ◌≤◌, ◌⊎◌, List, [], ◌∷◌, ◌++◌, codes, length, map, Option, String, string_bytes}
 use Rattle.std.specs.declared.alloc.Global.{Global}
 use Rattle.std.specs.Io.KnownBytes.{Appends}
-use Rattle.script_lang.specs.declared.fault.ScriptReason.{ScriptReason}
-use Rattle.script_lang.specs.declared.script.Script.{Script}
-use Rattle.script_lang.specs.Texts.{Spells, IsFault}
-use Rattle.script_lang.specs.Reason.{reason_word}
-use Rattle.script_run.specs.Replays.{Replays}
-use Rattle.mrpc_top.specs.FaultLines.{fault_line, line_of_fault}
+use Rattle.mrpc_top.specs.FaultLines.{WritesFront, fault_line, line_of_fault}
+use Rattle.mrpc_top.specs.Replaying.{RunsText, BreaksText, StopsText, RefusesScript, HasScriptFault}
 use Rattle.mrpc_top.specs.Checking.{ChecksAs, IsCheckFault, spot_text}
 use Rattle.mrpc_top.specs.declared.check.Spot.{Spot}
 use Rattle.mrpc_top.specs.Auditing.{AuditsText, RefusesAudit, HasAuditFault}
@@ -39,15 +35,13 @@ IsReplay words = Names words Replay
 abbrev pub IsCommand : List (String Global) → Type 0
 IsCommand words = (command : Command) × Names words command
 
+-- ---- lines of faults
+
 -- the line of a fault of a file or of a set of files
 abbrev pub spot_line : Spot → List ℕ → List ℕ
 spot_line spot word = line_of_fault (spot_text spot) word
 
 -- ---- what a command does with a text
-
--- a text is that of a script, which was run
-abbrev pub RunsText : List ℕ → Option (List ℕ) → Option (List ℕ) → Option (List ℕ) → Option (List ℕ) → Type 0
-RunsText text out out' wire wire' = (script : Script) × Spells text script × Replays script out out' wire wire'
 
 -- a text is a table's text and whole frames behind it, and their lines were written
 pub record DecodesText (text : List ℕ) (out out' : Option (List ℕ)) : Type 0 where
@@ -73,13 +67,6 @@ WorksOn Check text out out' wire wire' = ChecksText text out out'
 WorksOn Audit text out out' wire wire' = AuditsText text out out'
 
 -- ---- what a command writes of a faulty text
-
--- a text was refused as a script: its first fault was written
-pub record RefusesScript (text : List ℕ) (out out' : Option (List ℕ)) : Type 0 where
-  pub line : ℕ
-  pub reason : ScriptReason
-  pub fault : IsFault text line reason
-  pub written : Appends out out' (fault_line line (reason_word reason))
 
 -- A text was decoded up to its first fault, whose line was written: a fault of the table's text, or of the frames,
 -- behind the lines of those in front of it.
@@ -114,7 +101,7 @@ pub data HasDecodeFault (text : List ℕ) : Type 0 where
 
 -- for the command a text has a first fault
 abbrev pub IsFaulty : Command → List ℕ → Type 0
-IsFaulty Replay text = (line : ℕ) × (reason : ScriptReason) × IsFault text line reason
+IsFaulty Replay text = HasScriptFault text
 IsFaulty Decode text = HasDecodeFault text
 IsFaulty Check text = (spot : Spot) × (word : List ℕ) × IsCheckFault text spot word
 IsFaulty Audit text = HasAuditFault text
@@ -125,13 +112,6 @@ IsFaulty Audit text = HasAuditFault text
 pub record IsInput (left : Option (List ℕ)) (text : List ℕ) : Type 0 where
   pub all : IsAllOf left text
   pub short : length text ≤ INPUT_LIMIT
-
--- an input is the text of a script
-pub record IsScript (left : Option (List ℕ)) : Type 0 where
-  pub text : List ℕ
-  pub input : IsInput left text
-  pub script : Script
-  pub spelled : Spells text script
 
 -- the command did its work on an input
 abbrev pub IsDone : Command → Option (List ℕ) → Option (List ℕ) → Option (List ℕ) → Option (List ℕ)
@@ -147,3 +127,18 @@ IsRefused command left left' out out' =
 -- a text has a fault as the input of the command: it is too long, or has a first fault
 abbrev pub HasFault : Command → List ℕ → Type 0
 HasFault command text = (INPUT_LIMIT < length text) ⊎ IsFaulty command text
+
+-- ---- replays that end early
+
+-- an input is that of a script, which was run up to a sending that failed
+abbrev pub IsBroken : Option (List ℕ) → Option (List ℕ) → Option (List ℕ) → Option (List ℕ) → Option (List ℕ) → Type 0
+IsBroken left out out' wire wire' = (text : List ℕ) × IsInput left text × BreaksText text out out' wire wire'
+
+-- A replay ended early, and what it wrote is in front of what it may write: nothing, where the input wasn't read to its
+-- end, some of the line of its fault, where it is too long, or what `StopsText` says.
+pub data IsCutShort (left left' out out' wire wire' : Option (List ℕ)) : Type 0 where
+  unread : Appends out out' [] → Appends wire wire' [] → IsCutShort left left' out out' wire wire'
+  too_long : ReadsPast INPUT_LIMIT left left' → WritesFront out out' (fault_line INPUT_LIMIT (codes "Input"))
+      → Appends wire wire' [] → IsCutShort left left' out out' wire wire'
+  of_text : (text : List ℕ) → IsInput left text → StopsText text out out' wire wire'
+      → IsCutShort left left' out out' wire wire'

@@ -16,7 +16,7 @@ use Rattle.frame_transport.specs.declared.fault.FeedFault.{FeedFault}
 use Rattle.frame_transport.specs.declared.fault.FeedFault.TheVariants.{Version, Kind, TooLong, Memory}
 use Rattle.mrpc_table.specs.Calls.{message_of}
 use Rattle.mrpc_table.specs.declared.call.Sort.TheVariants.{Request, Reply}
-use Rattle.call_ledger.specs.Audit.{hex_word}
+use Rattle.audit_text.specs.Lines.{hex_word}
 
 -- the kind of a hello
 abbrev pub hello : ℕ

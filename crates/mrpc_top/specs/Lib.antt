@@ -6,4 +6,5 @@ pub mod Decoding
 pub mod FaultLines
 pub mod Laws
 pub mod Reading
+pub mod Replaying
 pub mod Telling

@@ -2,16 +2,14 @@
 
 ghost use Rattle.std.specs.Prelude.{◌≡◌, ◌≢◌, ◌↔◌, ◌<◌, ◌≤◌, ◌⊎◌, List, ℕ, ◌++◌, length, All, IfOk, OnOk, IfSome, IfNone, Some};
 ghost use Rattle.std.specs.Io.KnownBytes.{Appends};
-ghost use Rattle.mrpc_base.specs.Faults.{HasCause};
+ghost use Rattle.mrpc_base.specs.Faults.{HasCause, Rose};
 ghost use Rattle.mrpc_table.specs.declared.table.Table.{Table};
-ghost use Rattle.script_lang.specs.declared.script.Script.{Script};
-ghost use Rattle.script_lang.specs.Texts.{Spells};
-ghost use Rattle.script_run.specs.Replays.{Replays};
 ghost use Rattle.mrpc_top.specs.DecodeInput.{Holds, IsTextFault};
 ghost use Rattle.mrpc_top.specs.Decoding.{IsDecoded, IsCutAt};
-ghost use Rattle.mrpc_top.specs.Command.{command_word, Names, IsReplay, IsCommand, IsDone, IsRefused, IsScript, HasFault, IsFaulty, WorksOn, Refuses, RunsText, DecodesText, ChecksText, RefusesScript, CutsText, RefusesProto, spot_line};
-ghost use Rattle.mrpc_top.specs.FaultLines.{fault_line};
+ghost use Rattle.mrpc_top.specs.Command.{command_word, Names, IsReplay, IsCommand, IsDone, IsRefused, IsBroken, IsCutShort, HasFault, IsFaulty, WorksOn, Refuses, DecodesText, ChecksText, CutsText, RefusesProto, spot_line};
+ghost use Rattle.mrpc_top.specs.FaultLines.{WritesFront, fault_line};
 ghost use Rattle.mrpc_top.specs.Auditing.{AuditsText, RefusesAudit};
+ghost use Rattle.mrpc_top.specs.Replaying.{RunsText, BreaksText, StopsText, RefusesScript, HasScriptFault};
 ghost use Rattle.mrpc_top.specs.Checking.{spot_text};
 
 use crate::audit::{AuditFailure, audited_text, one_audit};
@@ -20,10 +18,12 @@ use crate::decode_input::read_head;
 use crate::decoding::{Cut, decode_stream};
 use crate::laws::{meaning_law, text_law};
 use crate::reading::{INPUT_LIMIT, Input, read_input};
+use crate::replay::one_replay;
 use mrpc_base::{Sink, Source, write_all};
 use mrpc_table::{Bytes, Memory};
-use script_lang::{ScriptFault, one_answer, read_script};
-use script_run::{Stop, run_script};
+use replay_run::{Stop, run_script};
+use script_text::{one_script, read_script};
+use script_words::ScriptFault;
 use std::alloc::Global;
 
 /// The work is done.
@@ -49,9 +49,11 @@ pub const WIRE_FAILED: u8 = 6;
 
 /// Runs the command that the words name, and answers its exit status.
 ///
-/// `replay` reads a script from `input`, runs it, and writes the audit to `out` and the frames to `wire`. The first
-/// fault of a text that is no script (`script_lang` says which are) is written to `out` as one line `fault LINE
-/// REASON`.
+/// `replay` reads a script from `input`, runs it, and writes the audit to `out`, each line as it happens, and the frames
+/// to `wire`; the calls that stand at the end are told last. The first fault of a text that is no script (`script_text`
+/// says which are) is written to `out` as one line `fault LINE REASON`. Where a frame can't be written, the calls that
+/// stand on its connection are refused, the calls that still stand are told, and the lines of the script behind do
+/// nothing; where `out` fails behind that, the status is `OUTPUT_FAILED`.
 ///
 /// `decode` reads the line `mrpc-decode 1`, the line `table`, the canonical text of a table and the line
 /// `end`, and behind them frames to the end of the input. For each frame it writes a line to `out`:
@@ -97,14 +99,26 @@ pub fn run_command<S: Source, K: Sink, W: Sink>(
     ensures refused { (command : Command) (text : List ℕ) → Names words.now.items command → S.left input.old ≡ Some text
         → HasFault command text → (result ≢ DONE) × (result ≢ WIRE_FAILED) }
 
-    // Only a replay sends frames, and none of an input that has a fault.
+    // Only a replay sends frames, and none of an input that has a fault, whatever else fails.
     ensures unsent { (result ≡ FAULTY_INPUT) ⊎ (IsReplay words.now.items → ⊥) → wire.new ≡ wire.old }
-    ensures wire_failed { result ≡ WIRE_FAILED → IsReplay words.now.items × IsScript (S.left input.old) }
+    ensures sound_alone { (text : List ℕ) → IsReplay words.now.items → S.left input.old ≡ Some text
+        → HasFault Command.Replay text → wire.new ≡ wire.old }
 
-    // Each device is answered for by its own status, and by no other.
+    // A replay whose frames can't be written is one up to the sending that failed. What another one wrote that ends early
+    // is in front of what it may write.
+    ensures broken { result ≡ WIRE_FAILED → IsReplay words.now.items × IsBroken (S.left input.old)
+        (K.written out.old) (K.written out.new) (W.written wire.old) (W.written wire.new) }
+    ensures cut_short { IsReplay words.now.items → (result ≡ NO_MEMORY) ⊎ (result ≡ OUTPUT_FAILED)
+        → IsCutShort (S.left input.old) (S.left input.new)
+        (K.written out.old) (K.written out.new) (W.written wire.old) (W.written wire.new) }
+
+    // Each device is answered for by its own status. Behind a frame that couldn't be written the output may fail, or memory
+    // be short.
     ensures input_cause { HasCause (result ≡ INPUT_FAILED) (S.faults input.old) (S.faults input.new) }
     ensures out_cause { HasCause (result ≡ OUTPUT_FAILED) (K.faults out.old) (K.faults out.new) }
-    ensures wire_cause { HasCause (result ≡ WIRE_FAILED) (W.faults wire.old) (W.faults wire.new) }
+    ensures wire_rose { result ≡ WIRE_FAILED → Rose (W.faults wire.old) (W.faults wire.new) }
+    ensures wire_same { result ≡ DONE → W.faults wire.new ≡ W.faults wire.old }
+    ensures wire_never_falls { W.faults wire.old ≤ W.faults wire.new }
     ensures unread { result ≡ INPUT_FAILED → (out.new ≡ out.old) × (wire.new ≡ wire.old) }
 {
     match command_of(words) {
@@ -169,11 +183,17 @@ fn run<K: Sink, W: Sink>(
     ensures faulty { result ≡ FAULTY_INPUT → Refuses command text.now (K.written out.old) (K.written out.new) }
     ensures refused { IsFaulty command text.now → (result ≢ DONE) × (result ≢ WIRE_FAILED) }
     ensures unsent { (result ≡ FAULTY_INPUT) ⊎ (command ≢ Command.Replay) → wire.new ≡ wire.old }
-    ensures wire_failed { result ≡ WIRE_FAILED → (command ≡ Command.Replay) × ((s : Script) × Spells text.now s) }
+    ensures sound_alone { command ≡ Command.Replay → IsFaulty Command.Replay text.now → wire.new ≡ wire.old }
+    ensures broken { result ≡ WIRE_FAILED → (command ≡ Command.Replay) × BreaksText text.now
+        (K.written out.old) (K.written out.new) (W.written wire.old) (W.written wire.new) }
+    ensures cut_short { command ≡ Command.Replay → (result ≡ NO_MEMORY) ⊎ (result ≡ OUTPUT_FAILED) → StopsText text.now
+        (K.written out.old) (K.written out.new) (W.written wire.old) (W.written wire.new) }
     ensures out_cause { HasCause (result ≡ OUTPUT_FAILED) (K.faults out.old) (K.faults out.new) }
-    ensures wire_cause { HasCause (result ≡ WIRE_FAILED) (W.faults wire.old) (W.faults wire.new) }
+    ensures wire_rose { result ≡ WIRE_FAILED → Rose (W.faults wire.old) (W.faults wire.new) }
+    ensures wire_same { result ≡ DONE → W.faults wire.new ≡ W.faults wire.old }
+    ensures wire_never_falls { W.faults wire.old ≤ W.faults wire.new }
 {
-    one_answer();
+    one_replay();
     one_decoding();
     one_check();
     one_audit();
@@ -220,11 +240,17 @@ fn replay_text<K: Sink, W: Sink>(alloc: Global, text: &[u8], out: &mut K, wire: 
     ensures done { result ≡ DONE → RunsText text.now
         (K.written out.old) (K.written out.new) (W.written wire.old) (W.written wire.new) }
     ensures faulty { result ≡ FAULTY_INPUT → RefusesScript text.now (K.written out.old) (K.written out.new) }
-    ensures faulty_unsent { result ≡ FAULTY_INPUT → wire.new ≡ wire.old }
+    ensures broken { result ≡ WIRE_FAILED → BreaksText text.now
+        (K.written out.old) (K.written out.new) (W.written wire.old) (W.written wire.new) }
+    ensures cut_short { (result ≡ NO_MEMORY) ⊎ (result ≡ OUTPUT_FAILED) → StopsText text.now
+        (K.written out.old) (K.written out.new) (W.written wire.old) (W.written wire.new) }
+    ensures unsent { (result ≡ FAULTY_INPUT) ⊎ HasScriptFault text.now → wire.new ≡ wire.old }
     ensures out_cause { HasCause (result ≡ OUTPUT_FAILED) (K.faults out.old) (K.faults out.new) }
-    ensures wire_cause { HasCause (result ≡ WIRE_FAILED) (W.faults wire.old) (W.faults wire.new) }
-    ensures faultless { result ≡ WIRE_FAILED → (s : Script) × Spells text.now s }
+    ensures wire_rose { result ≡ WIRE_FAILED → Rose (W.faults wire.old) (W.faults wire.new) }
+    ensures wire_same { result ≡ DONE → W.faults wire.new ≡ W.faults wire.old }
+    ensures wire_never_falls { W.faults wire.old ≤ W.faults wire.new }
 {
+    one_script();
     match read_script(alloc, text) {
         Ok(script) => match run_script(alloc, &script, out, wire) {
             Ok(()) => DONE,
@@ -309,6 +335,8 @@ fn refuse<K: Sink>(alloc: Global, place: u64, word: &[u8], out: &mut K) -> u8
     ensures statuses { (result ≡ FAULTY_INPUT) ⊎ ((result ≡ NO_MEMORY) ⊎ (result ≡ OUTPUT_FAILED)) }
     ensures written { result ≡ FAULTY_INPUT
         → Appends (K.written out.old) (K.written out.new) (fault_line place word.now) }
+    ensures front { result ≢ FAULTY_INPUT
+        → WritesFront (K.written out.old) (K.written out.new) (fault_line place word.now) }
     ensures cause { HasCause (result ≡ OUTPUT_FAILED) (K.faults out.old) (K.faults out.new) }
 {
     refuse_at(alloc, Spot::Line(place), word, out)
@@ -319,6 +347,8 @@ fn refuse_at<K: Sink>(alloc: Global, spot: Spot, word: &[u8], out: &mut K) -> u8
     ensures statuses { (result ≡ FAULTY_INPUT) ⊎ ((result ≡ NO_MEMORY) ⊎ (result ≡ OUTPUT_FAILED)) }
     ensures written { result ≡ FAULTY_INPUT
         → Appends (K.written out.old) (K.written out.new) (spot_line spot word.now) }
+    ensures front { result ≢ FAULTY_INPUT
+        → WritesFront (K.written out.old) (K.written out.new) (spot_line spot word.now) }
     ensures cause { HasCause (result ≡ OUTPUT_FAILED) (K.faults out.old) (K.faults out.new) }
 {
     match fault_text(alloc, spot, word) {

@@ -11,7 +11,7 @@ ghost use Rattle.mrpc_top.specs.Decoding.{IsLineOf, IsFaultIn, IsFaultOfHeader, 
 ghost use Rattle.mrpc_top.specs.Telling.{Tells};
 
 use crate::laws::frame_law;
-use call_ledger::put_hex;
+use audit_text::append_hex_word;
 use frame_transport::{FeedFault, FrameRef, HEADER_LEN, HELLO, METHOD_PLACE, frame_at};
 use mrpc_base::{Sink, write_all};
 use mrpc_table::{Bytes, Memory, Sort, Table};
@@ -276,6 +276,6 @@ fn put_call(alloc: Global, frame: &FrameRef, bytes: &[u8], lines: &mut Bytes) ->
     lines.append_word(u64::from(frame.method))?;
     lines.append_word(u64::from(frame.conn))?;
     lines.append_word(u64::from(frame.number))?;
-    put_hex(alloc, lines, bytes)?;
+    append_hex_word(alloc, lines, bytes)?;
     lines.push(b'\n')
 }

@@ -1,16 +1,12 @@
-//! Tests of what is read and written as text or as bytes: tables, scripts, audit lines, records, frames and hellos. It
-//! has no code of its own, and nothing stands on it.
+//! Tests of what is read and written as text or as bytes: tables, records, frames and hellos. It has
+//! no code of its own, and nothing stands on it.
 #![tactic(auto)]
 
-#[cfg(test)]
-mod audit;
 #[cfg(test)]
 mod frames;
 #[cfg(test)]
 mod hellos;
 #[cfg(test)]
 mod records;
-#[cfg(test)]
-mod scripts;
 #[cfg(test)]
 mod tables;

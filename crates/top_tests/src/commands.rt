@@ -3,7 +3,7 @@
 use mrpc_base::{MemSink, MemSource};
 use mrpc_top::{
     DONE, INPUT_FAILED, NO_COMMAND, OUTPUT_FAILED, WIRE_FAILED, one_audit, one_check, one_decoding,
-    run_command,
+    one_replay, run_command,
 };
 use std::alloc::{AllocError, Global};
 use std::test::Fail;
@@ -15,6 +15,16 @@ const ONE_CALL: &[u8] =
 const TWO_CALLS: &[u8] =
     b"mrpc-replay 1\ntable\nmessage M\nfield 1 plain uint64 a\nmethod 0 S Get M M\nend\n\
       conn 1 16\nstore 1 2 150\nsubmit 1 0 2\ndrain 1\nsubmit 1 0 2\ndrain 1\nclose\n";
+
+const THREE_CALLS: &[u8] =
+    b"mrpc-replay 1\ntable\nmessage M\nfield 1 plain uint64 a\nmethod 0 S Get M M\nend\n\
+      conn 1 16\nconn 2 16\nstore 1 2 7\nsubmit 2 0 2\nsubmit 1 0 2\nsubmit 1 0 2\nsubmit 1 0 2\n\
+      drain 1\nmoment 1 5\ndrain 2\nclose\n";
+
+// What a run of three calls on one connection and one on another writes whose second frame can't be written.
+const BROKEN: &[u8] = b"took 2 1 0 0 2 0 1 copy -\n\
+    took 1 1 0 0 2 1 1 copy 0807\ntook 1 2 0 0 2 1 1 copy 0807\ntook 1 3 0 0 2 1 1 copy 0807\n\
+    sent 1 1 18\nrefused 1 2 transport\nrefused 1 3 transport\nstands 2 1 0 -\n";
 
 fn words_of(alloc: Global, command: &str) -> Result<Vec<String>, AllocError> {
     let mut words = Vec::new(alloc);
@@ -92,9 +102,32 @@ fn nothing_is_written_behind_a_failed_line(rt: HostRuntime) -> Result<(), Fail> 
 fn nothing_is_written_behind_a_failed_frame(rt: HostRuntime) -> Result<(), Fail> {
     let left = run(rt.alloc(), "replay", TWO_CALLS, &[], &[], &[1])?;
     assert!(rt; left.status == WIRE_FAILED);
-    assert!(rt; left.out.calls() == 1);
+    assert!(rt;
+        left.out.written() == b"took 1 1 0 0 2 1 1 copy 089601\nrefused 1 1 transport\n".as_slice()
+    );
     assert!(rt; left.wire.calls() == 1);
     assert!(rt; left.wire.written().is_empty());
+    Ok(())
+}
+
+#[test]
+fn calls_that_stand_are_refused_behind_a_failed_frame(rt: HostRuntime) -> Result<(), Fail> {
+    let left = run(rt.alloc(), "replay", THREE_CALLS, &[], &[], &[2])?;
+    one_replay();
+    assert!(rt; left.status == WIRE_FAILED);
+    assert!(rt; left.out.written() == BROKEN);
+    assert!(rt; left.wire.calls() == 2);
+    assert!(rt; left.wire.written().len() == 18);
+    Ok(())
+}
+
+#[test]
+fn a_failed_line_behind_a_failed_frame_counts(rt: HostRuntime) -> Result<(), Fail> {
+    let left = run(rt.alloc(), "replay", THREE_CALLS, &[], &[7], &[2])?;
+    assert!(rt; left.status == OUTPUT_FAILED);
+    assert!(rt; left.out.calls() == 7);
+    assert!(rt; left.out.written() == &BROKEN[..BROKEN.len() - 37]);
+    assert!(rt; left.wire.written().len() == 18);
     Ok(())
 }
 

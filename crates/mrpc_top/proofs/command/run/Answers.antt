@@ -6,10 +6,10 @@ pub returns-in-Replay-clause-refused : goal.returns-in-Replay-clause-refused
 returns-in-Replay-clause-refused g c fault = (
   λ done.
       let d = c.replay_text.ensures.done done in
-      no_script c.one_answer.ensures.either c.args.command c.args.text.now d.0 c.in-Replay.is fault d.1,
+      no_script c.one_replay.ensures.never_both c.args.command c.args.text.now d.0 c.in-Replay.is fault d.1,
   λ failed.
-      let d = c.replay_text.ensures.faultless failed in
-      no_script c.one_answer.ensures.either c.args.command c.args.text.now d.0 c.in-Replay.is fault d.1,
+      let d = c.replay_text.ensures.broken failed in
+      no_script c.one_replay.ensures.never_both c.args.command c.args.text.now d.0 c.in-Replay.is fault d.1,
 )
 
 pub returns-in-Decode-clause-faulty : goal.returns-in-Decode-clause-faulty

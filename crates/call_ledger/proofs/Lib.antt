@@ -1,8 +1,0 @@
-mod Apart
-mod Fates
-mod Filters
-mod Legality
-mod Lines
-mod Rows
-mod Standing
-mod Texts

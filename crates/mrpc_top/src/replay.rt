@@ -1,0 +1,45 @@
+//! What holds of the scripts that `replay` reads, and of what follows from them.
+
+ghost use Rattle.std.specs.Prelude.{◌≡◌, ◌⊎◌, All, List, length, ℕ};
+ghost use Rattle.mrpc_table.specs.declared.call.Call.{Call};
+ghost use Rattle.script_words.specs.declared.fault.ScriptReason.{ScriptReason};
+ghost use Rattle.script_text.specs.Texts.{Spells, IsFault};
+ghost use Rattle.script_text.specs.declared.script.Script.{Script};
+ghost use Rattle.call_history.specs.Frames.{frames};
+ghost use Rattle.call_history.specs.Legal.{IsLegal};
+ghost use Rattle.replay_run.specs.Follows.{State, Follows, FollowsUntil, under};
+ghost use Rattle.replay_run.specs.Sound.{IsAllowed, IsSoundOn};
+
+use replay_run::{one_follows, what_follows_is_sound};
+use script_text::one_script;
+
+/// A text has one replay. It is that of one script or has one first fault, and never both. One history at most follows
+/// from the script, with its loads and the calls that stand: whole, and up to a sending that fails behind as many calls
+/// that were sent. It is legal; on each connection its loads are those of its calls, each part of a message loaded once,
+/// and the calls that stand are at places where they may stand.
+pub fn one_replay()
+    ensures scripts { (text : List ℕ) (s t : Script) → Spells text s → Spells text t → s ≡ t }
+    ensures faults { (text : List ℕ) (line at : ℕ) (reason other : ScriptReason) → IsFault text line reason
+        → IsFault text at other → (line ≡ at) × (reason ≡ other) }
+    ensures never_both { (text : List ℕ) (s : Script) (line : ℕ) (reason : ScriptReason) → Spells text s
+        → IsFault text line reason → ⊥ }
+    ensures script_or_fault { (text : List ℕ)
+        → ((s : Script) × Spells text s) ⊎ ((line : ℕ) × (reason : ScriptReason) × IsFault text line reason) }
+    ensures one { (text : List ℕ) (s : Script) (end other : State) → Spells text s → Follows s end → Follows s other
+        → end ≡ other }
+    ensures one_until { (text : List ℕ) (s : Script) (tried instead : Call) (end other : State) → Spells text s
+        → FollowsUntil s tried end → FollowsUntil s instead other
+        → length (frames s.table end.history) ≡ length (frames s.table other.history)
+        → (tried ≡ instead) × (end ≡ other) }
+    ensures legal { (text : List ℕ) (s : Script) (end : State) → Spells text s → Follows s end
+        → IsLegal s.table s.loads end.history × All (IsSoundOn s end.history) end.opened }
+    ensures legal_until { (text : List ℕ) (s : Script) (tried : Call) (end : State) → Spells text s
+        → FollowsUntil s tried end → IsLegal s.table s.loads end.history × All (IsSoundOn s end.history) end.opened }
+    // The call whose sending fails may be sent: every entry of its chain lets it pass.
+    ensures allowed { (text : List ℕ) (s : Script) (tried : Call) (end : State) → Spells text s
+        → (f : FollowsUntil s tried end) → IsAllowed (under s f.until.one.conn) f.until.fails.at f.until.fails.seq }
+{
+    one_script();
+    one_follows();
+    what_follows_is_sound();
+}

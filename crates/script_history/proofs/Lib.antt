@@ -1,6 +1,0 @@
-mod Determined
-mod GivenLaws
-mod Leading
-mod Legality
-mod Opened
-mod Rows

@@ -1,4 +1,0 @@
-pub mod Connection
-pub mod Replays
-pub mod Running
-pub mod Sending
