@@ -15,9 +15,10 @@ use Rattle.frame_transport.specs.Frames.{IsPartial}
 use Rattle.frame_transport.specs.declared.fault.FeedFault.{FeedFault}
 use Rattle.frame_transport.specs.declared.fault.FeedFault.TheVariants.{Memory}
 use Rattle.receive_core.specs.Life.{Fated, Life, Lives, StoresAreFew, StreamIsShort, Tells, fated, fed, stores_of, was_dropped, was_placed}
-use Rattle.receive_core.specs.Turns.{Receiving}
+use Rattle.policy_access.specs.Verdict.{AccessPolicy}
+use Rattle.receive_core.specs.Turns.{Receiving, Turns}
 use Rattle.receive_core.specs.declared.arrival.Arrival.{Arrival}
-use Rattle.receive_core.specs.declared.arrival.Arrival.TheVariants.{Arrived, Dropped}
+use Rattle.receive_core.specs.declared.arrival.Arrival.TheVariants.{Arrived, Dropped, None as NoFrame, Waiting}
 use Rattle.receive_core.specs.declared.arrival.DropCause.{DropCause}
 use Rattle.deliveries.specs.Arriving.{AreTurned, HaveLived, IsTold, policy_of}
 use Rattle.deliveries.specs.declared.arrivals.ArrivalLine.{ArrivalLine}
@@ -71,9 +72,9 @@ few-blocks life a h =
 -- nothing came, and all but the stream's state is as before
 pub fed-nothing : (life : Life) (a b : Arrivals) → HaveLived life a → b.table.now ≡ a.table.now
     → b.inbound ≡ a.inbound → b.policy ≡ a.policy → b.lines ≡ a.lines → b.writer ≡ a.writer
-    → (b.stream ≢ Cut → a.stream ≢ Cut) → (b.stream ≡ Cut → a.stream ≡ Cut)
+    → b.fault ≡ a.fault → (b.stream ≢ Cut → a.stream ≢ Cut) → (b.stream ≡ Cut → a.stream ≡ Cut)
     → HaveLived (fed life [] life.fault) b
-fed-nothing life a b h table inbound policy lines writer uncut cut =
+fed-nothing life a b h table inbound policy lines writer fault uncut cut =
     let lives : Lives a.table.now (fed life [] life.fault) a.inbound =
     subst (λ (s : List ℕ). Lives a.table.now
     (record { stream = s; fault = life.fault; hello = life.hello; fates = life.fates }) a.inbound)
@@ -89,6 +90,7 @@ fed-nothing life a b h table inbound policy lines writer uncut cut =
       most = subst (λ (r : Receiving). r.heap.words ≤ 65536) (sym inbound) h.most;
       uncut = λ no. h.uncut (uncut no);
       cut = λ is. h.cut (cut is);
+      first = fault ∙ h.first;
       few = subst (λ x. length x.items ≤ MAX_ARRIVALS) (sym lines) h.few;
     }
 
@@ -96,9 +98,9 @@ fed-nothing life a b h table inbound policy lines writer uncut cut =
 pub cut-off : (life : Life) (a b : Arrivals) (piece : List ℕ) (fault : FeedFault) → HaveLived life a → fault ≢ Memory
     → (fault ≡ Memory) ⊎ Lives b.table.now (fed life piece (Some fault)) b.inbound → b.table.now ≡ a.table.now
     → b.inbound.heap ≡ a.inbound.heap → b.policy ≡ a.policy → b.lines ≡ a.lines → b.writer ≡ a.writer
-    → b.stream ≡ Cut → (first : Option FeedFault) × HaveLived (fed life piece first) b
-cut-off life a b piece fault h not (inl is) table heap policy lines writer cut = absurd (not is)
-cut-off life a b piece fault h not (inr lives) table heap policy lines writer cut = (
+    → b.stream ≡ Cut → b.fault ≡ Some fault → (first : Option FeedFault) × HaveLived (fed life piece first) b
+cut-off life a b piece fault h not (inl is) table heap policy lines writer cut is-first = absurd (not is)
+cut-off life a b piece fault h not (inr lives) table heap policy lines writer cut is-first = (
   Some fault,
   record {
     valid = subst IsValid (sym table) h.valid;
@@ -110,6 +112,7 @@ cut-off life a b piece fault h not (inr lives) table heap policy lines writer cu
     most = subst (λ (l : Layout). l.words ≤ 65536) (sym heap) h.most;
     uncut = λ no. absurd (no cut);
     cut = λ is. refl;
+    first = is-first;
     few = subst (λ x. length x.items ≤ MAX_ARRIVALS) (sym lines) h.few;
   },
 )
@@ -121,6 +124,7 @@ pub record StayedSo (a b : Arrivals) : Type 0 where
   pub words : b.writer.heap.words ≡ a.writer.heap.words
   pub places : b.inbound.heap.words ≡ a.inbound.heap.words
   pub stream : b.stream ≡ a.stream
+  pub fault : b.fault ≡ a.fault
 
 -- the receiver after a turn, and the stores
 abbrev pub HasTurned : Life → Arrivals → Arrivals → Arrival → Type 0
@@ -144,6 +148,7 @@ more-lived life a b more lines h s lives stores is told judged few = record {
   most = subst (λ n. n ≤ 65536) (sym s.places) h.most;
   uncut = λ no. h.uncut (λ is. no (s.stream ∙ is));
   cut = λ is. h.cut (sym s.stream ∙ is);
+  first = s.fault ∙ h.first;
   few = subst (λ (xs : List ArrivalLine). length xs ≤ MAX_ARRIVALS) (sym is) few;
 }
 
@@ -243,3 +248,35 @@ same-heap old new later = (later old (record { heap = refl; stores = ([], sym (a
 pub appends-nothing : (known : Option (List ℕ)) → Appends known known []
 appends-nothing None = tt
 appends-nothing (Some xs) = sym (append-nil xs)
+
+-- ---- held blocks
+
+-- a turn that placed nothing leaves them
+pub held-none : (T : Table) (p : Option AccessPolicy) (old new : Receiving) (s t : List (ℕ × ℕ)) (arrival : Arrival)
+    → Turns T p old new s t arrival → arrival ≡ NoFrame → new.heap.held ≡ old.heap.held
+held-none T p old new s t arrival turns is =
+    let none : Turns T p old new s t NoFrame = subst (Turns T p old new s t) is turns in
+    ap (λ (r : Receiving). r.heap.held) none.1
+
+pub held-waiting : (T : Table) (p : Option AccessPolicy) (old new : Receiving) (s t : List (ℕ × ℕ)) (arrival : Arrival)
+    (need largest : ℕ) → Turns T p old new s t arrival → arrival ≡ Waiting need largest
+    → new.heap.held ≡ old.heap.held
+held-waiting T p old new s t arrival need largest turns is =
+    let waits : Turns T p old new s t (Waiting need largest) = subst (Turns T p old new s t) is turns in
+    ap (λ (l : Layout). l.held) waits.0.heap
+
+pub held-dropped : (T : Table) (p : Option AccessPolicy) (old new : Receiving) (s t : List (ℕ × ℕ)) (arrival : Arrival)
+    (kind method number : ℕ) (why : DropCause) → Turns T p old new s t arrival
+    → arrival ≡ Dropped kind method number why → new.heap.held ≡ old.heap.held
+held-dropped T p old new s t arrival kind method number why turns is =
+    let drops : Turns T p old new s t (Dropped kind method number why) = subst (Turns T p old new s t) is turns in
+    ap (λ (l : Layout). l.held) drops.0.heap
+
+-- and one that placed a message holds its block behind them
+pub held-arrived : (T : Table) (p : Option AccessPolicy) (old new : Receiving) (s t : List (ℕ × ℕ)) (arrival : Arrival)
+    (kind method number : ℕ) (block : Block) (tree : Node) → Turns T p old new s t arrival
+    → arrival ≡ Arrived kind method number block tree → new.heap.held ≡ old.heap.held ++ block ∷ []
+held-arrived T p old new s t arrival kind method number block tree turns is =
+    let arrives : Turns T p old new s t (Arrived kind method number block tree) =
+    subst (Turns T p old new s t) is turns in
+    arrives.placed.held

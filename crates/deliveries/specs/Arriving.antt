@@ -1,11 +1,12 @@
 -- What arrived on a connection, as its receiver and its lines tell it (this project's own).
-use Rattle.std.specs.Prelude.{◌≡◌, ◌≢◌, ◌≤◌, List, [], ◌∷◌, All, length, Option, None, IsSome, ⊤}
+use Rattle.std.specs.Prelude.{◌≡◌, ◌≢◌, ◌≤◌, ◌⊎◌, List, [], ◌∷◌, ◌++◌, All, length, Option, None, IsSome, ⊤}
 use Rattle.std.specs.List.{AllZip, flat_map}
 use Rattle.std.specs.Option.{option_copied}
 use Rattle.mrpc_table.specs.Node.{Node}
 use Rattle.mrpc_table.specs.Valid.{IsValid}
 use Rattle.mrpc_table.specs.declared.limits.TheConstants.{MAX_HEAP}
 use Rattle.graph_form.specs.declared.placed.Placed.{Placed as PlacedWords}
+use Rattle.frame_transport.specs.Frames.{IsPartial}
 use Rattle.frame_transport.specs.declared.format.Frame.{Frame}
 use Rattle.policy_access.specs.Verdict.{AccessPolicy}
 use Rattle.receive_heap.specs.declared.extents.Block.{Block}
@@ -14,7 +15,7 @@ use Rattle.receive_core.specs.declared.arrival.DropCause.{DropCause}
 use Rattle.deliveries.specs.declared.arrivals.ArrivalLine.{ArrivalLine}
 use Rattle.deliveries.specs.declared.arrivals.ArrivalLine.TheVariants.{Arrived, Dropped}
 use Rattle.deliveries.specs.declared.arrivals.Arrivals.{Arrivals}
-use Rattle.deliveries.specs.declared.arrivals.Stream.TheVariants.{Cut}
+use Rattle.deliveries.specs.declared.arrivals.Stream.TheVariants.{Cut, Failed, Open}
 use Rattle.deliveries.specs.declared.arrivals.Turned.{Turned}
 use Rattle.deliveries.specs.declared.arrivals.Turned.TheVariants.{Nothing, Delivered, Dropped as Refused}
 use Rattle.deliveries.specs.declared.arrivals.Delivered.{Delivered as Message}
@@ -45,11 +46,18 @@ pub record HaveLived (life : Life) (a : Arrivals) : Type 0 where
   pub most : a.inbound.heap.words ≤ MAX_HEAP
   pub uncut : a.stream ≢ Cut → life.fault ≡ None
   pub cut : a.stream ≡ Cut → IsSome life.fault
+  pub first : a.fault ≡ life.fault
   pub few : length a.lines.items ≤ MAX_ARRIVALS
 
 -- they have lived in some way
 abbrev pub AreArriving : Arrivals → Type 0
 AreArriving a = (life : Life) × HaveLived life a
+
+-- Nothing more gets a fate: the link failed, as many frames as may had theirs, or nothing more comes and no whole frame
+-- waits.
+abbrev pub HasAll : Arrivals → Type 0
+HasAll a = (a.stream ≡ Failed) ⊎ ((MAX_ARRIVALS ≤ length a.lines.items)
+    ⊎ ((a.stream ≢ Open) × IsPartial a.inbound.fed.bytes))
 
 -- what a connection's arrivals keep
 pub record AreSame (old new : Arrivals) : Type 0 where
@@ -67,6 +75,13 @@ AreTurned Refused more =
 AreTurned (Delivered d) more = (f : Frame) × (policy : Option AccessPolicy) × (t : Node) × (block : Block)
     × (placed : PlacedWords) × (more ≡ was_placed f policy t block placed ∷ []) × (f.kind ≡ d.kind)
     × (f.method ≡ d.method) × (f.number ≡ d.number) × (d.addr ≡ block.at) × (d.block ≡ block.number)
+
+-- what a turn makes of the held blocks: the one of the message that it placed is held, behind the others
+abbrev pub Holds : Turned → List Block → List Block → Type 0
+Holds Nothing old new = new ≡ old
+Holds Refused old new = new ≡ old
+Holds (Delivered d) old new =
+    (block : Block) × (block.number ≡ d.block) × (block.at ≡ d.addr) × (new ≡ old ++ block ∷ [])
 
 -- P holds of the message that a turn placed, if it placed one
 abbrev pub IfDelivered : Turned → (Message → Type 0) → Type 0

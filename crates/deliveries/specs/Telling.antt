@@ -44,6 +44,11 @@ pub record AreSameRings (old new : Notices) : Type 0 where
   pub notices : ring_of new.notices new.noticed ≡ ring_of old.notices old.noticed
   pub numbers : number_ring_of new.blocks new.numbered ≡ number_ring_of old.blocks old.numbered
 
+-- a ring that was open stays open
+pub record StayOpen (old new : Notices) : Type 0 where
+  pub notices : new.notices ≡ None → old.notices ≡ None
+  pub numbers : new.blocks ≡ None → old.blocks ≡ None
+
 abbrev pub notices_of : Notices → List Descriptor
 notices_of n = sent_on n.notices n.noticed
 

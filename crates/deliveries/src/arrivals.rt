@@ -6,7 +6,7 @@ ghost use Rattle.mrpc_base.specs.Faults.{HasCause};
 ghost use Rattle.frame_transport.specs.Frames.{IsPartial};
 ghost use Rattle.frame_transport.specs.declared.fault.FeedFault.{FeedFault as TheFault};
 ghost use Rattle.receive_core.specs.Life.{Life as TheLife, Fated, fed, fated};
-ghost use Rattle.deliveries.specs.Arriving.{AreArriving, AreSame, AreTurned, HaveLived, IfDelivered};
+ghost use Rattle.deliveries.specs.Arriving.{AreArriving, AreSame, AreTurned, HasAll, HaveLived, Holds, IfDelivered};
 
 use crate::limits::MAX_ARRIVALS;
 use frame_transport::FeedFault;
@@ -72,6 +72,8 @@ pub struct Arrivals<'t> {
     /// What became of the frames, in order.
     pub lines: Vec<ArrivalLine>,
     pub stream: Stream,
+    /// The frame fault of the stream, where it has one.
+    pub fault: Option<FeedFault>,
 }
 
 impl<'t> Arrivals<'t> {
@@ -87,8 +89,7 @@ impl<'t> Arrivals<'t> {
 
     /// Whether each frame that may have its fate had it, and no more come.
     pub fn has_all(&self) -> bool
-        ensures { result ≡ true → (self.now.stream ≡ Stream.Failed) ⊎ ((MAX_ARRIVALS ≤ length self.now.lines.items)
-            ⊎ ((self.now.stream ≢ Stream.Open) × IsPartial self.now.inbound.fed.bytes)) }
+        ensures { result ≡ true → HasAll self.now }
     {
         match self.stream {
             Stream::Open => self.lines.len() as u64 >= MAX_ARRIVALS,
@@ -166,6 +167,7 @@ impl<'t> Arrivals<'t> {
                 FeedFault::Memory => Err(Memory),
                 _ => {
                     self.stream = Stream::Cut;
+                    self.fault = Some(fault);
                     Ok(true)
                 }
             },
@@ -181,6 +183,7 @@ impl<'t> Arrivals<'t> {
         ensures lived { (life : TheLife) → HaveLived life self.old → IfOk result (λ turned. (more : List Fated)
             × AreTurned turned more × HaveLived (fated life more) self.new) }
         ensures kind { IfOk result (λ turned. IfDelivered turned (λ d. (1 ≤ d.kind) × (d.kind ≤ 2))) }
+        ensures held { IfOk result (λ turned. Holds turned self.old.inbound.heap.held self.new.inbound.heap.held) }
         ensures same { AreSame self.old self.new }
         ensures stream { self.new.stream ≡ self.old.stream }
     {

@@ -3,7 +3,7 @@
 ghost use Rattle.std.specs.Prelude.{◌≡◌, ◌≤◌, ◌<◌, ◌+◌, ◌++◌, ◌∷◌, [], List, length, true, false, None, IfOk, OnOk, OnErr};
 ghost use Rattle.shared_heap.specs.Fresh.{HeapId};
 ghost use Rattle.deliveries.specs.declared.arrivals.Delivered.{Delivered as Message};
-ghost use Rattle.deliveries.specs.Telling.{AreSameRings, AreTelling, IsMessage, IsTelling, TellsOf};
+ghost use Rattle.deliveries.specs.Telling.{AreSameRings, AreTelling, IsMessage, IsTelling, StayOpen, TellsOf};
 ghost use Rattle.descriptor_ring.specs.Rings.{IsOf};
 
 use crate::arrivals::Delivered;
@@ -37,6 +37,7 @@ impl Notices {
         ensures telling { (heap : HeapId) (placed : List Message) → IsTelling heap placed self.old → IsMessage message
             → length placed + 1 < 4294967294 → OnOk result (IsTelling heap (placed ++ message ∷ []) self.new) }
         ensures rings { AreSameRings self.old self.new }
+        ensures open { StayOpen self.old self.new }
         ensures memory { OnErr result (self.new.waiting.items ≡ self.old.waiting.items) }
     {
         self.waiting.push_back(message)?;
@@ -49,6 +50,7 @@ impl Notices {
         ensures telling { (placed : List Message) → IsTelling writer.old.heap placed self.old
             → IsTelling writer.old.heap placed self.new }
         ensures rings { AreSameRings self.old self.new }
+        ensures open { StayOpen self.old self.new }
         ensures writer { writer.new ≡ writer.old }
     {
         let mut gave = false;
@@ -64,6 +66,7 @@ impl Notices {
         ensures telling { (heap : HeapId) (placed : List Message) → IsTelling heap placed self.old
             → IsTelling heap placed self.new }
         ensures rings { AreSameRings self.old self.new }
+        ensures open { StayOpen self.old self.new }
         ensures waiting { self.new.waiting ≡ self.old.waiting }
         ensures given { result ≡ true → self.new.owed ≡ None }
     {
@@ -88,6 +91,7 @@ impl Notices {
         ensures telling { (placed : List Message) → IsTelling writer.old.heap placed self.old
             → IsTelling writer.old.heap placed self.new }
         ensures rings { AreSameRings self.old self.new }
+        ensures open { StayOpen self.old self.new }
         ensures fewer { result ≡ true → length self.new.waiting.items + 1 ≤ length self.old.waiting.items }
         ensures writer { writer.new ≡ writer.old }
     {
@@ -118,6 +122,8 @@ impl Notices {
             → IsTelling heap placed self.new }
         ensures rings { AreSameRings self.old self.new }
         ensures given { result ≡ true → (self.old.waiting.items ≡ []) × (self.old.owed ≡ None) }
+        ensures waiting { self.new.waiting ≡ self.old.waiting }
+        ensures owed { self.new.owed ≡ self.old.owed }
     {
         if !self.is_given() {
             return false;
@@ -131,6 +137,8 @@ impl Notices {
         ensures telling { (heap : HeapId) (placed : List Message) → IsTelling heap placed self.old
             → IsTelling heap placed self.new }
         ensures rings { AreSameRings self.old self.new }
+        ensures waiting { self.new.waiting ≡ self.old.waiting }
+        ensures owed { self.new.owed ≡ self.old.owed }
     {
         let Some(notices) = self.notices.take() else {
             return false;
@@ -151,6 +159,8 @@ impl Notices {
         ensures telling { (heap : HeapId) (placed : List Message) → IsTelling heap placed self.old
             → IsTelling heap placed self.new }
         ensures rings { AreSameRings self.old self.new }
+        ensures waiting { self.new.waiting ≡ self.old.waiting }
+        ensures owed { self.new.owed ≡ self.old.owed }
     {
         let Some(blocks) = self.blocks.take() else {
             return false;

@@ -11,7 +11,7 @@ bytes-requires c =
 pub returns-in_default : goal.returns-in_default
 returns-in_default c = record {
   lived = λ life h. cut-off life c.args.self.now _ c.args.piece.now c.in-Err.fault h c.in_default.not-Memory
-      (c.in-Err.ensures.life_at_fault c.args.self.now.table.now life h.lives) refl c.bytes.ensures.heap refl refl refl refl;
+      (c.in-Err.ensures.life_at_fault c.args.self.now.table.now life h.lives) refl c.bytes.ensures.heap refl refl refl refl refl;
   same = record {
     table = refl;
     policy = refl;

@@ -1,6 +1,6 @@
 use Rattle.std.proofs.Common.{subst, refl, arith, option_copied}
 use Rattle.receive_core.specs.Life.{Tells}
-use Rattle.deliveries.proofs.Lived.{few-blocks, few-stores, same-heap, turned-arrived, turned-dropped, turned-nothing}
+use Rattle.deliveries.proofs.Lived.{few-blocks, few-stores, held-arrived, held-dropped, held-none, held-waiting, same-heap, turned-arrived, turned-dropped, turned-nothing}
 use Rattle.deliveries.proofs.arrivals.Arrivals.turn.Goals as goal
 
 pub turn-requires-clause-few : goal.turn-requires-clause-few
@@ -13,7 +13,7 @@ pub returns-in_ok-push-in-Arrived-clause-lived : goal.returns-in_ok-push-in-Arri
 returns-in_ok-push-in-Arrived-clause-lived c life h =
     turned-arrived life c.args.self.now _ c.in_ok-turn.field-0 c.in-Arrived.kind c.in-Arrived.method c.in-Arrived.number
     c.in-Arrived.block c.in-Arrived.tree h (c.in_ok-turn.ensures.life life h.lives) c.in-Arrived.is
-    (record { table = refl; policy = refl; words = c.turn.ensures.words; places = c.turn.ensures.places; stream = refl })
+    (record { table = refl; policy = refl; words = c.turn.ensures.words; places = c.turn.ensures.places; stream = refl; fault = refl })
     c.in_ok-push-in-Arrived.ensures.items
     (let less = c.if-len-ge-MAX_ARRIVALS.false in omega (arith, less))
 
@@ -21,7 +21,7 @@ pub returns-in_ok-push-in-Dropped-clause-lived : goal.returns-in_ok-push-in-Drop
 returns-in_ok-push-in-Dropped-clause-lived c life h =
     turned-dropped life c.args.self.now _ c.in_ok-turn.field-0 c.in-Dropped.kind c.in-Dropped.method c.in-Dropped.number
     c.in-Dropped.why h (c.in_ok-turn.ensures.life life h.lives) c.in-Dropped.is
-    (record { table = refl; policy = refl; words = c.turn.ensures.words; places = c.turn.ensures.places; stream = refl })
+    (record { table = refl; policy = refl; words = c.turn.ensures.words; places = c.turn.ensures.places; stream = refl; fault = refl })
     c.in_ok-push-in-Dropped.ensures.items
     (let less = c.if-len-ge-MAX_ARRIVALS.false in omega (arith, less))
 
@@ -93,7 +93,7 @@ returns-in-None-clause-lived c life h =
     let m = c.in_ok-turn.ensures.life life h.lives in
     turned-nothing life c.args.self.now _ c.in_ok-turn.field-0 h m
     (subst (λ x. Tells (option_copied c.args.self.now.policy) x m.0) c.in-None.is m.1)
-    (record { table = refl; policy = refl; words = c.turn.ensures.words; places = c.turn.ensures.places; stream = refl })
+    (record { table = refl; policy = refl; words = c.turn.ensures.words; places = c.turn.ensures.places; stream = refl; fault = refl })
     refl
 
 pub returns-in-Waiting-clause-lived : goal.returns-in-Waiting-clause-lived
@@ -101,5 +101,32 @@ returns-in-Waiting-clause-lived c life h =
     let m = c.in_ok-turn.ensures.life life h.lives in
     turned-nothing life c.args.self.now _ c.in_ok-turn.field-0 h m
     (subst (λ x. Tells (option_copied c.args.self.now.policy) x m.0) c.in-Waiting.is m.1)
-    (record { table = refl; policy = refl; words = c.turn.ensures.words; places = c.turn.ensures.places; stream = refl })
+    (record { table = refl; policy = refl; words = c.turn.ensures.words; places = c.turn.ensures.places; stream = refl; fault = refl })
     refl
+
+pub returns-in-None-clause-held : goal.returns-in-None-clause-held
+returns-in-None-clause-held c =
+    held-none c.args.self.now.table.now (option_copied c.args.self.now.policy) c.args.self.now.inbound c.turn.new.self
+    c.args.self.now.writer.stores c.turn.new.heap.stores c.in_ok-turn.field-0 c.in_ok-turn.ensures.turns c.in-None.is
+
+pub returns-in-Waiting-clause-held : goal.returns-in-Waiting-clause-held
+returns-in-Waiting-clause-held c =
+    held-waiting c.args.self.now.table.now (option_copied c.args.self.now.policy) c.args.self.now.inbound c.turn.new.self
+    c.args.self.now.writer.stores c.turn.new.heap.stores c.in_ok-turn.field-0 _ _ c.in_ok-turn.ensures.turns
+    c.in-Waiting.is
+
+pub returns-in_ok-push-in-Dropped-clause-held : goal.returns-in_ok-push-in-Dropped-clause-held
+returns-in_ok-push-in-Dropped-clause-held c =
+    held-dropped c.args.self.now.table.now (option_copied c.args.self.now.policy) c.args.self.now.inbound c.turn.new.self
+    c.args.self.now.writer.stores c.turn.new.heap.stores c.in_ok-turn.field-0 c.in-Dropped.kind c.in-Dropped.method
+    c.in-Dropped.number c.in-Dropped.why c.in_ok-turn.ensures.turns c.in-Dropped.is
+
+pub returns-in_ok-push-in-Arrived-clause-held : goal.returns-in_ok-push-in-Arrived-clause-held
+returns-in_ok-push-in-Arrived-clause-held c = (
+  c.in-Arrived.block,
+  refl,
+  refl,
+  held-arrived c.args.self.now.table.now (option_copied c.args.self.now.policy) c.args.self.now.inbound c.turn.new.self
+      c.args.self.now.writer.stores c.turn.new.heap.stores c.in_ok-turn.field-0 c.in-Arrived.kind c.in-Arrived.method
+      c.in-Arrived.number c.in-Arrived.block c.in-Arrived.tree c.in_ok-turn.ensures.turns c.in-Arrived.is,
+)

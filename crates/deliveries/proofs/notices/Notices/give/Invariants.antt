@@ -1,5 +1,5 @@
 use Rattle.std.proofs.Common.{◌≡◌, List, length}
-use Rattle.deliveries.specs.Telling.{AreSameRings, IsTelling}
+use Rattle.deliveries.specs.Telling.{AreSameRings, IsTelling, StayOpen}
 use Rattle.deliveries.specs.declared.arrivals.Delivered.{Delivered}
 use Rattle.deliveries.proofs.notices.Notices.give.Given as goal
 
@@ -8,6 +8,7 @@ invariant-loop-self g l = record {
   telling : (placed : List Delivered) → IsTelling l.fn.writer.heap placed l.fn.self
       → IsTelling l.fn.writer.heap placed l.self;
   rings : AreSameRings l.fn.self l.self;
+  stays : StayOpen l.fn.self l.self;
   writer : l.writer ≡ l.fn.writer;
 }
 
