@@ -9,7 +9,6 @@ use Rattle.call_history.specs.Legal.{History}
 use Rattle.audit_rules.specs.declared.rule.Rule.{Rule}
 use Rattle.audit_check.specs.Checking.{StandsLine, Tells, IsChecked, IsJudged, IsFirstBad, line_of, lines_of}
 use Rattle.audit_check.specs.Checking.IsJudged.{legal, broken, open_end, misplaced, missing}
-use Rattle.audit_check.specs.declared.checked.Checked.{Checked}
 use Rattle.audit_check.specs.declared.checked.Checked.TheVariants.{Legal, Illegal}
 
 -- each line has its line feed

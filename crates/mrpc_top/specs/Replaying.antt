@@ -1,5 +1,5 @@
 -- What `replay` makes of a text.
-use Rattle.std.specs.Prelude.{ℕ, List, [], codes, Option}
+use Rattle.std.specs.Prelude.{ℕ, List, [], Option}
 use Rattle.std.specs.Io.KnownBytes.{Appends}
 use Rattle.script_words.specs.Reasons.{reason_word}
 use Rattle.script_words.specs.declared.fault.ScriptReason.{ScriptReason}

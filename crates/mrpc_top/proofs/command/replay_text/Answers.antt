@@ -1,5 +1,4 @@
 use Rattle.std.proofs.Common.{◌∙◌, ap, arith, inl, inr}
-use Rattle.std.specs.Prelude.{Err}
 use Rattle.script_words.specs.Reasons.{reason_word}
 use Rattle.mrpc_top.specs.Replaying.{in_run}
 use Rattle.mrpc_top.proofs.Replays.{no_fault, refused_front}
