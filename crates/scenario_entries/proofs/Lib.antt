@@ -1,0 +1,9 @@
+mod Declaring
+mod FirstReason
+mod Linked
+mod Linking
+mod Listing
+mod Lists
+mod Naming
+mod OneFault
+mod Submitting

@@ -1,0 +1,42 @@
+-- The code's own: what is read of entries, one by one and list by list.
+use Rattle.std.specs.Prelude.{◌≡◌, ℕ, List, map, String, Result, Ok, Err}
+use Rattle.std.specs.BTreeMap.{BTreeMap}
+use Rattle.std.specs.Borrow.{Bor}
+use Rattle.std.specs.declared.alloc.Global.{Global}
+use Rattle.toml.specs.Data.{Members}
+use Rattle.toml.specs.View.{table_view}
+use Rattle.toml.specs.declared.value.Value.{Value}
+use Rattle.scenario.specs.Reasons.{IsFirstReason}
+use Rattle.scenario.specs.Scenarios.{StandsAt}
+use Rattle.scenario.specs.declared.fault.Entry.{Entry}
+use Rattle.scenario.specs.declared.fault.ScenarioFault.{ScenarioFault}
+use Rattle.scenario.specs.declared.fault.ScenarioFault.TheVariants as fault
+use Rattle.scenario.specs.declared.fault.ScenarioReason.{ScenarioReason}
+
+-- entries as the definitions see them
+abbrev pub views : List (Bor (BTreeMap (String Global) Value)) → List Members
+views entries = map (λ t. table_view t.now) entries
+
+-- nothing stands against an entry, and it says this; or this is the first reason against it
+abbrev pub IsEntryRead : {X : Type 0} → (ScenarioReason → Type 0) → (X → Type 0) → Result X ScenarioReason → Type 0
+IsEntryRead Against Says (Ok x) = ((q : ScenarioReason) → Against q → ⊥) × Says x
+IsEntryRead Against Says (Err q) = IsFirstReason Against q
+
+-- nothing stands against any of the entries
+abbrev pub AreFree : (List Members → Members → ScenarioReason → Type 0) → List Members → Type 0
+AreFree Against entries =
+    (before : List Members) (ms : Members) (n : ℕ) (q : ScenarioReason) → StandsAt entries before ms n → Against before ms q → ⊥
+
+-- nothing stands against the entries before this one, whose first reason is this
+pub record IsFirstEntry (Against : List Members → Members → ScenarioReason → Type 0) (entries : List Members) (n : ℕ)
+    (reason : ScenarioReason) : Type 0 where
+  pub before : List Members
+  pub ms : Members
+  pub stands : StandsAt entries before ms n
+  pub free : AreFree Against before
+  pub first : IsFirstReason (Against before ms) reason
+
+-- a fault is that of the first entry at fault
+abbrev pub IsFaultIn : (ℕ → Entry) → (List Members → Members → ScenarioReason → Type 0) → List Members → ScenarioFault → Type 0
+IsFaultIn place Against entries (fault.At at reason) = (n : ℕ) × (at ≡ place n) × IsFirstEntry Against entries n reason
+IsFaultIn place Against entries fault.Memory = Unit {0}

@@ -1,0 +1,4 @@
+pub mod Entries
+pub mod Firsts
+pub mod Linking
+pub mod Ports

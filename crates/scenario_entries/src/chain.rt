@@ -1,0 +1,131 @@
+//! The chain of a connection, as steps make it.
+
+ghost use Rattle.std.specs.Prelude.{◌≡◌, ◌<◌, ◌≤◌, [], ℕ, List, IfOk, IfSome, MatchOption, position};
+ghost use Rattle.std.specs.Str.{bytes_eq};
+ghost use Rattle.mrpc_table.specs.Lines.{in_64_bits};
+ghost use Rattle.engine_core.specs.Chains.{Chain as TheChain, IsChain};
+ghost use Rattle.engine_core.specs.declared.op.Op.TheVariants as op;
+ghost use Rattle.scenario_entries.specs.Linking.{IsChanged, IsKept};
+
+use engine_core::{MAX_ENGINES, Policy};
+use mrpc_table::{Decimal, Memory};
+use scenario::ScenarioReason;
+use std::alloc::Global;
+
+/// An entry, with the policy as the scenario's table reads it.
+#[derive(Clone, Copy)]
+pub struct ChainEntry<'a> {
+    name: &'a [u8],
+    policy: &'a Policy,
+}
+
+/// The entries of a chain, in the order in which they judge.
+#[derive(Drop)]
+pub struct Chain<'a> {
+    entries: Vec<ChainEntry<'a>>,
+}
+
+/// The position of a chain of so many entries, if it has it.
+fn place_in(position: Decimal, entries: usize) -> Option<usize>
+    ensures place { (at : ℕ) → position ≡ in_64_bits at
+        → MatchOption result (entries < at) (λ p. (p ≡ at) × (at ≤ entries)) }
+    ensures within { IfSome result (λ p. p ≤ entries) }
+{
+    match position {
+        Decimal::Small(position) => {
+            if position <= entries as u64 {
+                Some(position as usize)
+            } else {
+                None
+            }
+        }
+        Decimal::Large => None,
+    }
+}
+
+impl<'a> Chain<'a> {
+    /// No entry.
+    pub fn new(alloc: Global) -> Chain<'a>
+        ensures { result.entries.items ≡ [] }
+    {
+        Chain {
+            entries: Vec::new(alloc),
+        }
+    }
+
+    /// The same entries.
+    pub fn copied(&self, alloc: Global) -> Result<Chain<'a>, Memory>
+        ensures { IfOk result (λ chain. chain.entries.items ≡ self.now.entries.items) }
+    {
+        Ok(Chain {
+            entries: Vec::from_slice(alloc, self.entries.as_slice())?,
+        })
+    }
+
+    /// Where the entry of a name stands.
+    fn place(&self, name: &[u8]) -> Option<usize>
+        ensures { result ≡ position (λ e. bytes_eq e.name.now name.now) self.now.entries.items }
+    {
+        self.entries.iter().position(|entry| entry.name == name)
+    }
+
+    /// Attaches a policy at a position, or tells why the chain refuses it; then it is as before.
+    pub fn attach(
+        &mut self,
+        position: Decimal,
+        name: &'a [u8],
+        policy: &'a Policy,
+    ) -> Result<Option<ScenarioReason>, Memory>
+        ensures { (chain : TheChain) (at : ℕ) (label : List ℕ) → IsChain chain → IsKept self.old.entries.items chain
+            → position ≡ in_64_bits at
+            → IfOk result (IsChanged chain (op.Attach at name.entry.now label policy.entry.now) self.new.entries.items) }
+    {
+        if self.place(name).is_some() {
+            return Ok(Some(ScenarioReason::Taken));
+        }
+        let count = self.entries.len();
+        let Some(at) = place_in(position, count) else {
+            return Ok(Some(ScenarioReason::At));
+        };
+        if MAX_ENGINES <= count {
+            return Ok(Some(ScenarioReason::ChainFull));
+        }
+        self.entries.insert(at, ChainEntry { name, policy })?;
+        Ok(None)
+    }
+
+    /// Takes the entry of a name from the chain, or tells why the chain refuses it; then it is as before.
+    pub fn detach(&mut self, name: &[u8]) -> Option<ScenarioReason>
+        ensures { (chain : TheChain) → IsKept self.old.entries.items chain
+            → IsChanged chain (op.Detach name.now) self.new.entries.items result }
+    {
+        match self.place(name) {
+            None => Some(ScenarioReason::NoSuch),
+            Some(place) => {
+                self.entries.remove(place);
+                None
+            }
+        }
+    }
+
+    /// Puts another policy into the entry of a name, or tells why the chain refuses it; then it is as before.
+    pub fn upgrade(&mut self, name: &[u8], policy: &'a Policy) -> Option<ScenarioReason>
+        ensures { (chain : TheChain) (label : List ℕ) → IsChain chain → IsKept self.old.entries.items chain
+            → IsChanged chain (op.Upgrade name.now label policy.entry.now) self.new.entries.items result }
+    {
+        match self.place(name) {
+            None => Some(ScenarioReason::NoSuch),
+            Some(place) => {
+                let entry = self.entries[place];
+                if !entry.policy.is_same_kind(policy) {
+                    return Some(ScenarioReason::OtherKind);
+                }
+                self.entries[place] = ChainEntry {
+                    name: entry.name,
+                    policy,
+                };
+                None
+            }
+        }
+    }
+}

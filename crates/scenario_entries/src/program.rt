@@ -1,0 +1,67 @@
+//! Programs of applications.
+
+ghost use Rattle.std.specs.Prelude.{◌≡◌, ◌≤◌, IfOk, MatchResult, Some, length, map};
+ghost use Rattle.scenario.specs.Applications.{role_submits};
+ghost use Rattle.scenario.specs.Lines.{is_submit, submits_of};
+ghost use Rattle.scenario_lines.specs.Lines.{form_of};
+ghost use Rattle.scenario_lines.specs.Programs.{ProgramAgainst, ProgramSays};
+ghost use Rattle.scenario_lines.specs.Reasons.{IsFirst};
+ghost use Rattle.scenario_lines.specs.declared.form.ProgramRole.TheVariants as of;
+
+use app_program::Program;
+use mrpc_table::{Memory, cut, is_word};
+use scenario::RoleWord;
+use scenario_lines::{LineReason, ProgramReader, ProgramRole};
+use std::alloc::Global;
+
+/// The program of a role that the lines are, for a heap of so many words, or the first reason against them.
+pub fn read_program(
+    alloc: Global,
+    role: ProgramRole,
+    heap: u32,
+    lines: &[&[u8]],
+) -> Result<Result<Program, LineReason>, Memory>
+    ensures { IfOk result (λ r. MatchResult r (ProgramSays role heap (map (λ t. t.now) lines.now))
+        (IsFirst (ProgramAgainst role heap (map (λ t. t.now) lines.now)))) }
+{
+    let mut reader = ProgramReader::new(alloc, role, heap);
+    for line in lines {
+        reader.read(line)?;
+    }
+    Ok(reader.finish())
+}
+
+/// Whether a line of a client has the form of a submission.
+fn is_submission(line: &[u8]) -> bool
+    ensures { result ≡ is_submit (form_of of.Client line.now) }
+{
+    match cut(line, b' ') {
+        Some((word, _)) => is_word(word, b"submit"),
+        None => is_word(line, b"submit"),
+    }
+}
+
+/// How many of the lines of a client have the form of a submission.
+fn submissions_in(lines: &[&[u8]]) -> u64
+    ensures count { result ≡ submits_of (map (λ t. t.now) lines.now) }
+    ensures few { result ≤ length lines.now }
+{
+    let mut count = 0;
+    for line in lines {
+        if is_submission(line) {
+            count += 1;
+        }
+    }
+    count
+}
+
+/// How many calls the lines of an application submit.
+pub fn submissions(role: RoleWord, lines: &[&[u8]]) -> u64
+    ensures count { result ≡ role_submits (Some role) (map (λ t. t.now) lines.now) }
+    ensures few { result ≤ length lines.now }
+{
+    match role {
+        RoleWord::Client => submissions_in(lines),
+        RoleWord::Server | RoleWord::Echo => 0,
+    }
+}
