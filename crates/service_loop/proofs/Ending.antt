@@ -59,6 +59,10 @@ pub record FailsBy (old new : Submissions) (b : Connection) : Type 0 where
 pub frames-failed : (a b : Connection) → IsSame a b → Steps a fails b → frames b ≡ frames a
 frames-failed a b same step = frames-from a b same (none-failed (under a) (course a) (course b) step)
 
+pub tickets-failed : (a b : Connection) → Steps a fails b → (tenant window : ℕ)
+    → tickets_behind tenant window (behind b) ≡ tickets_behind tenant window (behind a)
+tickets-failed a b step = (none-failed (under a) (course a) (course b) step).tickets
+
 served-by : (old : Submissions) (b : Connection) → Steps old.conn fails b → IsSame old.conn b
     → IsCourse (under b) (course b) → IsServed old → IsServed (record old { conn = b })
 served-by old b step same is-course h =

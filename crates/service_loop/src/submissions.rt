@@ -5,6 +5,7 @@ ghost use Rattle.std.specs.Bool.{OnFalse, OnTrue};
 ghost use Rattle.mrpc_base.specs.Faults.{HasCause};
 ghost use Rattle.mrpc_table.specs.declared.limits.TheConstants.{MAX_HEAP, MIN_HEAP};
 ghost use Rattle.call_history.specs.Places.{IsSettled};
+ghost use Rattle.call_history.specs.Tickets.{tickets_behind};
 ghost use Rattle.conn_core.specs.Connections.{behind, frames, under};
 ghost use Rattle.conn_core.specs.Steps.{DrawsTickets, Hands};
 ghost use Rattle.service_loop.specs.Calls.{moments_at_calls, moments_in};
@@ -435,6 +436,8 @@ impl<'t> Submissions<'t> {
         ensures same { AreSame self.old self.new }
         ensures calls { self.new.calls ≡ self.old.calls }
         ensures frames { frames self.new.conn ≡ frames self.old.conn }
+        ensures tickets { (tenant window : ℕ) → tickets_behind tenant window (behind self.new.conn)
+            ≡ tickets_behind tenant window (behind self.old.conn) }
         ensures moments { moments_in (behind self.new.conn) ≡ moments_in (behind self.old.conn) }
         ensures at_calls { moments_at_calls (behind self.new.conn) ≡ moments_at_calls (behind self.old.conn) }
         ensures finished { self.new.finished ≡ self.old.finished }

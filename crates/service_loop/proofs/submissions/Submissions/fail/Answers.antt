@@ -1,9 +1,10 @@
 use Rattle.std.proofs.Common.{ap, sym, ◌∙◌, subst}
+use Rattle.call_history.specs.Tickets.{tickets_behind}
 use Rattle.conn_core.specs.Connections.{behind, course, frames, under}
 use Rattle.service_loop.specs.Calls.{moments_at_calls, moments_in}
 use Rattle.service_loop.specs.Serving.{IsServed}
 use Rattle.service_loop.specs.declared.submissions.Submissions.{Submissions}
-use Rattle.service_loop.proofs.Ending.{frames-failed, served-failed}
+use Rattle.service_loop.proofs.Ending.{frames-failed, served-failed, tickets-failed}
 use Rattle.service_loop.proofs.Views.{views-failed}
 use Rattle.service_loop.proofs.submissions.Submissions.fail.Goals.{then-not-ended, else-not-ended}
 use Rattle.service_loop.proofs.submissions.Submissions.fail.Goals as goal
@@ -24,6 +25,14 @@ returns-clause-frames c = elim c.if-not-ended.branch [
   | then-not-ended w ↦ ap (λ (s : Submissions). frames s.conn) w.self-is
       ∙ frames-failed c.args.self.now.conn w.fail.new.self w.fail.ensures.same w.fail.ensures.failed
   | else-not-ended w ↦ ap (λ (s : Submissions). frames s.conn) w.self-is
+]
+
+pub returns-clause-tickets : goal.returns-clause-tickets
+returns-clause-tickets c = elim c.if-not-ended.branch [
+  | then-not-ended w ↦ λ tenant window.
+      ap (λ (s : Submissions). tickets_behind tenant window (behind s.conn)) w.self-is
+      ∙ tickets-failed c.args.self.now.conn w.fail.new.self w.fail.ensures.failed tenant window
+  | else-not-ended w ↦ λ tenant window. ap (λ (s : Submissions). tickets_behind tenant window (behind s.conn)) w.self-is
 ]
 
 pub returns-clause-moments : goal.returns-clause-moments

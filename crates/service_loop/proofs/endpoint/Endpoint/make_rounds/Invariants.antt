@@ -1,0 +1,15 @@
+use Rattle.std.proofs.Common.{◌≡◌, ◌-◌, ◌≤◌, false}
+use Rattle.service_loop.specs.Rounds.{GoesOn, IsSame, IsWhole}
+use Rattle.service_loop.proofs.endpoint.Endpoint.make_rounds.Given as goal
+
+abbrev pub invariant-rounds : goal.invariant-rounds
+invariant-rounds g l = record {
+  whole : IsWhole g.C.Clock g.Q.Tickets g.L.Link l.self;
+  memory : l.self.memory ≡ false;
+  goes_on : GoesOn g.C.Clock g.Q.Tickets g.L.Link l.fn.self l.self;
+  same : IsSame g.C.Clock g.Q.Tickets g.L.Link l.fn.self l.self;
+  within : l.given ≤ l.grant;
+}
+
+abbrev pub decreases-rounds : goal.decreases-rounds
+decreases-rounds g l = l.grant - l.given

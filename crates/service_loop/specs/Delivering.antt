@@ -1,0 +1,90 @@
+-- What one connection's application was delivered, and gave back (this project's own).
+use Rattle.std.specs.Prelude.{◌≡◌, ◌≢◌, ◌≤◌, ◌<◌, ◌^◌, ◌⊎◌, ℕ, List, [], ◌∷◌, ◌++◌, map, length, Option, None, IsPermutation}
+use Rattle.std.specs.List.{flat_map}
+use Rattle.std.specs.Io.KnownBytes.{Appends}
+use Rattle.receive_core.specs.Life.{Fated, Life, was_dropped, was_placed}
+use Rattle.receive_heap.specs.declared.extents.Block.{Block}
+use Rattle.deliveries.specs.Arriving.{HasAll, HaveLived}
+use Rattle.deliveries.specs.Arriving.{AreSame as AreSameArrivals}
+use Rattle.deliveries.specs.Telling.{AreSameRings, IsReclaiming, IsTelling}
+use Rattle.deliveries.specs.declared.arrivals.Arrivals.{Arrivals}
+use Rattle.deliveries.specs.declared.arrivals.Delivered.{Delivered}
+use Rattle.deliveries.specs.declared.arrivals.Stream.TheVariants.{Open}
+use Rattle.deliveries.specs.declared.limits.TheConstants.{MAX_ARRIVALS}
+use Rattle.deliveries.specs.declared.notices.Notices.{Notices}
+use Rattle.service_loop.specs.declared.delivering.Deliveries.{Deliveries}
+
+-- the message of a frame that was placed, as its application is told of it
+abbrev pub message_of : Fated → List Delivered
+message_of (was_dropped f policy why) = []
+message_of (was_placed f policy t block placed) =
+    record { kind = f.kind; method = f.method; number = f.number; addr = block.at; block = block.number } ∷ []
+
+abbrev pub messages_of : List Fated → List Delivered
+messages_of fates = flat_map message_of fates
+
+-- the numbers of blocks
+abbrev pub held_numbers : List Block → List ℕ
+held_numbers blocks = map (λ (b : Block). b.number) blocks
+
+-- the numbers of the blocks of messages
+abbrev pub message_blocks : List Delivered → List ℕ
+message_blocks messages = map (λ (d : Delivered). d.block) messages
+
+-- nothing more is received: the stream has ended, was cut off or failed, or as many frames as may had their fates
+abbrev pub CountsAsEnded : Arrivals → Type 0
+CountsAsEnded a = (a.stream ≢ Open) ⊎ (MAX_ARRIVALS ≤ length a.lines.items)
+
+-- a ring of notices was closed
+abbrev pub IsClosing : Notices → Type 0
+IsClosing n = (n.notices ≡ None) ⊎ (n.blocks ≡ None)
+
+-- each message was given as a notice, with its number, and nothing more comes
+pub record HaveEnded (d : Deliveries) : Type 0 where
+  pub all : HasAll d.arrivals
+  pub waiting : d.notices.waiting.items ≡ []
+  pub owed : d.notices.owed ≡ None
+
+-- What was delivered, as far as it has come. The lines are the fates of frames, in order; of the messages that were
+-- placed the application was told, or they wait; of their blocks each is held or came back, among the numbers that were
+-- judged; and the rings of notices are closed only once all is told and nothing more comes.
+pub record HaveDelivered (life : Life) (numbers back : List ℕ) (d : Deliveries) : Type 0 where
+  pub lived : HaveLived life d.arrivals
+  pub told : IsTelling d.arrivals.writer.heap (messages_of life.fates) d.notices
+  pub returned : IsReclaiming numbers back d.reclaims
+  pub held : IsPermutation (message_blocks (messages_of life.fates)) (held_numbers d.arrivals.inbound.heap.held ++ back)
+  pub programmed : d.reclaims.programmed < 2 ^ 63
+  pub closed : IsClosing d.notices → HaveEnded d
+
+-- they have delivered in some way
+abbrev pub AreDelivering : Deliveries → Type 0
+AreDelivering d = (life : Life) × (numbers : List ℕ) × (back : List ℕ) × HaveDelivered life numbers back d
+
+-- what deliveries keep
+pub record AreSame (old new : Deliveries) : Type 0 where
+  pub arrivals : AreSameArrivals old.arrivals new.arrivals
+  pub notices : AreSameRings old.notices new.notices
+  pub numbers : new.reclaims.numbers.ring ≡ old.reclaims.numbers.ring
+  pub programmed : new.reclaims.programmed ≡ old.reclaims.programmed
+
+-- a life later on: a piece of the stream came, and more frames had their fates
+pub record LivesOn (piece : List ℕ) (life later : Life) : Type 0 where
+  pub more : List Fated
+  pub stream : later.stream ≡ life.stream ++ piece
+  pub hello : later.hello ≡ life.hello
+  pub fates : later.fates ≡ life.fates ++ more
+
+-- deliveries later on, where these bytes had come before and those after: what came is what the link gave
+pub record HaveGoneOn (life : Life) (numbers back : List ℕ) (given given' : Option (List ℕ)) (new : Deliveries)
+    : Type 0 where
+  pub piece : List ℕ
+  pub later : Life
+  pub more : List ℕ
+  pub gained : List ℕ
+  pub came : Appends given given' piece
+  pub lives : LivesOn piece life later
+  pub delivered : HaveDelivered later (numbers ++ more) (back ++ gained) new
+
+abbrev pub DeliversOn : Option (List ℕ) → Option (List ℕ) → Deliveries → Deliveries → Type 0
+DeliversOn given given' old new = (life : Life) (numbers back : List ℕ) → HaveDelivered life numbers back old
+    → HaveGoneOn life numbers back given given' new

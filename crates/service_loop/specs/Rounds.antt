@@ -1,0 +1,64 @@
+-- What holds of a connection between two rounds, and how it goes on (this project's own).
+use Rattle.std.specs.Prelude.{◌≡◌, ◌≤◌, ◌<◌, ◌^◌, All, length, None, IsTrue, true, false}
+use Rattle.mrpc_base.specs.Faults.{HasCause}
+use Rattle.mrpc_base.specs.declared.clock.Clock.{Ghosts as ClockMembers}
+use Rattle.mrpc_base.specs.declared.link.Link.{Ghosts as LinkMembers}
+use Rattle.mrpc_base.specs.declared.tickets.Tickets.{Ghosts as TicketMembers}
+use Rattle.conn_core.specs.Connections.{behind}
+use Rattle.conn_core.specs.Steps.{DrawsTickets, Hands}
+use Rattle.service_loop.specs.Calls.{moments_at_calls, moments_in}
+use Rattle.service_loop.specs.Serving.{IsServed}
+use Rattle.service_loop.specs.Serving.{AreSame as AreSameSubmissions}
+use Rattle.service_loop.specs.Steps.{KnowTenants}
+use Rattle.deliveries.specs.declared.arrivals.Stream.TheVariants.{Ended, Failed}
+use Rattle.service_loop.specs.Delivering.{AreDelivering, CountsAsEnded, DeliversOn}
+use Rattle.service_loop.specs.Delivering.{AreSame as AreSameDeliveries}
+use Rattle.service_loop.specs.declared.endpoint.Endpoint.{Endpoint}
+
+-- The members of traits say what a clock gives, what quotas know and drew, and what a link was handed, gave and counted.
+module _ {C Q L : Type 0} (of_clock : ClockMembers C) (of_quotas : TicketMembers Q) (of_link : LinkMembers L) where
+  -- What holds of a connection between two rounds. The calls are served as far as they have come, and each moment is the
+  -- clock's; what was delivered is what came. The connection has ended exactly where its link failed, and then nothing
+  -- more is received.
+  pub record IsWhole (e : Endpoint C Q L) : Type 0 where
+    pub served : IsServed e.submissions
+    pub known : KnowTenants (of_quotas.knows e.tickets) e.submissions.steps.now
+    pub moments : All (of_clock.gives e.clock.now) (moments_in (behind e.submissions.conn))
+    pub least : All (λ ms. of_clock.least e.clock.now ≤ ms) (moments_at_calls (behind e.submissions.conn))
+    pub delivering : AreDelivering e.deliveries
+    pub ended : e.submissions.conn.ended ≡ true → CountsAsEnded e.deliveries.arrivals
+    pub failed : e.deliveries.arrivals.stream ≡ Failed → e.submissions.conn.ended ≡ true
+    pub finished : e.deliveries.arrivals.stream ≡ Ended → IsTrue (of_link.ended e.link)
+    pub room : 0 < length e.buffer.items
+    pub most : length e.buffer.items ≤ 2 ^ 32
+
+  -- the same, unless no memory was found
+  abbrev pub IsEndpoint : Endpoint C Q L → Type 0
+  IsEndpoint e = e.memory ≡ false → IsWhole e
+
+  -- what a connection keeps, whatever becomes of it
+  pub record IsSame (old new : Endpoint C Q L) : Type 0 where
+    pub submissions : AreSameSubmissions old.submissions new.submissions
+    pub deliveries : AreSameDeliveries old.deliveries new.deliveries
+    pub clock : new.clock.now ≡ old.clock.now
+    pub link : (first : L) → of_link.since first old.link → of_link.since first new.link
+    pub tickets : (first : Q) → of_quotas.since first old.tickets → of_quotas.since first new.tickets
+
+  -- A connection goes on: its link was handed the frames that its history tells, the tickets were drawn that it tells,
+  -- it ended only where the count of the link's faults rose, and what was delivered came from the link.
+  pub record GoesOn (old new : Endpoint C Q L) : Type 0 where
+    pub handed : Hands old.submissions.conn new.submissions.conn (of_link.handed old.link) (of_link.handed new.link)
+    pub draws : DrawsTickets of_quotas.knows of_quotas.drawn of_quotas.since old.submissions.conn new.submissions.conn old.tickets
+        new.tickets
+    pub cause : HasCause ((old.submissions.conn.ended ≡ false) × (new.submissions.conn.ended ≡ true))
+        (of_link.faults old.link) (of_link.faults new.link)
+    pub stays_ended : old.submissions.conn.ended ≡ true → new.submissions.conn.ended ≡ true
+    pub delivers : DeliversOn (of_link.given old.link) (of_link.given new.link) old.deliveries new.deliveries
+
+  -- it is over: its application's rings were taken to their closings, its link was finished, and the rings of notices
+  -- were closed
+  pub record IsOver (e : Endpoint C Q L) : Type 0 where
+    pub finished : e.submissions.finished ≡ true
+    pub reclaims : e.deliveries.reclaims.closed ≡ true
+    pub notices : e.deliveries.notices.notices ≡ None
+    pub blocks : e.deliveries.notices.blocks ≡ None

@@ -1,0 +1,337 @@
+//! A connection with all that belongs to it.
+
+ghost use Rattle.std.specs.Prelude.{◌≡◌, ◌≢◌, ◌≤◌, ◌<◌, ◌^◌, ◌-◌, ◌↔◌, ◌⊎◌, [], ℕ, true, false, IsTrue, OnOk, length};
+ghost use Rattle.call_history.specs.Tickets.{tickets_behind};
+ghost use Rattle.conn_core.specs.Connections.{behind, frames};
+ghost use Rattle.qos_order.specs.Account.{Fits, kept_of};
+ghost use Rattle.service_loop.specs.Serving.{IsServed};
+ghost use Rattle.service_loop.specs.Steps.{KnowTenants};
+ghost use Rattle.service_loop.specs.Delivering.{AreDelivering, CountsAsEnded};
+ghost use Rattle.service_loop.specs.Rounds.{GoesOn, IsEndpoint, IsOver, IsSame, IsWhole};
+
+use crate::activity::Activity;
+use crate::delivering::Deliveries;
+use crate::submissions::Submissions;
+use crate::visited::{Outcome, Visited};
+use deliveries::Stream;
+use mrpc_base::{Clock, Gate, Link, ReadyOrder, Tickets};
+use mrpc_table::Memory;
+use qos_order::Ending;
+use std::alloc::Global;
+use std::sync::Wait;
+
+/// All that belongs to one connection. One thread at a time holds it by value.
+#[derive(Drop)]
+pub struct Endpoint<'t, C, Q, L> {
+    pub submissions: Submissions<'t>,
+    pub deliveries: Deliveries<'t>,
+    pub link: L,
+    pub tickets: Q,
+    pub clock: &'t C,
+    /// Where bytes are received.
+    pub buffer: Vec<u8>,
+    /// The rounds of earlier grants that later visits may still use.
+    pub kept: u64,
+    /// Whether no memory was found. Then no further round is made.
+    pub memory: bool,
+}
+
+impl<'t, C: Clock, Q: Tickets, L: Link> Endpoint<'t, C, Q, L> {
+    /// A connection on which nothing was submitted and whose link hasn't failed.
+    pub fn new(
+        submissions: Submissions<'t>,
+        deliveries: Deliveries<'t>,
+        link: L,
+        tickets: Q,
+        clock: &'t C,
+        buffer: Vec<u8>,
+    ) -> Endpoint<'t, C, Q, L>
+        requires served { IsServed submissions }
+        requires nothing { submissions.conn.happenings ≡ [] }
+        requires not_ended { submissions.conn.ended ≡ false }
+        requires known { KnowTenants (Q.knows tickets) submissions.steps.now }
+        requires delivering { AreDelivering deliveries }
+        requires working { deliveries.arrivals.stream ≢ Stream.Failed }
+        requires finished { deliveries.arrivals.stream ≡ Stream.Ended → IsTrue (L.ended link) }
+        requires room { 0 < length buffer.items }
+        requires most { length buffer.items ≤ 2 ^ 32 }
+        ensures whole { IsWhole C.Clock Q.Tickets L.Link result }
+        ensures memory { result.memory ≡ false }
+        ensures submissions { result.submissions ≡ submissions.entry }
+        ensures deliveries { result.deliveries ≡ deliveries.entry }
+        ensures link { result.link ≡ link }
+        ensures tickets { result.tickets ≡ tickets }
+        ensures clock { result.clock.now ≡ clock.now }
+        ensures kept { result.kept ≡ 0 }
+    {
+        Endpoint {
+            submissions,
+            deliveries,
+            link,
+            tickets,
+            clock,
+            buffer,
+            kept: 0,
+            memory: false,
+        }
+    }
+
+    /// Makes a round: what the application submits is taken, judged and sent, the blocks that it gives back are
+    /// reclaimed, and what the link gives is delivered. A link that fails ends the connection.
+    pub fn round<R: Wait>(&mut self, rt: &R, alloc: Global) -> Activity
+        requires whole { IsWhole C.Clock Q.Tickets L.Link self.old }
+        requires memory { self.old.memory ≡ false }
+
+        // What holds between two rounds holds behind this one, and the connection has gone on.
+        ensures whole { result ≢ Activity.Memory → IsWhole C.Clock Q.Tickets L.Link self.new }
+        ensures goes_on { result ≢ Activity.Memory → GoesOn C.Clock Q.Tickets L.Link self.old self.new }
+
+        ensures same { IsSame C.Clock Q.Tickets L.Link self.old self.new }
+        ensures memory { (self.new.memory ≡ true) ↔ (result ≡ Activity.Memory) }
+        ensures kept { self.new.kept ≡ self.old.kept }
+    {
+        match self.make_round(rt, alloc) {
+            Ok(true) => Activity::Busy,
+            Ok(false) => Activity::Idle,
+            Err(Memory) => {
+                self.memory = true;
+                Activity::Memory
+            }
+        }
+    }
+
+    // The same. Tells whether something was done.
+    fn make_round<R: Wait>(&mut self, rt: &R, alloc: Global) -> Result<bool, Memory>
+        requires { IsWhole C.Clock Q.Tickets L.Link self.old }
+        ensures whole { OnOk result (IsWhole C.Clock Q.Tickets L.Link self.new) }
+        ensures goes_on { OnOk result (GoesOn C.Clock Q.Tickets L.Link self.old self.new) }
+        ensures same { IsSame C.Clock Q.Tickets L.Link self.old self.new }
+        ensures memory { self.new.memory ≡ self.old.memory }
+        ensures kept { self.new.kept ≡ self.old.kept }
+    {
+        let submitted = self.submit(rt, alloc)?;
+        let delivered = self.deliver(rt)?;
+        Ok(submitted | delivered)
+    }
+
+    // Has the calls go on. A link that failed gives nothing more.
+    fn submit<R: Wait>(&mut self, rt: &R, alloc: Global) -> Result<bool, Memory>
+        requires { IsWhole C.Clock Q.Tickets L.Link self.old }
+        ensures whole { OnOk result (IsWhole C.Clock Q.Tickets L.Link self.new) }
+        ensures goes_on { OnOk result (GoesOn C.Clock Q.Tickets L.Link self.old self.new) }
+        ensures same { IsSame C.Clock Q.Tickets L.Link self.old self.new }
+        ensures memory { self.new.memory ≡ self.old.memory }
+        ensures kept { self.new.kept ≡ self.old.kept }
+    {
+        let busy = was_busy(
+            self.submissions
+                .round(rt, alloc, self.clock, &mut self.tickets, &mut self.link),
+        )?;
+        if self.submissions.conn.ended() {
+            self.deliveries.stop();
+            return Ok(busy);
+        }
+        Ok(busy)
+    }
+
+    // Delivers what comes. Where the link fails, the connection ends.
+    fn deliver<R: Wait>(&mut self, rt: &R) -> Result<bool, Memory>
+        requires { IsWhole C.Clock Q.Tickets L.Link self.old }
+        ensures whole { OnOk result (IsWhole C.Clock Q.Tickets L.Link self.new) }
+        ensures goes_on { OnOk result (GoesOn C.Clock Q.Tickets L.Link self.old self.new) }
+        ensures same { IsSame C.Clock Q.Tickets L.Link self.old self.new }
+        ensures memory { self.new.memory ≡ self.old.memory }
+        ensures kept { self.new.kept ≡ self.old.kept }
+    {
+        let delivered = self
+            .deliveries
+            .round(rt, &mut self.link, self.buffer.as_mut_slice())?;
+        if self.deliveries.has_failed() {
+            self.submissions.fail();
+            return Ok(delivered);
+        }
+        Ok(delivered)
+    }
+
+    /// Ends the connection since its link failed, as its writer tells once it was joined: the calls that stand are
+    /// refused. It takes no memory.
+    pub fn fail(&mut self)
+        requires { IsWhole C.Clock Q.Tickets L.Link self.old }
+        ensures whole { IsWhole C.Clock Q.Tickets L.Link self.new }
+        ensures ended { self.new.submissions.conn.ended ≡ true }
+        ensures frames { frames self.new.submissions.conn ≡ frames self.old.submissions.conn }
+        ensures drawn { (tenant window : ℕ) → tickets_behind tenant window (behind self.new.submissions.conn)
+            ≡ tickets_behind tenant window (behind self.old.submissions.conn) }
+        ensures calls { self.new.submissions.calls ≡ self.old.submissions.calls }
+        ensures finished { self.new.submissions.finished ≡ self.old.submissions.finished }
+        ensures deliveries { CountsAsEnded self.old.deliveries.arrivals → self.new.deliveries ≡ self.old.deliveries }
+        ensures same { IsSame C.Clock Q.Tickets L.Link self.old self.new }
+        ensures link { self.new.link ≡ self.old.link }
+        ensures tickets { self.new.tickets ≡ self.old.tickets }
+        ensures memory { self.new.memory ≡ self.old.memory }
+        ensures kept { self.new.kept ≡ self.old.kept }
+    {
+        self.submissions.fail();
+        self.deliveries.stop();
+    }
+
+    /// Whether it gets no further round: both rings of the application were taken to their closing, the link was
+    /// finished, and the rings of notices and of block numbers were closed.
+    pub fn is_over(&self) -> bool
+        ensures { result ≡ true → IsOver C.Clock Q.Tickets L.Link self.now }
+    {
+        self.submissions.finished
+            && self.deliveries.reclaims.closed
+            && self.deliveries.notices.is_closed()
+    }
+
+    /// Makes the rounds of a visit: as many as the order grants, while there is something to do and the gate is open.
+    /// What a closed gate leaves of the grant is kept.
+    pub fn visit<R: Wait, G: Gate, O: ReadyOrder>(
+        &mut self,
+        rt: &R,
+        alloc: Global,
+        gate: &G,
+        order: &O,
+    ) -> Visited
+        requires { IsEndpoint C.Clock Q.Tickets L.Link self.old }
+        ensures endpoint { IsEndpoint C.Clock Q.Tickets L.Link self.new }
+        ensures goes_on { self.new.memory ≡ false → GoesOn C.Clock Q.Tickets L.Link self.old self.new }
+        ensures same { IsSame C.Clock Q.Tickets L.Link self.old self.new }
+        ensures memory { (self.new.memory ≡ true) ↔ (result.outcome ≡ Outcome.Memory) }
+        ensures over { result.outcome ≡ Outcome.Over → IsOver C.Clock Q.Tickets L.Link self.new }
+
+        // The account of a weighted order counts so.
+        ensures fits { Fits (O.grant_of order.now self.old.submissions.conn.conn self.old.kept)
+            (record { given = result.given; ending = result.ending }) }
+        ensures kept { self.new.kept ≡ kept_of result.ending
+            (O.grant_of order.now self.old.submissions.conn.conn self.old.kept - result.given) }
+    {
+        let grant = order.grant(self.submissions.conn.number(), self.kept);
+        if self.memory {
+            self.kept = 0;
+            return Visited {
+                outcome: Outcome::Memory,
+                given: 0,
+                ending: Ending::Idle,
+            };
+        }
+        let visited = self.make_rounds(rt, alloc, gate, grant);
+        self.kept = left_of(visited, grant);
+        visited
+    }
+
+    // Makes at most so many rounds.
+    fn make_rounds<R: Wait, G: Gate>(
+        &mut self,
+        rt: &R,
+        alloc: Global,
+        gate: &G,
+        grant: u64,
+    ) -> Visited
+        requires whole { IsWhole C.Clock Q.Tickets L.Link self.old }
+        requires memory { self.old.memory ≡ false }
+        ensures whole { self.new.memory ≡ false → IsWhole C.Clock Q.Tickets L.Link self.new }
+        ensures goes_on { self.new.memory ≡ false → GoesOn C.Clock Q.Tickets L.Link self.old self.new }
+        ensures same { IsSame C.Clock Q.Tickets L.Link self.old self.new }
+        ensures memory { (self.new.memory ≡ true) ↔ (result.outcome ≡ Outcome.Memory) }
+        ensures over { result.outcome ≡ Outcome.Over → IsOver C.Clock Q.Tickets L.Link self.new }
+        ensures fits { Fits grant (record { given = result.given; ending = result.ending }) }
+    {
+        let conn = self.submissions.conn.number();
+        let mut given = 0;
+        'rounds: while given < grant {
+            if !gate.open(conn) {
+                return Visited {
+                    outcome: so_far(given),
+                    given,
+                    ending: Ending::Shut,
+                };
+            }
+            match self.advance(rt, alloc) {
+                Outcome::Busy => given += 1,
+                outcome => {
+                    return Visited {
+                        outcome,
+                        given: given + 1,
+                        ending: ending_after(given + 1, grant),
+                    };
+                }
+            }
+        }
+        Visited {
+            outcome: so_far(given),
+            given,
+            ending: Ending::Given,
+        }
+    }
+
+    // Makes one round, and tells whether the connection is over then.
+    fn advance<R: Wait>(&mut self, rt: &R, alloc: Global) -> Outcome
+        requires whole { IsWhole C.Clock Q.Tickets L.Link self.old }
+        requires memory { self.old.memory ≡ false }
+        ensures whole { result ≢ Outcome.Memory → IsWhole C.Clock Q.Tickets L.Link self.new }
+        ensures goes_on { result ≢ Outcome.Memory → GoesOn C.Clock Q.Tickets L.Link self.old self.new }
+        ensures same { IsSame C.Clock Q.Tickets L.Link self.old self.new }
+        ensures memory { (self.new.memory ≡ true) ↔ (result ≡ Outcome.Memory) }
+        ensures over { result ≡ Outcome.Over → IsOver C.Clock Q.Tickets L.Link self.new }
+    {
+        match self.round(rt, alloc) {
+            Activity::Memory => Outcome::Memory,
+            Activity::Busy => self.over_or(Outcome::Busy),
+            Activity::Idle => self.over_or(Outcome::Idle),
+        }
+    }
+
+    // That it is over, or else what its round came to.
+    fn over_or(&self, outcome: Outcome) -> Outcome
+        ensures { (result ≡ outcome) ⊎ ((result ≡ Outcome.Over) × IsOver C.Clock Q.Tickets L.Link self.now) }
+    {
+        if self.is_over() {
+            return Outcome::Over;
+        }
+        outcome
+    }
+}
+
+// Whether a round was busy, where memory was found.
+fn was_busy(activity: Activity) -> Result<bool, Memory>
+    ensures { OnOk result (activity ≢ Activity.Memory) }
+{
+    match activity {
+        Activity::Busy => Ok(true),
+        Activity::Idle => Ok(false),
+        Activity::Memory => Err(Memory),
+    }
+}
+
+// What a visit came to whose rounds so far were all busy.
+fn so_far(given: u64) -> Outcome
+    ensures { (result ≡ Outcome.Busy) ⊎ (result ≡ Outcome.Idle) }
+{
+    if given == 0 {
+        return Outcome::Idle;
+    }
+    Outcome::Busy
+}
+
+// How a visit ended behind a round that had nothing to do, or with which the connection was over.
+fn ending_after(given: u64, grant: u64) -> Ending
+    ensures { result ≡ Ending.Given → given ≡ grant }
+{
+    if given == grant {
+        return Ending::Given;
+    }
+    Ending::Idle
+}
+
+// What a visit leaves of its grant for later ones.
+fn left_of(visited: Visited, grant: u64) -> u64
+    requires { visited.given ≤ grant }
+    ensures { result ≡ kept_of visited.ending (grant - visited.given) }
+{
+    match visited.ending {
+        Ending::Shut => grant - visited.given,
+        Ending::Given | Ending::Idle => 0,
+    }
+}
