@@ -25,9 +25,9 @@ use std::alloc::Global;
 use std::sync::Wait;
 use std::thread;
 
-/// Receives until the first frame is there, and takes it where it is a hello. None where the connection is bound: with the
-/// table that the hello says its own agrees on the service. It waits for the other side. The only error is `Memory`, after
-/// which no more is said of the arrivals than that they are of the same table, policy and heap.
+/// Receives until the first frame is there, and takes it where it is a hello. None where the connection is bound: with
+/// the table that the hello says its own agrees on the service. It waits for the other side. The only error is
+/// `Memory`, after which no more is said of the arrivals than that they are of the same table, policy and heap.
 pub fn hear_hello<R: Wait, L: Link>(
     rt: &R,
     alloc: Global,
@@ -46,8 +46,8 @@ pub fn hear_hello<R: Wait, L: Link>(
     ensures unbound { IfOk result (λ answer. IfSome answer
         (HasRefused service.now (L.given link.old) (L.given link.new) arrivals.new)) }
 
-    // The link counts as failed where its count of faults rises, and as ended where it told so. A link that failed binds
-    // nothing.
+    // The link counts as failed where its count of faults rises, and as ended where it told so. A link that failed
+    // binds nothing.
     ensures working { result ≡ Ok None → arrivals.new.stream ≢ Stream.Failed }
     ensures cause { HasCause (arrivals.new.stream ≡ Stream.Failed) (L.faults link.old) (L.faults link.new) }
     ensures ends { arrivals.new.stream ≡ Stream.Ended → IsTrue (L.ended link.new) }
@@ -171,8 +171,8 @@ fn read_hello(
     requires kind { hello.now.kind ≡ HELLO }
     ensures bound { result ≡ Ok None → (stream : List ℕ) (fault : Option TheFault)
         → BeginsWith stream fault hello.now → IsBound table.now service.now stream fault hello.now }
-    ensures unbound { IfOk result (λ answer. IfSome answer (λ why. SaysWhy why × ((stream : List ℕ) (fault : Option TheFault)
-        (state : TheStream) → BeginsWith stream fault hello.now
+    ensures unbound { IfOk result (λ answer. IfSome answer (λ why. SaysWhy why
+        × ((stream : List ℕ) (fault : Option TheFault) (state : TheStream) → BeginsWith stream fault hello.now
         → IsUnbound table.now service.now stream fault state why))) }
 {
     let theirs = match on_hello(alloc, hello.payload.as_slice()) {

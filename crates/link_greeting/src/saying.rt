@@ -11,8 +11,8 @@ use mrpc_table::{Memory, Name, Table};
 use schema_binding::hello;
 use std::alloc::Global;
 
-/// Sends the hello of a connection, which says the service and the connection's own table. It tells whether the hello was
-/// handed over; if not, the link failed.
+/// Sends the hello of a connection, which says the service and the connection's own table. It tells whether the hello
+/// was handed over; if not, the link failed. The only error is `Memory`.
 pub fn say_hello<L: Link>(
     alloc: Global,
     conn: u32,

@@ -12,10 +12,10 @@ pub enum Unbound {
     Ended,
     /// The stream has this fault before any frame. `Memory` never comes here.
     Cut(FeedFault),
-    /// The first frame is no hello, and the line is 0; or it is one, and this is the first line of its payload at fault,
-    /// from 1.
+    /// The first frame is no hello, and the line is 0; or it is one, and this is the first line of its payload at
+    /// fault, from 1.
     Hello { line: u64 },
-    /// The table that the other side's hello says doesn't agree with the connection's own, for this cause. `Memory` never
-    /// comes here.
+    /// The table that the other side's hello says doesn't agree with the connection's own, for this cause. `Memory`
+    /// never comes here.
     Disagrees(AgreeFault),
 }
