@@ -1,10 +1,8 @@
 -- The lines of a run besides audits (this project's own format).
-use Rattle.std.specs.Prelude.{◌≡◌, ◌≢◌, ℕ, ◌<◌, ◌≤◌, ◌==◌, Bool, true, false, List, [], ◌∷◌, codes, length, Option, Some, None, IsSomeAnd, ⊤, if◌then◌else◌}
+use Rattle.std.specs.Prelude.{ℕ, ◌<◌, ◌≤◌, ◌==◌, List, [], ◌∷◌, codes, length, Option, Some, None, IsSomeAnd, ⊤, if◌then◌else◌}
 use Rattle.std.specs.Fmt.{decimal}
 use Rattle.mrpc_table.specs.Calls.{message_at}
-use Rattle.mrpc_table.specs.Node.{Node}
 use Rattle.mrpc_table.specs.Normal.{IsNormal}
-use Rattle.mrpc_table.specs.Text.{line}
 use Rattle.mrpc_table.specs.declared.table.Table.{Table}
 use Rattle.wire_base.specs.Encoding.{encoding}
 use Rattle.wire_decode.specs.Reason.{reason_word}
