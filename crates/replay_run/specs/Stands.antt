@@ -1,7 +1,7 @@
 -- How the calls that stand are told at the end (this project's own).
 use Rattle.std.specs.Prelude.{ℕ, ◌==◌, List, [], find, option_map, unwrap_or}
 use Rattle.std.specs.List.{flat_map, range_with_len}
-use Rattle.standing_text.specs.Standing.{all_told}
+use Rattle.connection_text.specs.Standing.{all_told}
 use Rattle.script_text.specs.declared.limits.TheConstants.{MAX_CONNECTIONS}
 use Rattle.replay_run.specs.Follows.{Opened}
 

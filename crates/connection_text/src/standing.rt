@@ -1,6 +1,6 @@
 ghost use Rattle.std.specs.Prelude.{◌≡◌, ◌<◌, ◌++◌, ℕ, OnOk, Some, length, slice_get};
 ghost use Rattle.conn_core.specs.Connections.{course};
-ghost use Rattle.standing_text.specs.Standing.{holding, told_call};
+ghost use Rattle.connection_text.specs.Standing.{holding, told_call};
 
 use audit_text::{Holding, append_stands_line};
 use conn_core::Conn;
