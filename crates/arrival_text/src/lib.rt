@@ -7,10 +7,12 @@
 #![tactic(auto)]
 
 mod arrivals;
+mod laws;
 mod pieces;
 mod rest;
 mod unbound;
 
 pub use arrivals::{Judge, append_arrival};
+pub use laws::lines_fit;
 pub use rest::{append_cut, append_not_held, append_short, append_waits};
 pub use unbound::append_unbound;
