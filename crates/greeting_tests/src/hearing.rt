@@ -1,4 +1,4 @@
-ghost use Rattle.std.specs.Prelude.{◌≡◌, ◌≤◌, length};
+ghost use Rattle.std.specs.Prelude.{◌≡◌, None};
 ghost use Rattle.mrpc_table.specs.Valid.{IsValid};
 ghost use Rattle.receive_core.specs.Life.{no_life};
 ghost use Rattle.deliveries.specs.Arriving.{HaveLived};
@@ -17,7 +17,7 @@ use std::process::Abort;
 use std::sync::Wait;
 use table_text::read_table;
 
-const OURS: &[u8] = b"message M\nfield 1 plain uint64 a\nmethod 0 S Get M M\n";
+pub(crate) const OURS: &[u8] = b"message M\nfield 1 plain uint64 a\nmethod 0 S Get M M\n";
 
 const FURTHER: &[u8] = b"message M
 field 1 plain uint64 a
@@ -31,28 +31,29 @@ const OTHER_METHOD: &[u8] = b"message M\nfield 1 plain uint64 a\nmethod 0 S Put 
 
 const OTHER_SERVICE: &[u8] = b"message M\nfield 1 plain uint64 a\nmethod 0 T Get M M\n";
 
-fn table_of(rt: &impl Abort, alloc: Global, text: &[u8]) -> Table
+pub(crate) fn table_of(rt: &impl Abort, alloc: Global, text: &[u8]) -> Table
     ensures { IsValid result }
 {
     read_table(alloc, text).expect(rt, "a table")
 }
 
-fn name(rt: &impl Abort, alloc: Global, bytes: &[u8]) -> Name {
+pub(crate) fn name(rt: &impl Abort, alloc: Global, bytes: &[u8]) -> Name {
     Bytes::from_slice(alloc, bytes).expect(rt, "memory")
 }
 
 // Each function hands its table over to be dropped here: what a drop comes to is proved in each function that has one.
-fn discard(_table: Table) {}
+pub(crate) fn discard(_table: Table) {}
 
 fn copied(rt: &impl Abort, alloc: Global, bytes: &[u8]) -> Vec<u8> {
     bytes.to_vec(alloc).expect(rt, "memory")
 }
 
 // The arrivals of connection 1, to which nothing came.
-fn arrivals_of<'t>(rt: &impl Abort, alloc: Global, table: &'t Table) -> Arrivals<'t>
+pub(crate) fn arrivals_of<'t>(rt: &impl Abort, alloc: Global, table: &'t Table) -> Arrivals<'t>
     requires { IsValid table.now }
     ensures lived { HaveLived no_life result }
     ensures open { result.stream ≡ Open }
+    ensures policy { result.policy ≡ None }
 {
     let (writer, _reader) = shared_heap::open(alloc, 16).expect(rt, "a heap");
     let inbound = Inbound::open(alloc, 1, 16).expect(rt, "a receiver");
@@ -60,7 +61,7 @@ fn arrivals_of<'t>(rt: &impl Abort, alloc: Global, table: &'t Table) -> Arrivals
 }
 
 // The frame of a hello from connection 2, of a version.
-fn hello_of(rt: &impl Abort, alloc: Global, version: u8, text: &[u8]) -> Vec<u8> {
+pub(crate) fn hello_of(rt: &impl Abort, alloc: Global, version: u8, text: &[u8]) -> Vec<u8> {
     let table = table_of(rt, alloc, text);
     let service = name(rt, alloc, b"S");
     assert!(rt; is_full_name(service.as_slice()));
@@ -95,7 +96,7 @@ fn heard<R: Abort + Wait>(rt: &R, alloc: Global, table: &Table, link: &mut MemLi
 }
 
 // A link that gives these bytes.
-fn giving(alloc: Global, incoming: Vec<u8>) -> MemLink {
+pub(crate) fn giving(alloc: Global, incoming: Vec<u8>) -> MemLink {
     MemLink::new(
         alloc,
         incoming,
