@@ -1,5 +1,5 @@
-//! Tests of the tenants and the policies of a scenario, from TOML texts. It has no code of its own, and nothing stands on
-//! it.
+//! Tests of the tenants and the policies of a scenario, from TOML texts. It has no code of its own, and nothing stands
+//! on it.
 #![tactic(auto)]
 
 #[cfg(test)]

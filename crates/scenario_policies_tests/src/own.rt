@@ -9,8 +9,10 @@ use scenario_values::tables_at;
 use std::alloc::Global;
 use std::process::Abort;
 
-const TEXT: &str =
-    "[[policy]]\nname = \"p\"\nkind = \"access\"\nrules = [\"rule r deny method 0 where 1 gt 49\", \"default allow\"]\n[[policy]]\nname = \"a\"\nkind = \"access\"\nrules = [\"default deny\"]\n[[policy]]\nname = \"c\"\nkind = \"count\"\n";
+const TEXT: &str = "[[policy]]\nname = \"p\"\nkind = \"access\"\n\
+    rules = [\"rule r deny method 0 where 1 gt 49\", \"default allow\"]\n\
+    [[policy]]\nname = \"a\"\nkind = \"access\"\nrules = [\"default deny\"]\n\
+    [[policy]]\nname = \"c\"\nkind = \"count\"\n";
 
 /// What is read of the policies of these names under the other schema.
 fn read(

@@ -3,8 +3,10 @@
 use crate::reading::{Case, SCHEMA, declared, document, fails, table};
 use std::process::Abort;
 
-const TEXT: &str =
-    "[[tenant]]\nname = \"t\"\nper = 1\n[[policy]]\nname = \"q\"\nkind = \"quota\"\ntenant = \"t\"\ncap = 0\n[[policy]]\nname = \"r\"\nkind = \"rate\"\namount = 1\nper = 86400000\nburst = 1000000\nmode = \"hold\"\n";
+const TEXT: &str = "[[tenant]]\nname = \"t\"\nper = 1\n\
+    [[policy]]\nname = \"q\"\nkind = \"quota\"\ntenant = \"t\"\ncap = 0\n\
+    [[policy]]\nname = \"r\"\nkind = \"rate\"\n\
+    amount = 1\nper = 86400000\nburst = 1000000\nmode = \"hold\"\n";
 
 const CASES: [Case; 19] = [
     Case {
@@ -63,17 +65,20 @@ const CASES: [Case; 19] = [
         word: "Unknown",
     },
     Case {
-        text: "[[policy]]\nname = \"p\"\nkind = \"access\"\nrules = [\"rule r deny method 65536\", \"default allow\"]\n",
+        text: "[[policy]]\nname = \"p\"\nkind = \"access\"\n\
+            rules = [\"rule r deny method 65536\", \"default allow\"]\n",
         number: 1,
         word: "Number",
     },
     Case {
-        text: "[[policy]]\nname = \"p\"\nkind = \"access\"\nrules = [\"rule default deny method 0\", \"default allow\"]\n",
+        text: "[[policy]]\nname = \"p\"\nkind = \"access\"\n\
+            rules = [\"rule default deny method 0\", \"default allow\"]\n",
         number: 1,
         word: "Name",
     },
     Case {
-        text: "[[policy]]\nname = \"p\"\nkind = \"access\"\nrules = [\"rule r deny method 0\", \"rule r deny method 0\"]\n",
+        text: "[[policy]]\nname = \"p\"\nkind = \"access\"\n\
+            rules = [\"rule r deny method 0\", \"rule r deny method 0\"]\n",
         number: 1,
         word: "Known",
     },

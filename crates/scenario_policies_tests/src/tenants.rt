@@ -3,7 +3,13 @@
 use crate::reading::{Case, fails};
 use std::process::Abort;
 
-const CASES: [Case; 8] = [
+const SEVENTEEN: &str = "tenant = [\
+    {name='a',per=1},{name='b',per=1},{name='c',per=1},{name='d',per=1},{name='e',per=1},\
+    {name='f',per=1},{name='g',per=1},{name='h',per=1},{name='i',per=1},{name='j',per=1},\
+    {name='k',per=1},{name='l',per=1},{name='m',per=1},{name='n',per=1},{name='o',per=1},\
+    {name='p',per=1},{name='q',per=1}]\n";
+
+const CASES: [Case; 9] = [
     Case {
         text: "[[tenant]]\nname = \"t\"\n",
         number: 1,
@@ -43,6 +49,11 @@ const CASES: [Case; 8] = [
         text: "[[tenant]]\nname = \"t\"\nper = 1\n[[tenant]]\nname = \"t\"\nper = 1\n",
         number: 2,
         word: "Known",
+    },
+    Case {
+        text: SEVENTEEN,
+        number: 17,
+        word: "Number",
     },
 ];
 
