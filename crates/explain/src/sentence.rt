@@ -9,7 +9,7 @@ use std::alloc::Global;
 use std::marker::Model;
 
 /// How many bytes of a word are named in a sentence, at the most.
-const NAMED: usize = 60;
+const NAMED: usize = 100;
 
 const DIGITS: [u8; 16] = *b"0123456789abcdef";
 
