@@ -1,0 +1,83 @@
+// What a plain service takes of an application.
+ghost use Rattle.std.specs.Prelude.{◌≡◌};
+
+use descriptor_ring::{NumberReceiver, NumberTaken, Receiver, Taken};
+use std::sync::Wait;
+use std::thread;
+use stop_flag::{RunFlag, StopFlag};
+
+// The stop flag was seen set.
+#[derive(Drop)]
+pub(crate) struct Stopped;
+
+// What was taken.
+#[derive(Clone, Copy)]
+pub(crate) struct Found {
+    pub(crate) calls: u64,
+    // The sum of the calls' numbers, modulo 2^64.
+    pub(crate) numbers: u64,
+    // How many blocks were given back.
+    pub(crate) blocks: u64,
+}
+
+#[derive(Drop)]
+pub(crate) struct Taking {
+    pub(crate) calls: Receiver,
+    pub(crate) reclaims: NumberReceiver,
+    pub(crate) found: Found,
+    pub(crate) stop: RunFlag,
+}
+
+impl Taking {
+    pub(crate) fn new(calls: Receiver, reclaims: NumberReceiver, stop: RunFlag) -> Taking
+        ensures calls { result.calls ≡ calls }
+    {
+        let found = Found {
+            calls: 0,
+            numbers: 0,
+            blocks: 0,
+        };
+        Taking {
+            calls,
+            reclaims,
+            found,
+            stop,
+        }
+    }
+
+    // Takes a call and a block that was given back, where they wait. True once both rings are closed.
+    pub(crate) fn turn<R: Wait>(&mut self, rt: &R) -> Result<bool, Stopped> {
+        let calls_closed = self.take_call(rt);
+        let reclaims_closed = self.take_block(rt);
+        if self.stop.is_set() {
+            return Err(Stopped);
+        }
+        Ok(calls_closed && reclaims_closed)
+    }
+
+    fn take_call<R: Wait>(&mut self, rt: &R) -> bool {
+        match self.calls.take(rt) {
+            Taken::Item(call) => {
+                self.found.calls = self.found.calls.wrapping_add(1);
+                self.found.numbers = self.found.numbers.wrapping_add(u64::from(call.number));
+                false
+            }
+            Taken::Closed => true,
+            Taken::Empty(_) => {
+                thread::yield_now();
+                false
+            }
+        }
+    }
+
+    fn take_block<R: Wait>(&mut self, rt: &R) -> bool {
+        match self.reclaims.take(rt) {
+            NumberTaken::Item(_) => {
+                self.found.blocks = self.found.blocks.wrapping_add(1);
+                false
+            }
+            NumberTaken::Closed => true,
+            NumberTaken::Empty(_) => false,
+        }
+    }
+}
