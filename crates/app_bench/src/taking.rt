@@ -20,6 +20,14 @@ pub(crate) struct Found {
     pub(crate) blocks: u64,
 }
 
+// What came of a ring.
+#[derive(Clone, Copy)]
+enum Came {
+    Item,
+    Nothing,
+    Closing,
+}
+
 #[derive(Drop)]
 pub(crate) struct Taking {
     pub(crate) calls: Receiver,
@@ -45,39 +53,41 @@ impl Taking {
         }
     }
 
-    // Takes a call and a block that was given back, where they wait. True once both rings are closed.
+    // Takes a call and a block that was given back, where they wait; where neither does, it gives the processor away.
+    // True once both rings are closed.
     pub(crate) fn turn<R: Wait>(&mut self, rt: &R) -> Result<bool, Stopped> {
-        let calls_closed = self.take_call(rt);
-        let reclaims_closed = self.take_block(rt);
+        let (call, block) = (self.take_call(rt), self.take_block(rt));
         if self.stop.is_set() {
             return Err(Stopped);
         }
-        Ok(calls_closed && reclaims_closed)
+        match (call, block) {
+            (Came::Closing, Came::Closing) => return Ok(true),
+            (Came::Item, _) | (_, Came::Item) => {}
+            _ => thread::yield_now(),
+        }
+        Ok(false)
     }
 
-    fn take_call<R: Wait>(&mut self, rt: &R) -> bool {
+    fn take_call<R: Wait>(&mut self, rt: &R) -> Came {
         match self.calls.take(rt) {
             Taken::Item(call) => {
                 self.found.calls = self.found.calls.wrapping_add(1);
                 self.found.numbers = self.found.numbers.wrapping_add(u64::from(call.number));
-                false
+                Came::Item
             }
-            Taken::Closed => true,
-            Taken::Empty(_) => {
-                thread::yield_now();
-                false
-            }
+            Taken::Closed => Came::Closing,
+            Taken::Empty(_) => Came::Nothing,
         }
     }
 
-    fn take_block<R: Wait>(&mut self, rt: &R) -> bool {
+    fn take_block<R: Wait>(&mut self, rt: &R) -> Came {
         match self.reclaims.take(rt) {
             NumberTaken::Item(_) => {
                 self.found.blocks = self.found.blocks.wrapping_add(1);
-                false
+                Came::Item
             }
-            NumberTaken::Closed => true,
-            NumberTaken::Empty(_) => false,
+            NumberTaken::Closed => Came::Closing,
+            NumberTaken::Empty(_) => Came::Nothing,
         }
     }
 }
