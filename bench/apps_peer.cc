@@ -1,9 +1,9 @@
 // Does what the program crate `app_bench` does, for bench/apps: a client stores messages of one number and sends a
 // descriptor of each, a service copies each descriptor to a notice, and an echo takes the notices, copies each message
 // into a tree of its own, places it into the next slice of its heap and sends a reply, which the service takes. Once its
-// calls are done the client is told of the replies. Each of the two has one ring of calls and one of notices; a notice
-// carries the number of its block, and no block is given back. No locks; every atomic step is sequentially consistent,
-// and each end of a ring has its own count, as rings for one sender and one receiver do.
+// calls are done the client is told of the replies. Each of the two has one ring of calls and one of notices. No locks;
+// every atomic step is sequentially consistent, and each end of a ring has its own count, as rings for one sender and one
+// receiver do.
 #include <atomic>
 #include <cstdint>
 #include <cstdio>
@@ -27,7 +27,6 @@ struct Descriptor {
   uint32_t number;
   uint64_t addr;
   uint64_t stores;
-  uint64_t block;
 };
 
 class Ring {
@@ -54,7 +53,7 @@ class Ring {
   alignas(128) Descriptor slots_[kCapacity];
 };
 
-const Descriptor kClosing{0, 0, 0, 0, 0, 0};
+const Descriptor kClosing{0, 0, 0, 0, 0};
 
 void SendWaiting(Ring* ring, const Descriptor& descriptor) {
   while (!ring->Send(descriptor)) std::this_thread::yield();
@@ -82,17 +81,17 @@ struct Application {
   std::unique_ptr<Words[]> heap = std::make_unique<Words[]>(kWords);
   Ring calls;
   Ring notices;
-  uint64_t blocks = 0;
 };
 
 void RunClient(Application* client, uint64_t count) {
   for (uint64_t number = 1; number <= count; ++number) {
     uint64_t place = 2 + kNodeWords * ((number - 1) % kMessages);
     client->heap[place].store(number);
-    SendWaiting(&client->calls, Descriptor{1, 0, 0, place, number, 0});
+    SendWaiting(&client->calls, Descriptor{1, 0, 0, place, number});
   }
   SendWaiting(&client->calls, kClosing);
-  while (TakeWaiting(&client->notices).kind != 0) ++client->blocks;
+  while (TakeWaiting(&client->notices).kind != 0) {
+  }
 }
 
 // Copies the message at an address: its one field stands in the first of its two words.
@@ -117,11 +116,10 @@ void RunEcho(Application* echo, const Words* requests) {
     Descriptor notice = TakeWaiting(&echo->notices);
     if (notice.kind == 0) break;
     auto tree = Copy(requests, notice.addr);
-    ++echo->blocks;
     if (!tree) continue;
     uint64_t place = 2 + (replies % kSlices) * kSliceWords;
     stores += Place(echo->heap.get(), *tree, place);
-    SendWaiting(&echo->calls, Descriptor{2, notice.method, notice.number, place, stores, 0});
+    SendWaiting(&echo->calls, Descriptor{2, notice.method, notice.number, place, stores});
     ++replies;
   }
   SendWaiting(&echo->calls, kClosing);
@@ -155,15 +153,12 @@ Found Serve(Application* client, Application* echo) {
       TakeReply(&echo->calls, &found);
       continue;
     }
-    if (call.kind != 0) {
-      call.number = ++number;
-      call.block = number;
-    }
+    if (call.kind != 0) call.number = ++number;
     while (!echo->notices.Send(call)) TakeReply(&echo->calls, &found);
     if (call.kind == 0) break;
   }
   while (!found.closed) TakeReply(&echo->calls, &found);
-  for (uint64_t k = 1; k <= found.replies; ++k) SendWaiting(&client->notices, Descriptor{2, 0, 1, 1, 0, k});
+  for (uint64_t k = 0; k < found.replies; ++k) SendWaiting(&client->notices, Descriptor{2, 0, 1, 1, 0});
   SendWaiting(&client->notices, kClosing);
   return found;
 }
@@ -180,7 +175,6 @@ int main(int argc, char** argv) {
   Found found = Serve(client.get(), echo.get());
   calling.join();
   echoing.join();
-  std::printf("%llu %llu %llu\n", static_cast<unsigned long long>(found.replies),
-              static_cast<unsigned long long>(found.numbers),
-              static_cast<unsigned long long>(client->blocks + echo->blocks));
+  std::printf("%llu %llu\n", static_cast<unsigned long long>(found.replies),
+              static_cast<unsigned long long>(found.numbers));
 }

@@ -10,7 +10,6 @@ pub record IsUnusedSide (calls notices : HeapId) (side : Side) : Type 0 where
   pub notices_heap : side.notices.heap ≡ notices
   pub taken : side.taking.calls.taken ≡ []
   pub noticed : side.notices.sent ≡ []
-  pub numbered : side.blocks.sent ≡ []
 
 -- the echo's notices are of the heap of the client's calls, and the client's of the service's own heap
 pub record IsUnused (service : Service) : Type 0 where
@@ -18,6 +17,4 @@ pub record IsUnused (service : Service) : Type 0 where
   pub told_heap : service.client.notices.heap ≡ service.writer.heap
   pub taken : service.client.taking.calls.taken ≡ []
   pub noticed : service.echo.notices.sent ≡ []
-  pub numbered : service.echo.blocks.sent ≡ []
   pub told : service.client.notices.sent ≡ []
-  pub told_numbers : service.client.blocks.sent ≡ []

@@ -26,36 +26,19 @@ pub(crate) const MAX_CALLS: u32 = 500_000;
 // hand, so no word is stored again before it was copied.
 const MESSAGES: u32 = 256;
 
-// What came of a client's calls.
-#[derive(Clone, Copy)]
-pub(crate) struct Echoed {
-    pub(crate) replies: u64,
-    // The sum of their numbers, modulo 2^64.
-    pub(crate) numbers: u64,
-    // How many blocks the client and the echo gave back.
-    pub(crate) blocks: u64,
-}
-
-// Has so many calls of a client echoed.
+// Has so many calls of a client echoed, and gives what came of the replies.
 pub(crate) fn call<R: Threads + Wait + Sync>(
     rt: &R,
     alloc: Global,
     table: &Table,
     count: u32,
-) -> Result<Echoed, Memory>
+) -> Result<Found, Memory>
     requires valid { IsValid table.now }
     requires few { count ≤ MAX_CALLS }
 {
     let program = client_program(alloc, count)?;
     let wired = open_ports(alloc)?;
-    match in_three_threads(rt, alloc, table, &program, wired, count) {
-        Some((replies, told)) => Ok(Echoed {
-            replies: replies.calls,
-            numbers: replies.numbers,
-            blocks: replies.blocks.wrapping_add(told.blocks),
-        }),
-        None => Err(Memory),
-    }
+    in_three_threads(rt, alloc, table, &program, wired, count).ok_or(Memory)
 }
 
 // One more line of a client.
@@ -94,7 +77,7 @@ fn in_three_threads<R: Threads + Wait + Sync>(
     program: &Program,
     wired: Wired,
     count: u32,
-) -> Option<(Found, Found)>
+) -> Option<Found>
     requires valid { IsValid table.now }
     requires program { IsClientProgram WORDS program.now }
     requires new { IsNew wired.client × IsNew wired.echo }
@@ -113,7 +96,7 @@ fn in_three_threads<R: Threads + Wait + Sync>(
         move || -> AppEnd
             requires { IsSync R.row × IsNew port × IsClientProgram port.writer.heap.words program.now }
         { client(rt, program, port) },
-        move || -> (AppEnd, Result<(Found, Found), Stopped>)
+        move || -> (AppEnd, Result<Found, Stopped>)
             requires { IsSync R.row × IsValid table.now × IsNew echo_port × (echo_port.writer.heap.words ≡ WORDS)
                 × (echo_port.reader.heap.words ≡ WORDS) × (echo_port.capacity ≡ CAPACITY)
                 × (count ≤ MAX_CALLS) × IsUnused service }
@@ -132,7 +115,7 @@ fn echo_and_serve<R: Threads + Wait + Sync>(
     port: AppPort<RunFlag>,
     service: Service,
     count: u32,
-) -> (AppEnd, Result<(Found, Found), Stopped>)
+) -> (AppEnd, Result<Found, Stopped>)
     requires valid { IsValid table.now }
     requires new { IsNew port }
     requires words { (port.writer.heap.words ≡ WORDS) × (port.reader.heap.words ≡ WORDS) }
@@ -146,7 +129,7 @@ fn echo_and_serve<R: Threads + Wait + Sync>(
             requires { IsSync R.row × IsValid table.now × IsNew port × (port.writer.heap.words ≡ WORDS)
                 × (port.reader.heap.words ≡ WORDS) × (port.capacity ≡ CAPACITY) }
         { echo(rt, alloc, table, port) },
-        move || -> Result<(Found, Found), Stopped>
+        move || -> Result<Found, Stopped>
             requires { IsSync R.row × (count ≤ MAX_CALLS) × IsUnused service }
         { serve(rt, service, count) },
     )

@@ -1,5 +1,5 @@
 //! A program that has a client's calls echoed: a client, an echo and a plain service between them run in a thread each.
-//! It prints how many replies came, the sum of their numbers, and how many blocks came back. `bench/apps` times it.
+//! It prints how many replies came, and the sum of their numbers. `bench/apps` times it.
 //!
 //!     app_bench COUNT
 //!
@@ -12,13 +12,14 @@ mod service;
 mod taking;
 mod wiring;
 
-use calling::{Echoed, MAX_CALLS, call};
+use calling::{MAX_CALLS, call};
 use std::alloc::Global;
 use std::process::ExitCode;
 use std::sync::Wait;
 use std::thread::Threads;
 use std::{env, io};
 use table_text::read_table;
+use taking::Found;
 
 // The table of the messages.
 const TABLE: &[u8] = b"message M\nfield 1 plain uint64 n\nmethod 0 S Get M M\n";
@@ -34,7 +35,7 @@ fn count(rt: &HostRuntime) -> io::Result<Option<u32>> {
 }
 
 // What comes of so many calls, or none where there is no memory or the count is out of range.
-fn echoed<R: Threads + Wait + Sync>(rt: &R, alloc: Global, count: u32) -> Option<Echoed> {
+fn echoed<R: Threads + Wait + Sync>(rt: &R, alloc: Global, count: u32) -> Option<Found> {
     if count > MAX_CALLS {
         return None;
     }
@@ -51,6 +52,6 @@ fn main(rt: HostRuntime) -> io::Result<ExitCode> {
     let Some(echoed) = echoed(&rt, rt.alloc(), count) else {
         return Ok(ExitCode::FAILURE);
     };
-    println!(rt; "{} {} {}", echoed.replies, echoed.numbers, echoed.blocks)?;
+    println!(rt; "{} {}", echoed.calls, echoed.numbers)?;
     Ok(ExitCode::SUCCESS)
 }

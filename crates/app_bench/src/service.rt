@@ -1,5 +1,5 @@
 // A plain service between a client and an echo: it copies the descriptors of calls to notices.
-ghost use Rattle.std.specs.Prelude.{◌≡◌, ◌≤◌, ◌<◌, ◌+◌, ◌^◌, [], IfOk, OnOk, length};
+ghost use Rattle.std.specs.Prelude.{◌≡◌, ◌≤◌, ◌<◌, ◌+◌, [], OnOk, length};
 ghost use Rattle.descriptor_ring.specs.Rings.{IsOf};
 ghost use Rattle.app_bench.specs.Services.{IsUnused};
 
@@ -7,13 +7,13 @@ use crate::taking::{Found, Stopped, Taking};
 use descriptor_ring::{Descriptor, Full, NumberSender, Receiver, Sender, Taken};
 use shared_heap::Writer;
 use std::sync::Wait;
+use stop_flag::{RunFlag, StopFlag};
 
 // The service's side of an application.
 #[derive(Drop)]
 pub(crate) struct Side {
     pub(crate) taking: Taking,
     pub(crate) notices: Sender,
-    pub(crate) blocks: NumberSender,
 }
 
 // What the service has of both. Nothing is stored by its writer, to whose heap the client's notices belong.
@@ -22,15 +22,14 @@ pub(crate) struct Service {
     pub(crate) client: Side,
     pub(crate) echo: Side,
     pub(crate) writer: Writer,
+    pub(crate) client_blocks: NumberSender,
+    pub(crate) echo_blocks: NumberSender,
 }
 
 // Passes the client's calls on to the echo, and takes the replies. A client takes its notices once its calls are done,
-// so it is told of the replies then, of at most so many. Gives what came of the echo, and of the client after its calls.
-pub(crate) fn serve<R: Wait>(
-    rt: &R,
-    service: Service,
-    count: u32,
-) -> Result<(Found, Found), Stopped>
+// so it is told of the replies then, of at most so many. No message lies in a block, so no numbers of blocks come. Gives
+// what came of the echo.
+pub(crate) fn serve<R: Wait>(rt: &R, service: Service, count: u32) -> Result<Found, Stopped>
     requires few { count < 4294967294 }
     requires unused { IsUnused service }
 {
@@ -38,7 +37,11 @@ pub(crate) fn serve<R: Wait>(
         mut client,
         mut echo,
         mut writer,
+        client_blocks,
+        echo_blocks,
     } = service;
+    close_numbers(rt, &client.taking.stop, client_blocks)?;
+    close_numbers(rt, &client.taking.stop, echo_blocks)?;
     pass_calls(rt, &mut client.taking.calls, &mut echo)?;
     let replies = finish(rt, echo)?;
     let told = if replies.calls < u64::from(count) {
@@ -47,13 +50,14 @@ pub(crate) fn serve<R: Wait>(
         u64::from(count)
     };
     tell(rt, &mut client, &mut writer, told)?;
-    Ok((replies, finish(rt, client)?))
+    finish(rt, client)?;
+    Ok(replies)
 }
 
 // Makes a notice of each call, up to the closing of their ring.
 fn pass_calls<R: Wait>(rt: &R, calls: &mut Receiver, echo: &mut Side) -> Result<(), Stopped>
     requires heap { calls.old.heap ≡ echo.old.notices.heap }
-    requires new { (calls.old.taken ≡ []) × (echo.old.notices.sent ≡ []) × (echo.old.blocks.sent ≡ []) }
+    requires new { (calls.old.taken ≡ []) × (echo.old.notices.sent ≡ []) }
 {
     let mut number = 0u32;
     for _ in rt.forever() {
@@ -61,7 +65,7 @@ fn pass_calls<R: Wait>(rt: &R, calls: &mut Receiver, echo: &mut Side) -> Result<
             Taken::Item(mut call) => {
                 number += 1;
                 call.number = number;
-                give(rt, echo, call, u64::from(number))?;
+                give(rt, echo, call)?;
             }
             Taken::Closed => return Ok(()),
             Taken::Empty(_) => {
@@ -76,11 +80,11 @@ fn pass_calls<R: Wait>(rt: &R, calls: &mut Receiver, echo: &mut Side) -> Result<
 fn tell<R: Wait>(rt: &R, client: &mut Side, writer: &mut Writer, count: u64) -> Result<(), Stopped>
     requires few { count < 4294967294 }
     requires heap { client.old.notices.heap ≡ writer.old.heap }
-    requires new { (client.old.notices.sent ≡ []) × (client.old.blocks.sent ≡ []) }
+    requires new { client.old.notices.sent ≡ [] }
 {
-    for number in 1..count + 1 {
+    for _ in 0..count {
         let notice = reply(writer);
-        give(rt, client, notice, number)?;
+        give(rt, client, notice)?;
     }
     Ok(())
 }
@@ -99,32 +103,15 @@ fn reply(writer: &mut Writer) -> Descriptor
     }
 }
 
-// Sends a notice, and the number of its block.
-fn give<R: Wait>(rt: &R, side: &mut Side, notice: Descriptor, block: u64) -> Result<(), Stopped>
+// Sends a notice.
+fn give<R: Wait>(rt: &R, side: &mut Side, mut notice: Descriptor) -> Result<(), Stopped>
     requires of_heap { IsOf side.old.notices.heap notice }
     requires few { length side.old.notices.sent < 4294967294 }
-    requires few_blocks { length side.old.blocks.sent < 2 ^ 61 }
     ensures sent { OnOk result (length side.new.notices.sent ≡ length side.old.notices.sent + 1) }
-    ensures blocks { OnOk result (length side.new.blocks.sent ≡ length side.old.blocks.sent + 1) }
-    ensures heap { OnOk result (side.new.notices.heap ≡ side.old.notices.heap) }
-{
-    give_notice(rt, &mut side.taking, &mut side.notices, notice)?;
-    give_number(rt, &mut side.taking, &mut side.blocks, block)
-}
-
-fn give_notice<R: Wait>(
-    rt: &R,
-    taking: &mut Taking,
-    notices: &mut Sender,
-    mut notice: Descriptor,
-) -> Result<(), Stopped>
-    requires of_heap { IsOf notices.old.heap notice }
-    requires few { length notices.old.sent < 4294967294 }
-    ensures sent { OnOk result (length notices.new.sent ≡ length notices.old.sent + 1) }
-    ensures heap { notices.new.heap ≡ notices.old.heap }
+    ensures heap { side.new.notices.heap ≡ side.old.notices.heap }
 {
     for _ in rt.forever() {
-        match notices.send(rt, notice) {
+        match side.notices.send(rt, notice) {
             Ok(()) => return Ok(()),
             Err(full) => {
                 let Full {
@@ -134,38 +121,18 @@ fn give_notice<R: Wait>(
                 notice = descriptor;
             }
         }
-        taking.turn(rt)?;
+        side.taking.turn(rt)?;
     }
     unreachable!()
 }
 
-fn give_number<R: Wait>(
-    rt: &R,
-    taking: &mut Taking,
-    blocks: &mut NumberSender,
-    number: u64,
-) -> Result<(), Stopped>
-    requires few { length blocks.old.sent < 2 ^ 61 }
-    ensures sent { OnOk result (length blocks.new.sent ≡ length blocks.old.sent + 1) }
-{
-    for _ in rt.forever() {
-        if blocks.send(rt, number).is_ok() {
-            return Ok(());
-        }
-        taking.turn(rt)?;
-    }
-    unreachable!()
-}
-
-// Closes the rings to an application, and takes what it sends to the closing of its own.
+// Closes the ring of notices of an application, and takes what it sends to the closing of its own.
 fn finish<R: Wait>(rt: &R, side: Side) -> Result<Found, Stopped> {
     let Side {
         mut taking,
         notices,
-        blocks,
     } = side;
     close_notices(rt, &mut taking, notices)?;
-    close_numbers(rt, &mut taking, blocks)?;
     for _ in rt.forever() {
         if taking.turn(rt)? {
             return Ok(taking.found);
@@ -185,17 +152,15 @@ fn close_notices<R: Wait>(rt: &R, taking: &mut Taking, mut notices: Sender) -> R
     unreachable!()
 }
 
-fn close_numbers<R: Wait>(
-    rt: &R,
-    taking: &mut Taking,
-    mut blocks: NumberSender,
-) -> Result<(), Stopped> {
+fn close_numbers<R: Wait>(rt: &R, stop: &RunFlag, mut blocks: NumberSender) -> Result<(), Stopped> {
     for _ in rt.forever() {
         match blocks.close(rt) {
             Ok(_) => return Ok(()),
             Err((back, _)) => blocks = back,
         }
-        taking.turn(rt)?;
+        if stop.is_set() {
+            return Err(Stopped);
+        }
     }
     unreachable!()
 }

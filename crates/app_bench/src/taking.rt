@@ -14,10 +14,8 @@ pub(crate) struct Stopped;
 #[derive(Clone, Copy)]
 pub(crate) struct Found {
     pub(crate) calls: u64,
-    // The sum of the calls' numbers, modulo 2^64.
+    // The sum of their numbers, modulo 2^64.
     pub(crate) numbers: u64,
-    // How many blocks were given back.
-    pub(crate) blocks: u64,
 }
 
 // What came of a ring.
@@ -43,7 +41,6 @@ impl Taking {
         let found = Found {
             calls: 0,
             numbers: 0,
-            blocks: 0,
         };
         Taking {
             calls,
@@ -53,7 +50,7 @@ impl Taking {
         }
     }
 
-    // Takes a call and a block that was given back, where they wait; where neither does, it gives the processor away.
+    // Takes a call and a block that is given back, where they wait; where neither does, it gives the processor away.
     // True once both rings are closed.
     pub(crate) fn turn<R: Wait>(&mut self, rt: &R) -> Result<bool, Stopped> {
         let (call, block) = (self.take_call(rt), self.take_block(rt));
@@ -80,12 +77,10 @@ impl Taking {
         }
     }
 
+    // No application has a block to give back here, so only the closing comes.
     fn take_block<R: Wait>(&mut self, rt: &R) -> Came {
         match self.reclaims.take(rt) {
-            NumberTaken::Item(_) => {
-                self.found.blocks = self.found.blocks.wrapping_add(1);
-                Came::Item
-            }
+            NumberTaken::Item(_) => Came::Item,
             NumberTaken::Closed => Came::Closing,
             NumberTaken::Empty(_) => Came::Nothing,
         }

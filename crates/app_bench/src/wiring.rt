@@ -6,6 +6,7 @@ ghost use Rattle.app_bench.specs.Services.{IsUnused, IsUnusedSide};
 use crate::service::{Service, Side};
 use crate::taking::Taking;
 use app_stub::AppPort;
+use descriptor_ring::NumberReceiver;
 use shared_heap::{Reader, Writer};
 use std::alloc::{AllocError, Global};
 use stop_flag::RunFlag;
@@ -36,8 +37,17 @@ pub(crate) fn open_ports(alloc: Global) -> Result<Wired, AllocError>
     let (client_writer, stored) = shared_heap::open(alloc, WORDS)?;
     let (echo_writer, placed) = shared_heap::open(alloc, WORDS)?;
     let (writer, delivered) = shared_heap::open(alloc, WORDS)?;
-    let (client_port, client) = open_port(alloc, client_writer, &stored, delivered, &stop)?;
-    let (echo_port, echo) = open_port(alloc, echo_writer, &placed, stored, &stop)?;
+    let (client_blocks, no_blocks) = descriptor_ring::open_numbers(alloc, CAPACITY)?;
+    let (echo_blocks, none_either) = descriptor_ring::open_numbers(alloc, CAPACITY)?;
+    let (client_port, client) = open_port(
+        alloc,
+        client_writer,
+        &stored,
+        delivered,
+        no_blocks,
+        &stop,
+    )?;
+    let (echo_port, echo) = open_port(alloc, echo_writer, &placed, stored, none_either, &stop)?;
     Ok(Wired {
         client: client_port,
         echo: echo_port,
@@ -45,21 +55,24 @@ pub(crate) fn open_ports(alloc: Global) -> Result<Wired, AllocError>
             client,
             echo,
             writer,
+            client_blocks,
+            echo_blocks,
         },
     })
 }
 
-// Opens the four rings of an application that stores to one heap, of which `stored` is a reader, and is delivered its
-// messages in another.
+// Opens three rings of an application that stores to one heap, of which `stored` is a reader, and is delivered its
+// messages in another. The fourth is open.
 fn open_port(
     alloc: Global,
     writer: Writer,
     stored: &Reader,
     reader: Reader,
+    blocks: NumberReceiver,
     stop: &RunFlag,
 ) -> Result<(AppPort<RunFlag>, Side), AllocError>
     requires heap { stored.now.heap ≡ writer.heap }
-    requires unused { (writer.stores ≡ []) × (reader.loads ≡ []) }
+    requires unused { (writer.stores ≡ []) × (reader.loads ≡ []) × (blocks.taken ≡ []) }
     ensures new { IfOk result (λ ends. IsNew ends.0) }
     ensures heaps { IfOk result (λ ends. (ends.0.writer.heap ≡ writer.heap) × (ends.0.reader.heap ≡ reader.heap)) }
     ensures capacity { IfOk result (λ ends. ends.0.capacity ≡ CAPACITY) }
@@ -67,12 +80,10 @@ fn open_port(
 {
     let (sender, calls) = descriptor_ring::open(alloc, CAPACITY, stored)?;
     let (noticing, notices) = descriptor_ring::open(alloc, CAPACITY, &reader)?;
-    let (numbering, blocks) = descriptor_ring::open_numbers(alloc, CAPACITY)?;
     let (reclaims, given_back) = descriptor_ring::open_numbers(alloc, CAPACITY)?;
     let side = Side {
         taking: Taking::new(calls, given_back, stop.try_clone()?),
         notices: noticing,
-        blocks: numbering,
     };
     let port = AppPort {
         writer,

@@ -5,4 +5,3 @@ abbrev pub invariant-loop : goal.invariant-loop
 invariant-loop g l =
     (l.calls.heap ≡ l.initial.calls.heap) × (l.echo.notices.heap ≡ l.initial.echo.notices.heap)
     × (length l.calls.taken ≡ l.number) × (length l.echo.notices.sent ≡ l.number)
-    × (length l.echo.blocks.sent ≡ l.number)
