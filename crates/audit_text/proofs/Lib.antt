@@ -11,6 +11,7 @@ mod Pieces
 mod Rows
 mod Said
 mod Same
+mod ShortNumbers
 mod Stands
 mod Telling
 mod Texts

@@ -244,6 +244,13 @@ impl Inbound {
         self.feed.left_over()
     }
 
+    /// How many bytes were fed. It takes no memory.
+    pub fn fed(&self) -> u64
+        ensures { result ≡ total self.now.fed }
+    {
+        self.feed.fed()
+    }
+
     // What the heap is in each receiver; it does nothing.
     fn partition(&self)
         ensures { IsSound self.now.heap }

@@ -10,7 +10,6 @@ mod Followed
 mod GivenLaws
 mod Going
 mod Handed
-mod Held
 mod InTurn
 mod Known
 mod Lines

@@ -41,7 +41,8 @@ use Rattle.call_history.specs.declared.happening.Happening.TheVariants.{Took, Aw
 use Rattle.call_history.specs.declared.happening.Taken.{Taken}
 use Rattle.call_history.specs.declared.happening.TookCopy.TheVariants.{Copy}
 use Rattle.replay_run.specs.Follows.{Opened, start, new_one, Does, stores, races, submits, is_away, operates_on, shows_it, is_idle, has_turn, none_ready, is_sent, drains, Fails, by_send, by_drain, GoesOn, Step, opens, goes_on}
-use Rattle.replay_run.specs.Stands.{holding, queue_name, stands_on}
+use Rattle.connection_text.specs.Standing.{holding, queue_name}
+use Rattle.replay_run.specs.Stands.{stands_on}
 use Rattle.replay_run.specs.Tickets.{tickets, AreInTurn}
 
 -- a message with one number, and a method that takes one

@@ -59,45 +59,6 @@ some-in out next one rest some =
     let long : length (one ++ rest) ≡ length one + length rest = length-append one rest in
     (some.0, omega arith, subst (Appends out next) (sym (take-append-le some.0 one rest few)) some.2)
 
--- ---- what a table can print
-
-taken-fits : (T : Table) (call : Taken) (copy : TookCopy) → IsTakenBy T call copy → FitsCall T call copy
-taken-fits T call (Copy tree) taken = taken
-taken-fits T call (Malformed reason place value) taken = tt
-
-behind-fits : (u : Under) (past : Behind) → IsPrefix u past → AllByRecursion (FitsTable u.table) past
-behind-fits u [] prefix = tt
-behind-fits u (Took call ∷ past) prefix = (taken-fits u.table call call.copy prefix.1.numbered.copy, behind-fits u past prefix.0)
-behind-fits u (Away method number addr ∷ past) prefix = (tt, behind-fits u past prefix.0)
-behind-fits u (Op step ∷ past) prefix = (tt, behind-fits u past prefix.0)
-behind-fits u (Moment ms ∷ past) prefix = (tt, behind-fits u past prefix.0)
-behind-fits u (Charged seq name left ∷ past) prefix = (tt, behind-fits u past prefix.0)
-behind-fits u (Drawn seq name window ticket ∷ past) prefix = (tt, behind-fits u past prefix.0)
-behind-fits u (Counted seq name ∷ past) prefix = (tt, behind-fits u past prefix.0)
-behind-fits u (Redacted seq name version ∷ past) prefix = (tt, behind-fits u past prefix.0)
-behind-fits u (Sent seq bytes ∷ past) prefix = (tt, behind-fits u past prefix.0)
-behind-fits u (Refused seq why ∷ past) prefix = (tt, behind-fits u past prefix.0)
-
-module _ (P : Happening → Type 0) where
-  all-back : (front back : List Happening) → AllByRecursion P (front ++ back) → AllByRecursion P front
-  all-back [] back all = tt
-  all-back (x ∷ front) back all = (all.0, all-back front back all.1)
-
-  all-front : (front back : List Happening) → AllByRecursion P (front ++ back) → AllByRecursion P back
-  all-front [] back all = all
-  all-front (x ∷ front) back all = all-front front back all.1
-
-  -- what holds of all, told the other way round, holds of the one at a place
-  pub reversed-at : (xs : List Happening) (place : ℕ) (x : Happening) → AllByRecursion P (reverse xs) → slice_get xs place ≡ Some x → P x
-  reversed-at [] place x all at = cc
-  reversed-at (y ∷ xs) zero x all at =
-      let same : y ≡ x = cc in
-      subst P same ((all-front (reverse xs) (y ∷ []) (subst (AllByRecursion P) (reverse-append (y ∷ []) xs) all)).0)
-  reversed-at (y ∷ xs) (suc place) x all at = reversed-at xs place x (all-back (reverse xs) (y ∷ []) (subst (AllByRecursion P) (reverse-append (y ∷ []) xs) all)) at
-
-pub happenings-fit : (u : Under) (xs : List Happening) → IsPrefix u (reverse xs) → (place : ℕ) (x : Happening) → slice_get xs place ≡ Some x → FitsTable u.table x
-happenings-fit u xs prefix place x at = reversed-at (FitsTable u.table) xs place x (behind-fits u (reverse xs) prefix) at
-
 -- ---- lists from a place on
 
 pub drop-at : {A : Type 0} (xs : List A) (place : ℕ) (x : A) → slice_get xs place ≡ Some x → drop place xs ≡ x ∷ drop (suc place) xs

@@ -1,24 +1,22 @@
 //! The lines of the calls that stand at the end.
 
-ghost use Rattle.std.specs.Prelude.{◌≡◌, ◌≢◌, ◌<◌, ◌≤◌, ℕ, Err, IfOk, OnErr, OnOk, Some, length, map, slice_get};
+ghost use Rattle.std.specs.Prelude.{◌≡◌, ◌≢◌, ◌<◌, ℕ, Err, IfOk, OnErr, OnOk, Some, length, map, slice_get};
+ghost use Rattle.conn_core.specs.Connections.{course};
 ghost use Rattle.std.specs.Io.KnownBytes.{Appends};
 ghost use Rattle.mrpc_base.specs.Faults.{HasCause};
-ghost use Rattle.conn_core.specs.Connections.{course};
 ghost use Rattle.replay_run.specs.Kept.{TellsSome, opened_of};
-ghost use Rattle.replay_run.specs.Stands.{all_stands, held_at, holding, stands_on, told_call};
+ghost use Rattle.replay_run.specs.Stands.{all_stands, stands_on};
+ghost use Rattle.connection_text.specs.Standing.{told_call};
 
 use crate::connection::{Connection, place_of};
 use crate::stop::Stop;
 use crate::telling::write_line;
-use audit_text::{Holding, append_stands_line};
 use conn_core::Conn;
+use connection_text::append_standing;
 use mrpc_base::Sink;
 use mrpc_table::{Bytes, Memory};
 use script_text::MAX_CONNECTIONS;
 use std::alloc::Global;
-
-/// The name of the queue for transport.
-const TRANSPORT: &[u8] = b"-";
 
 /// Writes the lines of all calls that stand, by connection and number.
 pub(crate) fn tell_standing<K: Sink>(
@@ -65,34 +63,7 @@ fn line_of(alloc: Global, calls: &Conn<'_>, place: u32) -> Result<Bytes, Memory>
     ensures { (call : ℕ × ℕ) → slice_get calls.now.chain.row place ≡ Some call
         → IfOk result (λ line. line ≡ told_call calls.now.conn (course calls.now) call) }
 {
-    calls.is_connection();
     let mut line = Bytes::new(alloc);
-    if let Some((seq, position)) = calls.chain().standing(place) {
-        if position < calls.chain().engines() {
-            let name = calls.chain().engine(position).name().as_slice();
-            let held = holding(calls, place, position);
-            append_stands_line(&mut line, calls.number(), seq, position, name, held)?;
-        } else {
-            append_stands_line(&mut line, calls.number(), seq, position, TRANSPORT, None)?;
-        }
-    }
+    append_standing(&mut line, calls, place)?;
     Ok(line)
-}
-
-// At which level and cost the call at a place is held by the engine at its position, if it is the first there and held.
-fn holding(calls: &Conn<'_>, place: u32, position: u32) -> Option<Holding>
-    requires position { position < length calls.now.chain.engines }
-    ensures { (seq : ℕ) → slice_get calls.now.chain.row place ≡ Some (seq, position)
-        → result ≡ holding (course calls.now) (seq, position) }
-{
-    calls.is_connection();
-    let chain = calls.chain();
-    // Calls of smaller numbers stand at this position or behind it, and no others.
-    if place != chain.cut(position + 1) {
-        return None;
-    }
-    let Some((level, cost)) = chain.held(position) else {
-        return None;
-    };
-    Some(Holding { level, cost })
 }

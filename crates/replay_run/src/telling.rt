@@ -9,7 +9,7 @@ ghost use Rattle.replay_run.specs.Kept.{IsTold, TellsSome, untold};
 
 use crate::connection::Connection;
 use crate::stop::Stop;
-use audit_text::append_record;
+use connection_text::append_happened;
 use mrpc_base::{Sink, write_all};
 use mrpc_table::{Bytes, Table};
 use std::alloc::Global;
@@ -29,15 +29,13 @@ pub(crate) fn tell<K: Sink>(
     ensures not_wire { result ≢ Err Stop.Wire }
     ensures cause { HasCause (result ≡ Err Stop.Out) (K.faults out.old) (K.faults out.new) }
 {
-    connection.calls.is_connection();
-    let history = connection.calls.history();
-    let conn = connection.calls.number();
-    for place in connection.told..history.len() {
+    let count = connection.calls.history().len();
+    for place in connection.told..count {
         let mut line = Bytes::new(alloc);
-        append_record(alloc, &mut line, conn, history, place, table)?;
+        append_happened(alloc, &mut line, &connection.calls, place, table)?;
         write_line(out, line.as_slice())?;
     }
-    connection.told = history.len();
+    connection.told = count;
     Ok(())
 }
 

@@ -268,7 +268,7 @@ fn sink_of(rt: &impl Abort, alloc: Global, failing: u64) -> MemSink {
 }
 
 // A row's script is run, and writes what the row has.
-fn check(rt: &impl Abort, alloc: Global, row: &Row) {
+fn check_row(rt: &impl Abort, alloc: Global, row: &Row) {
     let text = text_of(rt, alloc, row.fields, row.lines);
     let script = read_script(alloc, text.as_slice()).expect(rt, "a script");
     let mut out = sink_of(rt, alloc, 0);
@@ -284,6 +284,35 @@ fn check(rt: &impl Abort, alloc: Global, row: &Row) {
 #[test]
 fn a_script_writes_what_follows_from_it(rt: HostRuntime) {
     for row in &ROWS {
-        check(&rt, rt.alloc(), row);
+        check_row(&rt, rt.alloc(), row);
     }
+}
+
+// One call more is submitted than may stand.
+#[test]
+fn the_call_past_the_most_is_turned_away(rt: HostRuntime) {
+    let alloc = rt.alloc();
+    let mut lines = Bytes::new(alloc);
+    let mut out = Bytes::new(alloc);
+    for _ in 0..65 {
+        lines.append(b"submit 1 0 2\n").expect(&rt, "memory");
+    }
+    lines.append(b"drain 1\n").expect(&rt, "memory");
+    for seq in 1..65 {
+        let took = format!(in alloc; "took 1 {seq} 0 0 2 0 1 copy -\n").expect(&rt, "memory");
+        out.append(took.as_bytes()).expect(&rt, "memory");
+    }
+    out.append(b"away 1 0 0 2\n").expect(&rt, "memory");
+    for seq in 1..65 {
+        let sent = format!(in alloc; "sent 1 {seq} 16\n").expect(&rt, "memory");
+        out.append(sent.as_bytes()).expect(&rt, "memory");
+    }
+    let text = text_of(&rt, alloc, b"field 1 plain uint64 a\n", lines.as_slice());
+    let script = read_script(alloc, text.as_slice()).expect(&rt, "a script");
+    let mut written = sink_of(&rt, alloc, 0);
+    let mut wire = sink_of(&rt, alloc, 0);
+    let ran = run_script(alloc, &script, &mut written, &mut wire);
+    assert!(&rt; ran.is_ok());
+    assert!(&rt; written.written() == out.as_slice());
+    assert!(&rt; wire.written().len() == 64 * 16);
 }

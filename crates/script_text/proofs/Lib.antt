@@ -14,4 +14,5 @@ mod Ranges
 mod Refusals
 mod Rows
 mod Soundness
+mod Stores
 mod TextLines

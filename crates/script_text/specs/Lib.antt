@@ -7,4 +7,5 @@ pub mod Lines
 pub mod Words
 pub mod Offences
 pub mod Stopping
+pub mod Stores
 pub mod Texts

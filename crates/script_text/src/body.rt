@@ -4,6 +4,7 @@ ghost use Rattle.std.specs.Prelude.{◌≡◌, ◌+◌, ◌*◌, ◌<◌, ◌≤
 ghost use Rattle.mrpc_table.specs.declared.limits.TheConstants.{MAX_HEAP, MAX_LOADS};
 ghost use Rattle.script_words.specs.Meanings.{meanings_of};
 ghost use Rattle.script_words.specs.Sorts.{IsIn, number_at};
+ghost use Rattle.script_text.specs.Stores.{store_words};
 ghost use Rattle.script_text.specs.Words.{IsSaid};
 ghost use Rattle.script_text.specs.Keeping.{words_kept, links_kept, heap_kept, place_kept, load_kept, work_kept, policy_kept, kind_at, conn_said, store_said, race_said, submit_said, attaching, attach_said, detaching, detach_said, upgrading, upgrade_said, turn_said, moment_said, send_said, drain_said, line_said, IsMade, IsFreshBody, CanAdd, connections_after, submissions_after};
 
@@ -11,6 +12,7 @@ use crate::chain::{Kind, Link};
 use crate::connections::Connections;
 use crate::limits::MAX_WORK;
 use crate::script::{Line, Lines};
+use crate::store::Store;
 use mrpc_table::{Decimal, Memory, Name};
 use policy_blocks::Declarations;
 use script_words::{Form, Said, ScriptReason, name_at, number_at, unbounded_at};
@@ -123,17 +125,29 @@ impl Body {
         }
     }
 
+    /// The line that stores a word, where the connection is open and its heap has the place.
+    #[tactic(auto, unfolding(crate::specs::Keeping::store_said))]
+    pub(crate) fn stored(&self, store: Store) -> Result<Line, ScriptReason>
+        requires { IsIn 1 16 store.conn }
+        ensures { result ≡ store_said self.now (store_words store) }
+    {
+        let heap = self.heap(store.conn)?;
+        let place = place_in(heap, store.place)?;
+        Ok(Line::Store {
+            conn: store.conn as u32,
+            place,
+            value: store.value,
+        })
+    }
+
     #[tactic(auto, unfolding(crate::specs::Keeping::store_said))]
     fn store(&self, words: &[Said<'_>]) -> Result<Line, ScriptReason>
         requires { IsIn 1 16 (number_at (meanings_of words.now) 1) }
         ensures { result ≡ store_said self.now (meanings_of words.now) }
     {
-        let conn = number_at(words, 1);
-        let heap = self.heap(conn)?;
-        let place = place_in(heap, unbounded_at(words, 2))?;
-        Ok(Line::Store {
-            conn: conn as u32,
-            place,
+        self.stored(Store {
+            conn: number_at(words, 1),
+            place: unbounded_at(words, 2),
             value: number_at(words, 3),
         })
     }

@@ -8,13 +8,16 @@ ghost use Rattle.policy_blocks.specs.Blocks.{is_skipped};
 ghost use Rattle.policy_blocks.specs.Items.{item_form, Declares};
 ghost use Rattle.script_words.specs.Meanings.{meanings_of};
 ghost use Rattle.script_words.specs.Forms.{form_in};
+ghost use Rattle.script_words.specs.declared.form.Form.TheVariants.{Store as StoreForm};
 ghost use Rattle.script_text.specs.Changes.{seen, IsKept, IsSaidBy, IsFlawOf, IsChange, IsSaidChange, IsLineFault, IsItemFault, IsStopOf};
+ghost use Rattle.script_text.specs.Stores.{store_words};
 ghost use Rattle.script_text.specs.Words.{IsSaid};
 ghost use Rattle.script_text.specs.declared.limits.TheConstants.{MAX_WORK};
 
 use crate::body::{Body, Flaw};
 use crate::laws::one_laws;
 use crate::script::Line;
+use crate::store::{Store, short_store};
 use memchr::memchr;
 use mrpc_table::Table;
 use policy_blocks::{Declarations, Item, ItemForm, ItemLines, read_item};
@@ -119,6 +122,30 @@ fn said(
     }
 }
 
+/// What a line says whose words say that a word is stored, or what stands against it.
+fn stored(
+    loads: u64,
+    declared: &Declarations,
+    body: &Body,
+    line: &[u8],
+    store: Store,
+) -> Result<Change, ScriptFault>
+    requires kept { IsKept loads declared.now body.now }
+    requires said { IsSaid StoreForm line.now (store_words store) }
+    ensures { MatchResult result (IsSaidChange loads (seen declared.now body.now) line.now)
+        (IsLineFault loads (seen declared.now body.now) line.now) }
+{
+    one_laws();
+    let made = match body.stored(store) {
+        Ok(made) => made,
+        Err(reason) => return Err(fault(reason)),
+    };
+    if body.closed {
+        return Err(fault(ScriptReason::After));
+    }
+    Ok(Change::Line(made))
+}
+
 /// The item that lines begin, and the text that is left behind it; behind `close`, its first line is at fault.
 fn item<'a>(
     alloc: Global,
@@ -173,6 +200,12 @@ pub(crate) fn first_change<'a>(
     };
     if is_skipped(line) {
         return Ok((Change::Nothing, behind));
+    }
+    if let Some(store) = short_store(line) {
+        return match stored(loads, declared, body, line, store) {
+            Ok(change) => Ok((change, behind)),
+            Err(fault) => Err(fault),
+        };
     }
     let Some(form) = form_of(line) else {
         return Err(fault(ScriptReason::Word));

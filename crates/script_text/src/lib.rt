@@ -18,6 +18,7 @@ mod laws;
 mod limits;
 mod read;
 mod script;
+mod store;
 
 pub use laws::one_script;
 pub use limits::{MAX_CONNECTIONS, MAX_WORK};

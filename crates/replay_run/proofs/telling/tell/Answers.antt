@@ -1,52 +1,48 @@
-use Rattle.std.proofs.Common.{◌≡◌, ◌≤◌, suc, List, drop, length, map, refl, sym, ◌∙◌, subst, Some, arith}
+use Rattle.std.proofs.Common.{ap, ◌≡◌, ◌≤◌, suc, List, drop, length, map, refl, sym, ◌∙◌, subst, Some, arith}
 use Rattle.std.specs.Prelude.{slice_get}
-use Rattle.audit_text.specs.Lines.{FitsTable, audit}
+use Rattle.audit_text.specs.Lines.{audit}
 use Rattle.call_history.specs.declared.happening.Happening.{Happening}
-use Rattle.conn_core.specs.Connections.{under}
 use Rattle.replay_run.specs.Follows.{on_connection}
 use Rattle.replay_run.specs.Kept.{untold}
-use Rattle.replay_run.proofs.Written.{TellsRest, after-none, happenings-fit, on-err, rest-begins, rest-some, some-none, there, told-all, told-one, told-some}
+use Rattle.replay_run.proofs.Written.{TellsRest, after-none, on-err, rest-begins, rest-some, some-none, there, told-all, told-one, told-some}
 use Rattle.replay_run.proofs.telling.tell.Goals as goal
 
 pub loop-place-init : goal.loop-place-init
 loop-place-init g c = record {
-  rest = subst (λ l. TellsRest (g.K.Sink.written c.args.out.now) (g.K.Sink.written c.args.out.now) l (untold c.args.table.now c.args.connection.now))
-      (λ i. audit c.args.table.now (map (on_connection (sym c.number-conn.ensures i)) (drop c.args.connection.now.told (sym c.history-history.ensures i))))
-      (rest-begins (g.K.Sink.written c.args.out.now) (untold c.args.table.now c.args.connection.now));
+  rest = rest-begins (g.K.Sink.written c.args.out.now) (untold c.args.table.now c.args.connection.now);
   faults = refl;
 }
 
-pub append_record-requires-clause-fits : goal.append_record-requires-clause-fits
-append_record-requires-clause-fits g c = λ what at. subst (λ T. FitsTable T what) c.requires.same
-    (happenings-fit (under c.args.connection.now.calls) c.args.connection.now.calls.happenings c.is_connection.ensures.is_course.legal.prefix c.loop-place.place what
-    (subst (λ (hs : List Happening). slice_get hs c.loop-place.place ≡ Some what) c.history-history.ensures at))
-
-pub returns-in_err-append_record-clause-front : goal.returns-in_err-append_record-clause-front
-returns-in_err-append_record-clause-front g c = on-err _ (rest-some (g.K.Sink.written c.args.out.now) (g.K.Sink.written c.loop-place.out) (g.K.Sink.written c.loop-place.out)
-    (audit c.args.table.now (map (on_connection c.number-conn.result) (drop c.loop-place.place c.history-history.result.now.happenings))) (untold c.args.table.now c.args.connection.now)
+pub returns-in_err-append_happened-clause-front : goal.returns-in_err-append_happened-clause-front
+returns-in_err-append_happened-clause-front g c = on-err _ (rest-some (g.K.Sink.written c.args.out.now) (g.K.Sink.written c.loop-place.out) (g.K.Sink.written c.loop-place.out)
+    (audit c.args.table.now (map (on_connection c.args.connection.now.calls.conn) (drop c.loop-place.place c.args.connection.now.calls.happenings))) (untold c.args.table.now c.args.connection.now)
     c.loop-place.invariant.rest (some-none (g.K.Sink.written c.loop-place.out) _))
 
 pub returns-in_err-write_line-clause-front : goal.returns-in_err-write_line-clause-front
 returns-in_err-write_line-clause-front g c =
-    let low : suc c.loop-place.place ≤ length c.history-history.result.now.happenings = omega arith in
-    let one : (what : Happening) × (slice_get c.history-history.result.now.happenings c.loop-place.place ≡ Some what) = there c.history-history.result.now.happenings c.loop-place.place low in
-    on-err _ (told-some c.args.table.now c.number-conn.result c.history-history.result.now.happenings (g.K.Sink.written c.args.out.now) (g.K.Sink.written c.loop-place.out)
+    let count : c.len-count.result ≡ length c.args.connection.now.calls.happenings = c.len-count.ensures ∙ ap length c.history.ensures in
+    let low : suc c.loop-place.place ≤ length c.args.connection.now.calls.happenings = omega arith in
+    let one : (what : Happening) × (slice_get c.args.connection.now.calls.happenings c.loop-place.place ≡ Some what) = there c.args.connection.now.calls.happenings c.loop-place.place low in
+    on-err _ (told-some c.args.table.now c.args.connection.now.calls.conn c.args.connection.now.calls.happenings (g.K.Sink.written c.args.out.now) (g.K.Sink.written c.loop-place.out)
     (untold c.args.table.now c.args.connection.now) (g.K.Sink.written c.write_line.new.out) c.loop-place.place one.0 c.as_slice.result.now c.loop-place.invariant.rest one.1
-    (after-none c.new-line.result c.append_record.new.out c.as_slice.result.now _ c.new-line.ensures (c.in_ok-append_record.ensures one.0 one.1) c.as_slice.ensures)
+    (after-none c.new-line.result c.append_happened.new.out c.as_slice.result.now _ c.new-line.ensures (c.in_ok-append_happened.ensures one.0 one.1) c.as_slice.ensures)
     (let some = c.in_err-write_line.ensures.front in (some.0, omega arith, some.2)))
 
 pub loop-place-preserved : goal.loop-place-preserved
 loop-place-preserved g c =
-    let low : suc c.loop-place.place ≤ length c.history-history.result.now.happenings = omega arith in
-    let one : (what : Happening) × (slice_get c.history-history.result.now.happenings c.loop-place.place ≡ Some what) = there c.history-history.result.now.happenings c.loop-place.place low in
+    let count : c.len-count.result ≡ length c.args.connection.now.calls.happenings = c.len-count.ensures ∙ ap length c.history.ensures in
+    let low : suc c.loop-place.place ≤ length c.args.connection.now.calls.happenings = omega arith in
+    let one : (what : Happening) × (slice_get c.args.connection.now.calls.happenings c.loop-place.place ≡ Some what) = there c.args.connection.now.calls.happenings c.loop-place.place low in
     record {
-      rest = told-one c.args.table.now c.number-conn.result c.history-history.result.now.happenings (g.K.Sink.written c.args.out.now) (g.K.Sink.written c.loop-place.out)
+      rest = told-one c.args.table.now c.args.connection.now.calls.conn c.args.connection.now.calls.happenings (g.K.Sink.written c.args.out.now) (g.K.Sink.written c.loop-place.out)
           (untold c.args.table.now c.args.connection.now) (g.K.Sink.written c.write_line.new.out) c.loop-place.place _ one.0 c.as_slice.result.now c.loop-place.invariant.rest one.1
-          (after-none c.new-line.result c.append_record.new.out c.as_slice.result.now _ c.new-line.ensures (c.in_ok-append_record.ensures one.0 one.1) c.as_slice.ensures)
+          (after-none c.new-line.result c.append_happened.new.out c.as_slice.result.now _ c.new-line.ensures (c.in_ok-append_happened.ensures one.0 one.1) c.as_slice.ensures)
           (omega arith) c.in_ok-write_line.ensures.written;
       faults = c.in_ok-write_line.ensures.cause.stays (λ e. cc) ∙ c.loop-place.invariant.faults;
     }
 
 pub returns-clause-lines : goal.returns-clause-lines
-returns-clause-lines g c = told-all c.args.table.now c.number-conn.result c.history-history.result.now.happenings (g.K.Sink.written c.args.out.now) (g.K.Sink.written c.loop-place.out)
+returns-clause-lines g c =
+    let count : c.len-count.result ≡ length c.args.connection.now.calls.happenings = c.len-count.ensures ∙ ap length c.history.ensures in
+    told-all c.args.table.now c.args.connection.now.calls.conn c.args.connection.now.calls.happenings (g.K.Sink.written c.args.out.now) (g.K.Sink.written c.loop-place.out)
     (untold c.args.table.now c.args.connection.now) c.loop-place.place c.loop-place.invariant.rest (omega arith)

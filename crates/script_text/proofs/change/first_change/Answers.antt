@@ -32,17 +32,31 @@ pub returns-in-Ok : goal.returns-in-Ok
 returns-in-Ok c =
     let text = c.args.text.now in
     let b = seen c.args.declared.now c.args.body.now in
-    let line = c.in-Some.line.now in
-    let before = cut_is text line c.in-Some.behind.now c.in-Some.ensures.parts in
-    item_change c.one_laws.ensures c.args.loads c.args.table.now b text line c.in-Some.behind.now c.in-Ok.left.now c.in-Some-of_form.form c.in-Ok.item before (item_of (words_of line) c.in-Some-form_of.form (sym c.form_of.ensures ∙ c.in-Some-form_of.is) ∙ sym c.of_form.ensures ∙ c.in-Some-of_form.is) c.in-Ok.ensures.0 c.in-Ok.ensures.1
+    let before = cut_is text c.in-Some.line.now c.in-Some.behind.now c.in-Some.ensures.parts in
+    said_change c.one_laws.ensures c.args.loads c.args.table.now b text c.in-Some.line.now c.in-Some.behind.now c.in-Ok.change before c.in-Ok.ensures
 
 pub returns-in-Err : goal.returns-in-Err
 returns-in-Err c =
     let text = c.args.text.now in
     let b = seen c.args.declared.now c.args.body.now in
+    let before = cut_is text c.in-Some.line.now c.in-Some.behind.now c.in-Some.ensures.parts in
+    line_stop c.one_laws.ensures c.args.loads c.args.table.now b text c.in-Some.line.now c.in-Some.behind.now c.in-Err.fault before c.in-Err.ensures
+
+pub returns-in-Ok-item : goal.returns-in-Ok-item
+returns-in-Ok-item c =
+    let text = c.args.text.now in
+    let b = seen c.args.declared.now c.args.body.now in
     let line = c.in-Some.line.now in
     let before = cut_is text line c.in-Some.behind.now c.in-Some.ensures.parts in
-    item_stop c.one_laws.ensures c.args.loads c.args.table.now b text line c.in-Some.behind.now c.in-Some-of_form.form c.in-Err.fault before (item_of (words_of line) c.in-Some-form_of.form (sym c.form_of.ensures ∙ c.in-Some-form_of.is) ∙ sym c.of_form.ensures ∙ c.in-Some-of_form.is) c.in-Err.ensures
+    item_change c.one_laws.ensures c.args.loads c.args.table.now b text line c.in-Some.behind.now c.in-Ok-item.left.now c.in-Some-of_form.form c.in-Ok-item.item before (item_of (words_of line) c.in-Some-form_of.form (sym c.form_of.ensures ∙ c.in-Some-form_of.is) ∙ sym c.of_form.ensures ∙ c.in-Some-of_form.is) c.in-Ok-item.ensures.0 c.in-Ok-item.ensures.1
+
+pub returns-in-Err-item : goal.returns-in-Err-item
+returns-in-Err-item c =
+    let text = c.args.text.now in
+    let b = seen c.args.declared.now c.args.body.now in
+    let line = c.in-Some.line.now in
+    let before = cut_is text line c.in-Some.behind.now c.in-Some.ensures.parts in
+    item_stop c.one_laws.ensures c.args.loads c.args.table.now b text line c.in-Some.behind.now c.in-Some-of_form.form c.in-Err-item.fault before (item_of (words_of line) c.in-Some-form_of.form (sym c.form_of.ensures ∙ c.in-Some-form_of.is) ∙ sym c.of_form.ensures ∙ c.in-Some-of_form.is) c.in-Err-item.ensures
 
 pub returns-in-Ok-said : goal.returns-in-Ok-said
 returns-in-Ok-said c =

@@ -1,7 +1,7 @@
 use Rattle.std.proofs.Common.{◌≡◌, ◌∙◌, ap, sym}
 use Rattle.chain_upgrade.specs.Chains.{ChainParts}
-use Rattle.replay_run.proofs.Held.{behind_of, held-none, held-not, held-some}
-use Rattle.replay_run.proofs.standing.holding.Goals as goal
+use Rattle.connection_text.proofs.Held.{behind_of, held-none, held-not, held-some}
+use Rattle.connection_text.proofs.standing.holding.Goals as goal
 
 pub returns-then-place-cut : goal.returns-then-place-cut
 returns-then-place-cut c = λ seq is.

@@ -18,8 +18,13 @@ use Rattle.engine_core.specs.declared.policy.Policy.TheVariants.{Access, Count, 
 use Rattle.chain_upgrade.specs.Chains.{ChainParts, IsAbove, IsAscending, IsFallingFrom, numbers_of}
 use Rattle.call_history.specs.Behind.{level, noted}
 use Rattle.conn_core.specs.Connections.{Connection as Calls, IsConnection, behind, course}
-use Rattle.replay_run.specs.Stands.{entry_at, held_at, held_below, held_by, holding, is_first}
-use Rattle.replay_run.proofs.Written.{there}
+use Rattle.connection_text.specs.Standing.{entry_at, held_at, held_below, held_by, holding, is_first}
+
+-- an element stands at each place
+there : {A : Type 0} (xs : List A) (place : ℕ) → suc place ≤ length xs → (x : A) × (slice_get xs place ≡ Some x)
+there [] place low = absurd (omega arith)
+there (x ∷ xs) zero low = (x, refl)
+there (x ∷ xs) (suc place) low = there xs place (omega arith)
 
 -- ---- what an entry answers
 

@@ -1,0 +1,20 @@
+use Rattle.std.proofs.Common.{◌≡◌, ℕ, List, [], ◌∷◌, ◌++◌, refl, ap, ◌∙◌, arith, append_assoc, map}
+use Rattle.std.specs.List.{flat_map}
+use Rattle.std.proofs.lemmas.Grind.{common_steps}
+use Rattle.std.specs.Fmt.{decimal}
+use Rattle.arrival_text.specs.Pieces.{behind_spaces}
+use Rattle.arrival_text.proofs.pieces.begin.Goals as goal
+
+-- numbers, each behind a space
+numbers-spaced : (ns : List ℕ) → flat_map (λ n. 32 ∷ decimal n) ns ≡ behind_spaces (map decimal ns)
+numbers-spaced [] = refl
+numbers-spaced (n ∷ ns) = ap (λ l. 32 ∷ decimal n ++ l) (numbers-spaced ns)
+
+pub returns : goal.returns
+returns c =
+    let out = c.args.out.now in
+    let numbers = c.args.numbers.now in
+    let front = c.args.front.now in
+    let pieces = flat_map (λ n. 32 ∷ decimal n) numbers in
+    let made : c.loop-number.out ≡ (out ++ front) ++ pieces = grind (arith, common_steps) in
+    made ∙ append_assoc out front pieces ∙ ap (λ l. out ++ (front ++ l)) (numbers-spaced numbers)

@@ -1,0 +1,72 @@
+//! The lines of what is left at the end of a run.
+
+ghost use Rattle.std.specs.Prelude.{◌≡◌, ◌≢◌, ◌++◌, OnOk};
+ghost use Rattle.mrpc_table.specs.Text.{line};
+ghost use Rattle.arrival_text.specs.Lines.{cut_words, fault_words, not_held_words, short_words, waits_words};
+ghost use Rattle.arrival_text.specs.Pieces.{behind_spaces};
+
+use crate::pieces::{append_place, append_text, begin};
+use frame_transport::FeedFault;
+use mrpc_table::{Bytes, Memory};
+
+/// Appends `notheld CONN BLOCK`: a block that the connection doesn't hold was given back. The only error is `Memory`.
+pub fn append_not_held(out: &mut Bytes, conn: u32, block: u64) -> Result<(), Memory>
+    ensures { OnOk result (out.new ≡ out.old ++ line (not_held_words conn block)) }
+{
+    begin(out, b"notheld", &[u64::from(conn), block])?;
+    out.push(b'\n')
+}
+
+/// Appends `cut CONN PLACE REASON`: the stream has a frame fault, whose place counts from the first byte that the link
+/// gave. The only error is `Memory`.
+pub fn append_cut(out: &mut Bytes, conn: u32, fault: FeedFault) -> Result<(), Memory>
+    requires { fault ≢ FeedFault.Memory }
+    ensures { OnOk result (out.new ≡ out.old ++ line (cut_words conn fault)) }
+{
+    begin(out, b"cut", &[u64::from(conn)])?;
+    append_fault(out, fault)?;
+    out.push(b'\n')
+}
+
+/// Appends `cut CONN PLACE Short`: the stream ended inside the frame that begins at this place. The only error is
+/// `Memory`.
+pub fn append_short(out: &mut Bytes, conn: u32, place: u64) -> Result<(), Memory>
+    ensures { OnOk result (out.new ≡ out.old ++ line (short_words conn place)) }
+{
+    begin(out, b"cut", &[u64::from(conn), place])?;
+    append_text(out, b"Short")?;
+    out.push(b'\n')
+}
+
+/// Appends `waits CONN KIND METHOD NUMBER`: a whole frame had no fate. The only error is `Memory`.
+pub fn append_waits(
+    out: &mut Bytes,
+    conn: u32,
+    kind: u8,
+    method: u16,
+    number: u32,
+) -> Result<(), Memory>
+    ensures { OnOk result (out.new ≡ out.old ++ line (waits_words conn kind method number)) }
+{
+    let numbers = [
+        u64::from(conn),
+        u64::from(kind),
+        u64::from(method),
+        u64::from(number),
+    ];
+    begin(out, b"waits", &numbers)?;
+    out.push(b'\n')
+}
+
+// The place of a frame fault and its word, as further words.
+pub(crate) fn append_fault(out: &mut Bytes, fault: FeedFault) -> Result<(), Memory>
+    requires { fault ≢ FeedFault.Memory }
+    ensures { OnOk result (out.new ≡ out.old ++ behind_spaces (fault_words fault)) }
+{
+    match fault {
+        FeedFault::Version { place, .. } => append_place(out, place, b"Version"),
+        FeedFault::Kind { place, .. } => append_place(out, place, b"Kind"),
+        FeedFault::TooLong { place, .. } => append_place(out, place, b"TooLong"),
+        FeedFault::Memory => unreachable!(),
+    }
+}

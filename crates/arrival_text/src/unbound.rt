@@ -1,0 +1,97 @@
+//! The line of a connection that wasn't bound.
+
+ghost use Rattle.std.specs.Prelude.{◌≡◌, ◌≢◌, [], ◌∷◌, ◌++◌, OnOk, Option};
+ghost use Rattle.std.specs.Fmt.{decimal};
+ghost use Rattle.mrpc_table.specs.Text.{line};
+ghost use Rattle.link_greeting.specs.Greeting.{SaysWhy};
+ghost use Rattle.arrival_text.specs.Lines.{byte_word, disagreement_words, flag_word, reason_words, unbound_words};
+ghost use Rattle.arrival_text.specs.Pieces.{behind_spaces};
+
+use crate::pieces::{append_text, begin};
+use crate::rest::append_fault;
+use link_greeting::Unbound;
+use mrpc_table::{Bytes, Memory};
+use schema_binding::AgreeFault;
+
+/// Appends `unbound CONN REASON`, where REASON is `transport`, `ended`, `cut PLACE REASON`, `hello LINE`,
+/// `service OURS THEIRS`, `mismatch BYTE OURS THEIRS`, `methods AT` or `field MESSAGE NUMBER`. The only error is
+/// `Memory`.
+pub fn append_unbound(out: &mut Bytes, conn: u32, why: &Unbound) -> Result<(), Memory>
+    requires { SaysWhy why.now }
+    ensures { OnOk result (out.new ≡ out.old ++ line (unbound_words conn why.now)) }
+{
+    begin(out, b"unbound", &[u64::from(conn)])?;
+    append_reason(out, why)?;
+    out.push(b'\n')
+}
+
+// Why a connection isn't bound, as further words.
+fn append_reason(out: &mut Bytes, why: &Unbound) -> Result<(), Memory>
+    requires { SaysWhy why.now }
+    ensures { OnOk result (out.new ≡ out.old ++ behind_spaces (reason_words why.now)) }
+{
+    match why {
+        Unbound::Transport => begin(out, b" transport", &[]),
+        Unbound::Ended => begin(out, b" ended", &[]),
+        Unbound::Cut(fault) => {
+            append_text(out, b"cut")?;
+            append_fault(out, *fault)
+        }
+        Unbound::Hello { line } => begin(out, b" hello", &[*line]),
+        Unbound::Disagrees(fault) => append_disagreement(out, fault),
+    }
+}
+
+// Why two tables don't agree, as further words.
+fn append_disagreement(out: &mut Bytes, fault: &AgreeFault) -> Result<(), Memory>
+    requires { fault.now ≢ AgreeFault.Memory }
+    ensures { OnOk result (out.new ≡ out.old ++ behind_spaces (disagreement_words fault.now)) }
+{
+    match fault {
+        AgreeFault::NoService { ours, theirs } => {
+            begin(out, b" service", &[digit(*ours), digit(*theirs)])
+        }
+        AgreeFault::Mismatch { byte, ours, theirs } => {
+            begin(out, b" mismatch", &[*byte])?;
+            append_bytes(out, *ours, *theirs)
+        }
+        AgreeFault::Methods { at } => begin(out, b" methods", &[u64::from(*at)]),
+        AgreeFault::Field { message, number } => {
+            append_text(out, b"field")?;
+            begin_field(out, message.as_slice(), *number)
+        }
+        AgreeFault::Memory => unreachable!(),
+    }
+}
+
+// The name of a message and the number of its field, as further words.
+fn begin_field(out: &mut Bytes, message: &[u8], number: u32) -> Result<(), Memory>
+    ensures { OnOk result (out.new ≡ out.old ++ behind_spaces (message.now ∷ decimal number ∷ [])) }
+{
+    append_text(out, message)?;
+    out.append_word(u64::from(number))
+}
+
+// 1 for a flag that is set, else 0.
+fn digit(flag: bool) -> u64
+    ensures { decimal result ≡ flag_word flag }
+{
+    if flag { 1 } else { 0 }
+}
+
+// A byte of each of two texts, as further words.
+fn append_bytes(out: &mut Bytes, ours: Option<u8>, theirs: Option<u8>) -> Result<(), Memory>
+    ensures { OnOk result (out.new ≡ out.old ++ behind_spaces (byte_word ours ∷ byte_word theirs ∷ [])) }
+{
+    append_byte(out, ours)?;
+    append_byte(out, theirs)
+}
+
+fn append_byte(out: &mut Bytes, byte: Option<u8>) -> Result<(), Memory>
+    ensures { OnOk result (out.new ≡ out.old ++ 32 ∷ byte_word byte) }
+{
+    match byte {
+        None => append_text(out, b"-"),
+        Some(byte) => out.append_word(u64::from(byte)),
+    }
+}

@@ -1,0 +1,50 @@
+-- How a call that stands is told (this project's own).
+use Rattle.std.specs.Prelude.{ℕ, ◌==◌, ◌&&◌, nat_lt, Bool, false, List, slice_get, Option, Some, None, option_map, unwrap_or, if◌then◌else◌}
+use Rattle.std.specs.List.{flat_map}
+use Rattle.std.specs.Option.{option_and_then, option_map_or}
+use Rattle.policy_rate.specs.declared.rate.Rate.{Rate as RatePolicy}
+use Rattle.engine_core.specs.Answers.{Past, nothing}
+use Rattle.engine_core.specs.Chains.{Entry}
+use Rattle.engine_core.specs.Moves.{first_at}
+use Rattle.engine_core.specs.declared.policy.Policy.{Policy}
+use Rattle.engine_core.specs.declared.policy.Policy.TheVariants.{Rate}
+use Rattle.call_history.specs.Behind.{chain, level, noted}
+use Rattle.call_history.specs.Events.{Course}
+use Rattle.audit_text.specs.Lines.{stands_line, transport}
+use Rattle.audit_text.specs.declared.holding.Holding.{Holding}
+
+-- A call of which an entry has noted nothing is held by one that charges calls and holds those that it can't charge,
+-- where the level is below the cost.
+abbrev pub held_below : RatePolicy → (level : ℕ) → Option Holding
+held_below rate level =
+    if rate.hold && nat_lt level rate.per then Some (record { level = level; cost = rate.per }) else None
+
+abbrev pub held_by : Policy → (level : ℕ) → Past → Option Holding
+held_by (Rate rate) level nothing = held_below rate level
+held_by _ level past = None
+
+-- the call is the first at its position
+abbrev pub is_first : Course → ℕ × ℕ → Bool
+is_first c call = option_map_or (λ first. first.0 == call.0) (first_at call.1 c.row) false
+
+abbrev pub entry_at : Course → (position : ℕ) → Option Entry
+entry_at c position = slice_get (chain c.past).entries position
+
+-- the name of the queue at a position: that of its engine, or of transport behind the last
+abbrev pub queue_name : Course → (position : ℕ) → List ℕ
+queue_name c position = unwrap_or (option_map (λ e. e.name) (entry_at c position)) transport
+
+abbrev pub held_at : Course → ℕ × ℕ → Entry → Option Holding
+held_at c call e = held_by e.policy (level e.name c.past) (noted e.name call.0 c.past)
+
+-- at which level and cost a call is held, if it is
+abbrev pub holding : Course → ℕ × ℕ → Option Holding
+holding c call = if is_first c call then option_and_then (held_at c call) (entry_at c call.1) else None
+
+-- the line of a call that stands, a number and a position
+abbrev pub told_call : (conn : ℕ) → Course → ℕ × ℕ → List ℕ
+told_call conn c call = stands_line conn call.0 call.1 (queue_name c call.1) (holding c call)
+
+-- the lines of the calls that stand on a connection, by ascending number of the call
+abbrev pub all_told : (conn : ℕ) → Course → List ℕ
+all_told conn c = flat_map (told_call conn c) c.row

@@ -1,0 +1,28 @@
+ghost use Rattle.std.specs.Prelude.{◌≡◌, ◌<◌, ◌++◌, OnOk, Some, length, slice_get};
+ghost use Rattle.mrpc_table.specs.Valid.{IsValid};
+ghost use Rattle.audit_text.specs.Lines.{audit_line};
+ghost use Rattle.call_history.specs.declared.happening.Happening.{Happening as TheHappening};
+
+use audit_text::append_record;
+use conn_core::Conn;
+use mrpc_table::{Bytes, Memory, Table};
+use std::alloc::Global;
+
+/// Appends the line of what happened on a connection at a place of its history, under the connection's table. The only
+/// error is `Memory`.
+pub fn append_happened(
+    alloc: Global,
+    out: &mut Bytes,
+    calls: &Conn<'_>,
+    place: usize,
+    table: &Table,
+) -> Result<(), Memory>
+    requires valid { IsValid table.now }
+    requires same { calls.now.table ≡ table.now }
+    requires there { place < length calls.now.happenings }
+    ensures { (what : TheHappening) → slice_get calls.now.happenings place ≡ Some what
+        → OnOk result (out.new ≡ out.old ++ audit_line table.now (record { conn = calls.now.conn; what = what })) }
+{
+    calls.is_connection();
+    append_record(alloc, out, calls.number(), calls.history(), place, table)
+}

@@ -1,0 +1,47 @@
+ghost use Rattle.std.specs.Prelude.{◌≡◌, ◌<◌, ◌++◌, ℕ, OnOk, Some, length, slice_get};
+ghost use Rattle.conn_core.specs.Connections.{course};
+ghost use Rattle.connection_text.specs.Standing.{holding, told_call};
+
+use audit_text::{Holding, append_stands_line};
+use conn_core::Conn;
+use mrpc_table::{Bytes, Memory};
+
+/// The name of the queue for transport.
+const TRANSPORT: &[u8] = b"-";
+
+/// Appends the line of the call at a place among those that stand, by ascending number, from 0. The only error is
+/// `Memory`.
+pub fn append_standing(out: &mut Bytes, calls: &Conn<'_>, place: u32) -> Result<(), Memory>
+    requires { place < length calls.now.chain.row }
+    ensures { (call : ℕ × ℕ) → slice_get calls.now.chain.row place ≡ Some call
+        → OnOk result (out.new ≡ out.old ++ told_call calls.now.conn (course calls.now) call) }
+{
+    calls.is_connection();
+    let Some((seq, position)) = calls.chain().standing(place) else {
+        unreachable!()
+    };
+    if position < calls.chain().engines() {
+        let name = calls.chain().engine(position).name().as_slice();
+        let held = holding(calls, place, position);
+        return append_stands_line(out, calls.number(), seq, position, name, held);
+    }
+    append_stands_line(out, calls.number(), seq, position, TRANSPORT, None)
+}
+
+// At which level and cost the call at a place is held by the engine at its position, if it is the first there and held.
+fn holding(calls: &Conn<'_>, place: u32, position: u32) -> Option<Holding>
+    requires position { position < length calls.now.chain.engines }
+    ensures { (seq : ℕ) → slice_get calls.now.chain.row place ≡ Some (seq, position)
+        → result ≡ holding (course calls.now) (seq, position) }
+{
+    calls.is_connection();
+    let chain = calls.chain();
+    // Calls of smaller numbers stand at this position or behind it, and no others.
+    if place != chain.cut(position + 1) {
+        return None;
+    }
+    let Some((level, cost)) = chain.held(position) else {
+        return None;
+    };
+    Some(Holding { level, cost })
+}

@@ -1,0 +1,13 @@
+mod Asking
+mod Declaring
+mod Distinct
+mod FirstReason
+mod Listing
+mod Lists
+mod Naming
+mod OnePolicy
+mod Owned
+mod Reentering
+mod Rereading
+mod Sound
+mod Using

@@ -1,0 +1,38 @@
+-- The policies that are named, by their places, and how they are read under a table of their own.
+use Rattle.std.specs.Prelude.{◌≡◌, ◌↔◌, ℕ, ◌<◌, List, map, All, Contains, Some}
+use Rattle.mrpc_table.specs.Names.{IsName}
+use Rattle.mrpc_table.specs.Valid.{Ascends}
+use Rattle.mrpc_table.specs.declared.policy_lines.RuleReason.{RuleReason}
+use Rattle.mrpc_table.specs.declared.table.Table.{Table}
+use Rattle.run_plan.specs.declared.application.OwnPolicy.{OwnPolicy}
+use Rattle.toml.specs.Data.{Members}
+use Rattle.scenario.specs.Applications.{FailsUnderOwn}
+use Rattle.scenario.specs.Policies.{names_of}
+use Rattle.scenario.specs.Reasons.{of_rule}
+use Rattle.scenario.specs.Scenarios.{OwnPolicySays, place_of}
+use Rattle.scenario.specs.declared.fault.ScenarioReason.{ScenarioReason}
+use Rattle.scenario.specs.declared.fault.ScenarioReason.TheVariants.{Name, Unknown}
+
+-- ---- names of policies
+
+-- a reason stands against names of policies
+pub data NamesAgainst (policies : List Members) (names : List (List ℕ)) (reason : ScenarioReason) : Type 0 where
+  no_name : (name : List ℕ) → Contains names name → (IsName name → ⊥) → reason ≡ Name → NamesAgainst policies names reason
+  no_policy : (name : List ℕ) → Contains names name → (Contains (names_of policies) name → ⊥) → reason ≡ Unknown
+      → NamesAgainst policies names reason
+
+-- ---- policies under a table of an application's own
+
+-- the lines of a policy that is named fail under the application's own schema, and this is why
+abbrev pub NamedFails : (all app : Members) → (List ℕ → Type 0) → ScenarioReason → Type 0
+NamedFails all app IsNamed reason = (why : RuleReason) × FailsUnderOwn all app IsNamed why × (reason ≡ of_rule why)
+
+-- the policy at a place has one of the names
+abbrev pub IsNamed : Members → List (List ℕ) → ℕ → Type 0
+IsNamed all names place = (name : List ℕ) × Contains names name × (place_of all name ≡ Some place)
+
+-- the policies that have one of the names, each as its entry says it under an own table
+pub record AreOwn (all : Members) (own : Table) (names : List (List ℕ)) (read : List OwnPolicy) : Type 0 where
+  pub used : (place : ℕ) → Contains (map (λ p. p.place) read) place ↔ IsNamed all names place
+  pub ascend : Ascends (λ p q. p.place < q.place) read
+  pub policies : All (OwnPolicySays all own) read

@@ -1,0 +1,19 @@
+-- The code's own: what a `store` line with short numbers says.
+use Rattle.std.specs.Prelude.{◌≡◌, ℕ, ◌^◌, ◌<◌, true, List, [], ◌∷◌, ◌++◌}
+use Rattle.std.specs.Char.{is_ascii_digit}
+use Rattle.std.specs.List.{list_all}
+use Rattle.script_words.specs.Sorts.{Meaning, word, number, unbounded}
+use Rattle.script_words.specs.Values.{IsNumber}
+use Rattle.script_words.specs.declared.keyword.Keyword.TheVariants as keyword
+use Rattle.script_text.specs.declared.store.Store.{Store}
+
+abbrev pub store_words : Store → List Meaning
+store_words s = word keyword.Store ∷ number s.conn ∷ unbounded s.place ∷ number s.value ∷ []
+
+-- digits that spell a number of 64 bits, and what stands behind them
+pub record IsNumberBefore (text : List ℕ) (n : ℕ) (rest : List ℕ) : Type 0 where
+  pub digits : List ℕ
+  pub parts : text ≡ digits ++ rest
+  pub are_digits : list_all is_ascii_digit digits ≡ true
+  pub spells : IsNumber digits n
+  pub small : n < 2 ^ 64

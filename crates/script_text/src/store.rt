@@ -1,0 +1,93 @@
+//! Lines that store a word, read in one pass over their bytes: nearly all lines of a long script are such.
+
+ghost use Rattle.std.specs.Prelude.{◌≡◌, ◌∷◌, true, IfSome};
+ghost use Rattle.std.specs.Char.{is_ascii_digit};
+ghost use Rattle.std.specs.List.{list_all};
+ghost use Rattle.mrpc_table.specs.Lines.{is_decimal};
+ghost use Rattle.script_words.specs.declared.form.Form.TheVariants.{Store as StoreForm};
+ghost use Rattle.script_text.specs.Stores.{store_words, IsNumberBefore};
+ghost use Rattle.script_text.specs.Words.{IsSaid};
+
+use mrpc_table::Decimal;
+
+/// So many digits spell a number of 64 bits, whichever they are.
+const FEW_DIGITS: usize = 19;
+
+/// What the words of a `store` line say.
+#[derive(Clone, Copy)]
+pub(crate) struct Store {
+    pub conn: u64,
+    pub place: Decimal,
+    pub value: u64,
+}
+
+/// The number that the first digits of a text spell, and what stands behind them; none where a text doesn't begin with
+/// a number. Of more digits than surely fit, the last ones are left.
+fn front_number(text: &[u8]) -> Option<(u64, &[u8])>
+    ensures { IfSome result (λ r. IsNumberBefore text.now r.0 r.1.now) }
+{
+    let most = text.len().min(FEW_DIGITS);
+    let mut number: u64 = 0;
+    let mut count = 0;
+    while count < most && text[count].is_ascii_digit() {
+        number = number * 10 + u64::from(text[count] - b'0');
+        count += 1;
+    }
+    if !is_number(&text[..count]) {
+        return None;
+    }
+    Some((number, &text[count..]))
+}
+
+/// Whether digits are a number: there are some, and no zero stands in front of others.
+fn is_number(digits: &[u8]) -> bool
+    requires { list_all is_ascii_digit digits.now ≡ true }
+    ensures { result ≡ is_decimal digits.now }
+{
+    match digits {
+        [] => false,
+        [first, others @ ..] => *first != b'0' || others.is_empty(),
+    }
+}
+
+/// What stands behind the space with which a text begins.
+fn behind_space(text: &[u8]) -> Option<&[u8]>
+    ensures { IfSome result (λ r. text.now ≡ 32 ∷ r.now) }
+{
+    match text {
+        [b' ', rest @ ..] => Some(rest),
+        _ => None,
+    }
+}
+
+/// What stands behind the first word of a `store` line.
+fn behind_store(line: &[u8]) -> Option<&[u8]>
+    ensures { IfSome result (λ r. line.now ≡ 115 ∷ 116 ∷ 111 ∷ 114 ∷ 101 ∷ 32 ∷ r.now) }
+{
+    match line {
+        [b's', b't', b'o', b'r', b'e', b' ', rest @ ..] => Some(rest),
+        _ => None,
+    }
+}
+
+/// What a `store` line says whose numbers are decimal, and short. None for each other line, which is to be read word by
+/// word.
+pub(crate) fn short_store(line: &[u8]) -> Option<Store>
+    ensures { IfSome result (λ s. IsSaid StoreForm line.now (store_words s)) }
+{
+    let words = behind_store(line)?;
+    let (conn, behind) = front_number(words)?;
+    if conn < 1 || conn > 16 {
+        return None;
+    }
+    let (place, behind) = front_number(behind_space(behind)?)?;
+    let (value, behind) = front_number(behind_space(behind)?)?;
+    if !behind.is_empty() {
+        return None;
+    }
+    Some(Store {
+        conn,
+        place: Decimal::Small(place),
+        value,
+    })
+}
