@@ -37,17 +37,17 @@ pub(crate) fn open_ports(alloc: Global) -> Result<Wired, AllocError>
     let (client_writer, stored) = shared_heap::open(alloc, WORDS)?;
     let (echo_writer, placed) = shared_heap::open(alloc, WORDS)?;
     let (writer, delivered) = shared_heap::open(alloc, WORDS)?;
-    let (client_blocks, no_blocks) = descriptor_ring::open_numbers(alloc, CAPACITY)?;
-    let (echo_blocks, none_either) = descriptor_ring::open_numbers(alloc, CAPACITY)?;
+    let (client_blocks, client_numbers) = descriptor_ring::open_numbers(alloc, CAPACITY)?;
+    let (echo_blocks, echo_numbers) = descriptor_ring::open_numbers(alloc, CAPACITY)?;
     let (client_port, client) = open_port(
         alloc,
         client_writer,
         &stored,
         delivered,
-        no_blocks,
+        client_numbers,
         &stop,
     )?;
-    let (echo_port, echo) = open_port(alloc, echo_writer, &placed, stored, none_either, &stop)?;
+    let (echo_port, echo) = open_port(alloc, echo_writer, &placed, stored, echo_numbers, &stop)?;
     Ok(Wired {
         client: client_port,
         echo: echo_port,
