@@ -1,6 +1,6 @@
 use Rattle.std.proofs.Common.{[], ◌∙◌, sym, ap, map}
 use Rattle.descriptor_ring.specs.declared.descriptor.Descriptor.{Descriptor}
-use Rattle.app_tests.proofs.port.open_port.Goals as goal
+use Rattle.app_tests.proofs.port.open_sized_port.Goals as goal
 
 pub returns-clause-taking : goal.returns-clause-taking
 returns-clause-taking g c =
