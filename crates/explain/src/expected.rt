@@ -5,8 +5,8 @@ use mrpc_table::{Bytes, Memory};
 use proto_schema::{ProtoFault, read_proto};
 use std::alloc::Global;
 
-/// How long the text in front of a token is, at the most, where it is tried what could stand there. It is read again for
-/// each token that is tried.
+/// How long the text in front of a token is, at the most, where it is tried what could stand there. It is read again
+/// for each token that is tried.
 const LONGEST: usize = 0x10_0000;
 
 /// Names, numbers, strings and marks that are tried, and then words, which are tried where not every name can stand.

@@ -2,8 +2,8 @@
 //! is at fault.
 //!
 //! [`explained`] takes the input of a command and the line `fault ..` that the command wrote. It asks the readers of
-//! the input for the place, and for what could stand there or what stands against it. It stands on these readers, and on
-//! `line_mark`, whose contract says what is shown of a place. The program uses one contract: what is said is a plain
+//! the input for the place, and for what could stand there or what stands against it. It stands on these readers, and
+//! on `line_mark`, whose contract says what is shown of a place. The program uses one contract: what is said is a plain
 //! sentence, or points at a place of the input with it (`specs/Said.antt`). The sentences are tested.
 #![tactic(auto)]
 

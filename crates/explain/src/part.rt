@@ -41,8 +41,8 @@ impl<'a> Part<'a> {
         width: usize,
         out: &mut Bytes,
     ) -> Result<(), Memory>
-        ensures { OnOk result ((shown : List ℕ) × IsPointed self.now.text.now self.now.start self.now.end width sentence.now
-            shown × (out.new ≡ out.old ++ shown)) }
+        ensures { OnOk result ((shown : List ℕ) × IsPointed self.now.text.now self.now.start self.now.end width
+            sentence.now shown × (out.new ≡ out.old ++ shown)) }
     {
         point(alloc, self.text, self.start, self.end, sentence, width, out)
     }

@@ -57,7 +57,8 @@ impl<S: Source + Drop> Source for KeptSource<S> {
     fn read(&mut self, buf: &mut [u8]) -> Got
         requires room { 0 < length buf.old }
         ensures count { OnBytes result (λ n. (0 < n) × (n ≤ length buf.old)) }
-        ensures next { OnBytes result (λ n. Consumes (S.left self.old.source) (S.left self.new.source) (take n buf.new)) }
+        ensures next { OnBytes result (λ n. Consumes (S.left self.old.source) (S.left self.new.source)
+            (take n buf.new)) }
         ensures end { result ≡ Got.End → IsAtEnd (S.left self.old.source) }
         ensures kept { OnNoBytes result (Keeps (S.left self.old.source) (S.left self.new.source)) }
         ensures cause { HasCause (result ≡ Got.Failed) (S.faults self.old.source) (S.faults self.new.source) }
@@ -113,7 +114,8 @@ impl<K: Sink + Drop> Sink for KeptSink<K> {
     fn write(&mut self, piece: &[u8]) -> Put
         requires some { 0 < length piece.now }
         ensures count { OnTook result (λ n. (0 < n) × (n ≤ length piece.now)) }
-        ensures appended { OnTook result (λ n. Appends (K.written self.old.sink) (K.written self.new.sink) (take n piece.now)) }
+        ensures appended { OnTook result (λ n. Appends (K.written self.old.sink) (K.written self.new.sink)
+            (take n piece.now)) }
         ensures kept { result ≡ Put.Failed → Keeps (K.written self.old.sink) (K.written self.new.sink) }
         ensures cause { HasCause (result ≡ Put.Failed) (K.faults self.old.sink) (K.faults self.new.sink) }
     {

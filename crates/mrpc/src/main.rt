@@ -1,8 +1,8 @@
 //! The program `mrpc`: the words of the command line, standard input, standard output and the file `mrpc.wire` handed
 //! to the top call, whose answer is the exit status.
 //!
-//! It stands on `system_io`, which makes a source and sinks of the three, on `mrpc_top`, which does all the work, and on
-//! `explain`, which says on standard error what stands against a faulty input.
+//! It stands on `system_io`, which makes a source and sinks of the three, on `mrpc_top`, which does all the work, and
+//! on `explain`, which says on standard error what stands against a faulty input.
 #![tactic(auto)]
 
 mod command_line;
