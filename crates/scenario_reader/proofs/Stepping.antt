@@ -6,15 +6,14 @@ use Rattle.std.proofs.lemmas.List.Elements.{Contains-append_left, Contains-push,
 use Rattle.std.proofs.lemmas.Option.{same_Some}
 use Rattle.mrpc_table.specs.Lines.{words_of}
 use Rattle.script_words.specs.Lines.{AreSaid, IsAgainst}
-use Rattle.script_words.specs.Sorts.{Meaning, name_at, number_at}
+use Rattle.script_words.specs.Sorts.{Meaning, number_at}
 use Rattle.script_words.specs.declared.fault.ScriptReason.{ScriptReason}
 use Rattle.script_words.specs.declared.sort.Sort.{Sort}
-use Rattle.scenario.specs.Lines.{Falls, count_in, policy_in}
+use Rattle.scenario.specs.Lines.{Falls, count_in}
 use Rattle.scenario.specs.Reasons.{IsSoFar, earlier, of_line, order_of}
 use Rattle.scenario.specs.declared.fault.ScenarioReason.{ScenarioReason}
 use Rattle.scenario.specs.declared.fault.ScenarioReason.TheVariants.{Number}
 use Rattle.scenario_lines.specs.Forms.{step_sorts}
-use Rattle.scenario_lines.specs.Lines.{WordsAgainst}
 use Rattle.scenario_lines.specs.Reasons.{IsFirst}
 use Rattle.scenario_lines.specs.Reasons as line_reasons
 use Rattle.scenario_lines.specs.Steps.{FormTells, StepAgainst, StepSays, in_words, no_form}

@@ -1,5 +1,5 @@
 -- Steps that change a chain one after another, and the first one that is refused.
-use Rattle.std.proofs.Common.{◌≡◌, ◌⊎◌, ◌^◌, Bool, if◌then◌else◌, ℕ, zero, suc, ◌+◌, ◌<◌, List, [], ◌∷◌, ◌++◌, length, get_or, map, take, drop, Option, Some, None, refl, sym, ap, ◌∙◌, subst, inl, inr, arith}
+use Rattle.std.proofs.Common.{◌≡◌, ◌^◌, Bool, if◌then◌else◌, ℕ, suc, ◌+◌, ◌<◌, List, [], ◌∷◌, ◌++◌, length, get_or, map, take, drop, Option, Some, None, refl, sym, ap, ◌∙◌, subst, arith}
 use Rattle.std.specs.Borrow.{Bor}
 use Rattle.std.proofs.lemmas.Bool.{lt-ltb}
 use Rattle.std.proofs.lemmas.List.Elements.{All-nil}
@@ -17,7 +17,6 @@ use Rattle.run_plan.specs.Chains.{Changing, empty_chain}
 use Rattle.scenario.specs.Applications.{FirstRefused}
 use Rattle.scenario_lines.specs.Programs.{Each}
 use Rattle.scenario.specs.Lines.{count_in}
-use Rattle.scenario.specs.Reasons.{of_refusal}
 use Rattle.scenario.specs.declared.fault.ScenarioReason.{ScenarioReason}
 use Rattle.scenario_entries.specs.Linking.{IsChanged, IsKept}
 use Rattle.scenario_entries.specs.declared.chain.ChainEntry.{ChainEntry}

@@ -1,9 +1,5 @@
-use Rattle.std.proofs.Common.{ℕ, ◌≡◌, Option, List, None, Some, refl, ap, sym, ◌∙◌, subst, arith}
-use Rattle.std.proofs.lemmas.Option.{same_Some}
+use Rattle.std.proofs.Common.{Option, List, refl, ap, sym, ◌∙◌, subst, arith}
 use Rattle.mrpc_table.specs.Lines.{in_64_bits}
-use Rattle.engine_core.specs.declared.op.Op.{Op}
-use Rattle.engine_core.specs.declared.op.Op.TheVariants as op
-use Rattle.policy_blocks.specs.declared.item.NamedPolicy.{NamedPolicy}
 use Rattle.run_plan.specs.Chains.{empty_chain}
 use Rattle.scenario.specs.declared.fault.ScenarioReason.{ScenarioReason}
 use Rattle.scenario_entries.specs.Linking.{IsChanged, IsKept}

@@ -1,4 +1,4 @@
-use Rattle.std.proofs.Common.{◌++◌, ℕ, List, Option, sym, ap, ◌∙◌, append-nil}
+use Rattle.std.proofs.Common.{◌++◌, ℕ, Option, sym, ap, ◌∙◌, append-nil}
 use Rattle.std.specs.Prelude.{option_to_list}
 use Rattle.scenario_reader.proofs.Placing.{places_more}
 use Rattle.scenario_reader.proofs.names.places_in.Goals as goal

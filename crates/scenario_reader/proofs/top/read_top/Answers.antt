@@ -1,14 +1,10 @@
-use Rattle.std.proofs.Common.{ℕ, List, Option, Result, sym, ◌∙◌, refl, subst}
-use Rattle.std.specs.Prelude.{MatchResult}
+use Rattle.std.proofs.Common.{ℕ, List, Result, sym, ◌∙◌, refl, subst}
 use Rattle.std.proofs.lemmas.Bool.{both_ways}
 use Rattle.mrpc_table.specs.Names.{IsFullName}
 use Rattle.mrpc_table.specs.declared.table.Table.{Table}
 use Rattle.toml.specs.View.{table_view}
-use Rattle.scenario.specs.Applications.{HasTable, IsTableIn}
-use Rattle.scenario.specs.Scenarios.{TopAgainst, schema_of}
+use Rattle.scenario.specs.Applications.{HasTable}
 use Rattle.scenario.specs.declared.fault.ScenarioFault.{ScenarioFault}
-use Rattle.scenario.specs.declared.fault.ScenarioReason.{ScenarioReason}
-use Rattle.scenario_reader.specs.Whole.{IsTopFault}
 use Rattle.scenario_reader.proofs.Topmost.{IsTopRead, top_name_first, top_number_first, top_schema_first}
 use Rattle.scenario_reader.proofs.top.read_top.Goals as goal
 

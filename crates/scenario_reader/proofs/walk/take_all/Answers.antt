@@ -1,7 +1,5 @@
-use Rattle.std.proofs.Common.{Option, List, sym, subst, arith}
-use Rattle.std.specs.Prelude.{None, Some}
+use Rattle.std.proofs.Common.{Option, List, sym, subst}
 use Rattle.std.proofs.lemmas.List.{take_all}
-use Rattle.engine_core.specs.declared.op.Op.{Op}
 use Rattle.scenario.specs.declared.fault.ScenarioReason.{ScenarioReason}
 use Rattle.scenario_entries.specs.Linking.{IsChanged}
 use Rattle.scenario_lines.specs.Programs.{Each}
