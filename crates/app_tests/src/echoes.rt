@@ -18,7 +18,7 @@ use std::thread::{Threads, join};
 use stop_flag::RunFlag;
 use table_text::read_table;
 
-const ALIKE: &[u8] = b"message M\nfield 1 plain uint64 a\nmethod 0 S Get M M\n";
+pub(crate) const ALIKE: &[u8] = b"message M\nfield 1 plain uint64 a\nmethod 0 S Get M M\n";
 
 const APART: &[u8] =
     b"message M\nfield 1 plain uint64 a\nmessage N\nfield 1 plain uint64 a\nmethod 0 S Get M N\n";

@@ -6,6 +6,10 @@
 mod echoes;
 #[cfg(test)]
 mod joining;
+#[cfg(test)]
+mod limits;
+#[cfg(test)]
+mod order;
 mod port;
 #[cfg(test)]
 mod programs;
@@ -13,3 +17,5 @@ mod service;
 #[cfg(test)]
 mod stops;
 mod taking;
+#[cfg(test)]
+mod waits;

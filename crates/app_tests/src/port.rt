@@ -1,5 +1,6 @@
 // A port, and what the service has of it.
 ghost use Rattle.std.specs.Prelude.{◌≡◌, ◌≤◌, [], IfOk};
+ghost use Rattle.mrpc_table.specs.declared.limits.TheConstants.{MAX_HEAP, MIN_HEAP};
 ghost use Rattle.app_stub.specs.Ports.{IsNew};
 ghost use Rattle.app_tests.specs.Services.{IsGiving, IsSideOf, IsTaking};
 
@@ -38,10 +39,31 @@ pub(crate) fn open_port<F: Drop>(
     ensures taking { IfOk result (λ ends. IsTaking WORDS ends.1.taking) }
     ensures giving { IfOk result (λ ends. IsGiving WORDS ends.1 × (ends.1.notices.sent ≡ [])) }
 {
+    open_sized_port(alloc, WORDS, capacity, stop, stores)
+}
+
+// The same, with so many words in each heap.
+pub(crate) fn open_sized_port<F: Drop>(
+    alloc: Global,
+    words: u64,
+    capacity: u64,
+    stop: F,
+    stores: u64,
+) -> Result<(AppPort<F>, Service), AllocError>
+    requires words { (MIN_HEAP ≤ words) × (words ≤ MAX_HEAP) }
+    requires at_least { 1 ≤ capacity }
+    requires at_most { capacity ≤ 1024 }
+    ensures new { IfOk result (λ ends. IsNew ends.0) }
+    ensures words { IfOk result (λ ends. (ends.0.writer.heap.words ≡ words) × (ends.0.reader.heap.words ≡ words)) }
+    ensures capacity { IfOk result (λ ends. ends.0.capacity ≡ capacity) }
+    ensures side { IfOk result (λ ends. IsSideOf ends.0 ends.1) }
+    ensures taking { IfOk result (λ ends. IsTaking words ends.1.taking) }
+    ensures giving { IfOk result (λ ends. IsGiving words ends.1 × (ends.1.notices.sent ≡ [])) }
+{
     calls_are_fresh();
-    let (writer, reader) = shared_heap::open(alloc, WORDS)?;
+    let (writer, reader) = shared_heap::open(alloc, words)?;
     let (sender, calls) = descriptor_ring::open(alloc, capacity, &reader)?;
-    let (theirs, receive) = shared_heap::open(alloc, WORDS)?;
+    let (theirs, receive) = shared_heap::open(alloc, words)?;
     let (noticing, notices) = descriptor_ring::open(alloc, capacity, &receive)?;
     let (numbering, blocks) = descriptor_ring::open_numbers(alloc, capacity)?;
     let (reclaims, reclaimed) = descriptor_ring::open_numbers(alloc, capacity)?;

@@ -50,7 +50,7 @@ fn client_program(alloc: Global) -> Result<Program, Memory>
 }
 
 // A server whose replies stand at place 2, behind three stores there.
-fn server_program(alloc: Global) -> Result<Program, Memory>
+pub(crate) fn server_program(alloc: Global) -> Result<Program, Memory>
     ensures { IfOk result (IsServerProgram WORDS) }
 {
     let mut program = Program::new(alloc);

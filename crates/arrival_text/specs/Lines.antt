@@ -1,6 +1,7 @@
 -- The lines of a run besides audits (this project's own format).
-use Rattle.std.specs.Prelude.{ℕ, ◌<◌, ◌≤◌, ◌==◌, Bool, true, false, List, [], ◌∷◌, ◌++◌, codes, length, Option, Some, None, IsSomeAnd, ⊤, if◌then◌else◌}
+use Rattle.std.specs.Prelude.{ℕ, ◌<◌, ◌≤◌, ◌==◌, Bool, true, false, List, [], ◌∷◌, ◌++◌, All, codes, length, ◌≡◌, Option, Some, None, option_map, IsSomeAnd, ⊤, if◌then◌else◌}
 use Rattle.std.specs.Fmt.{decimal}
+use Rattle.std.specs.Option.{option_copied}
 use Rattle.mrpc_table.specs.Calls.{message_at}
 use Rattle.mrpc_table.specs.Normal.{IsNormal}
 use Rattle.mrpc_table.specs.declared.table.Table.{Table}
@@ -10,12 +11,15 @@ use Rattle.frame_transport.specs.declared.fault.FeedFault.{FeedFault}
 use Rattle.frame_transport.specs.declared.fault.FeedFault.TheVariants.{Version, Kind, TooLong, Memory as NoMemoryToFeed}
 use Rattle.frame_transport.specs.declared.format.TheConstants.{REPLY}
 use Rattle.policy_access.specs.Verdict.{AccessPolicy, rule_name}
+use Rattle.receive_core.specs.Life.{Life}
 use Rattle.receive_core.specs.declared.arrival.DropCause.{DropCause}
 use Rattle.receive_core.specs.declared.arrival.DropCause.TheVariants.{Hello as IsHello, NoMethod, Decode, Denied, Oversize}
 use Rattle.schema_binding.specs.declared.fault.AgreeFault.{AgreeFault}
 use Rattle.schema_binding.specs.declared.fault.AgreeFault.TheVariants.{NoService, Mismatch, Methods, Field, Memory as NoMemoryToAgree}
 use Rattle.audit_text.specs.Lines.{Words, hex_word}
+use Rattle.deliveries.specs.Arriving.{HaveLived}
 use Rattle.deliveries.specs.declared.arrivals.ArrivalLine.{ArrivalLine}
+use Rattle.deliveries.specs.declared.arrivals.Arrivals.{Arrivals}
 use Rattle.deliveries.specs.declared.arrivals.ArrivalLine.TheVariants.{Arrived, Dropped}
 use Rattle.arrival_text.specs.declared.arrivals.Judge.{Judge}
 use Rattle.link_greeting.specs.declared.unbound.Unbound.{Unbound}
@@ -71,6 +75,12 @@ abbrev pub FitsArrival : Table → Judging → ArrivalLine → Type 0
 FitsArrival T judging (Arrived kind method number tree) =
     (method < length T.methods) × IsNormal T (message_of_kind T kind method) tree
 FitsArrival T judging (Dropped kind method number why) = FitsCause judging why
+
+-- each line of arrivals that have lived does, under the policy that judged them
+abbrev pub LinesFit : Type 0
+LinesFit = (life : Life) (a : Arrivals) (judging : Judging) → HaveLived life a
+    → option_map (λ policy. policy.1) judging ≡ option_copied a.policy
+    → All (FitsArrival a.table.now judging) a.lines.items
 
 -- ---- what is left at the end
 

@@ -37,7 +37,8 @@ pub fn append_arrival(
 ) -> Result<(), Memory>
     requires valid { IsValid table.now }
     requires fits { FitsArrival table.now (judging_of judge) arrival.now }
-    ensures { OnOk result (out.new ≡ out.old ++ line (arrival_words table.now (judging_of judge.entry) conn arrival.now)) }
+    ensures { OnOk result (out.new
+        ≡ out.old ++ line (arrival_words table.now (judging_of judge.entry) conn arrival.now)) }
 {
     match arrival {
         ArrivalLine::Arrived {

@@ -1,15 +1,19 @@
 //! The program `mrpc`: the words of the command line, standard input, standard output and the file `mrpc.wire` handed
 //! to the top call, whose answer is the exit status.
 //!
-//! It stands on `system_io`, which makes a source and sinks of the three, and on `mrpc_top`, which does all the work.
+//! It stands on `system_io`, which makes a source and sinks of the three, on `mrpc_top`, which does all the work, and
+//! on `explain`, which says on standard error what stands against a faulty input.
 #![tactic(auto)]
 
 mod command_line;
+mod kept;
 mod usage;
 
 use command_line::{Asked, WordsFault, asked_alone, words};
-use mrpc_base::{Sink, write_all};
-use mrpc_top::{DONE, NO_COMMAND, NO_MEMORY, OUTPUT_FAILED, run_command};
+use explain::{explained, no_command};
+use kept::{KeptSink, KeptSource};
+use mrpc_base::{Sink, Source, write_all};
+use mrpc_top::{DONE, FAULTY_INPUT, NO_COMMAND, NO_MEMORY, OUTPUT_FAILED, run_command};
 use std::alloc::Global;
 use std::process::ExitCode;
 use system_io::{FileSink, StandardInput, StandardOutput};
@@ -17,9 +21,12 @@ use usage::{failure, usage};
 
 const VERSION: &str = "mrpc 0.1.0\n";
 
+/// How many bytes of a line of the input are shown beside its fault.
+const WIDTH: usize = 100;
+
 fn main(rt: HostRuntime) -> ExitCode {
     let status = exit_status(rt);
-    explain(rt.alloc(), status, &mut StandardOutput::new(rt.stderr()));
+    say_status(rt.alloc(), status, &mut StandardOutput::new(rt.stderr()));
     ExitCode::from(status)
 }
 
@@ -30,13 +37,43 @@ fn exit_status(rt: HostRuntime) -> u8 {
         Err(WordsFault::NotText) => return NO_COMMAND,
         Err(WordsFault::Memory) => return NO_MEMORY,
     };
-    let mut out = StandardOutput::new(rt.stdout());
+    let mut out = KeptSink::new(rt.alloc(), StandardOutput::new(rt.stdout()));
     if let Some(asked) = asked_alone(&words) {
         return answer(rt.alloc(), asked, &mut out);
     }
-    let mut input = StandardInput::new(rt.stdin());
+    let mut input = KeptSource::new(rt.alloc(), StandardInput::new(rt.stdin()));
     let mut wire = FileSink::new(rt);
-    run_command(rt.alloc(), &words, &mut input, &mut out, &mut wire)
+    let status = run_command(rt.alloc(), &words, &mut input, &mut out, &mut wire);
+    let mut error = StandardOutput::new(rt.stderr());
+    match words.first() {
+        Some(word) if status == FAULTY_INPUT => tell(rt.alloc(), word, &input, &out, &mut error),
+        Some(_) if status == NO_COMMAND => say_words(rt.alloc(), &words, &mut error),
+        _ => {}
+    }
+    status
+}
+
+// Writes on standard error what stands against the input. Where there is no memory for that, nothing is said.
+fn tell<S: Source + Drop, K: Sink + Drop, E: Sink>(
+    alloc: Global,
+    word: &String,
+    input: &KeptSource<S>,
+    out: &KeptSink<K>,
+    error: &mut E,
+) {
+    let Some(text) = input.kept() else {
+        return;
+    };
+    if let Ok(lines) = explained(alloc, word.as_bytes(), text, out.fault(), WIDTH) {
+        write_all(error, lines.as_slice());
+    }
+}
+
+// Writes on standard error which words are no command. Where there is no memory for that, nothing is said.
+fn say_words<E: Sink>(alloc: Global, words: &[String], error: &mut E) {
+    if let Ok(line) = no_command(alloc, words) {
+        write_all(error, line.as_slice());
+    }
 }
 
 // Writes what the command line asks the program itself for, and gives the status.
@@ -53,7 +90,7 @@ fn answer<K: Sink>(alloc: Global, asked: Asked, out: &mut K) -> u8 {
 
 // Writes on standard error why the command ended so: the usage text where the words are no command, and what failed
 // where something did. Where that can't be written, nothing more is said.
-fn explain<K: Sink>(alloc: Global, status: u8, error: &mut K) {
+fn say_status<K: Sink>(alloc: Global, status: u8, error: &mut K) {
     if status == NO_COMMAND {
         if let Ok(text) = usage(alloc) {
             write_all(error, text.as_bytes());

@@ -21,8 +21,15 @@ impl<'p> Visited for Counted<'p> {
     ghost since = { λ old new. (new.plan.now ≡ old.plan.now) × (new.number ≡ old.number) × (old.visits ≤ new.visits) };
 
     ghost over = { λ item. slice_index item.plan.now item.number ≤ item.visits };
+}
 
-    fn visit(&mut self) -> Visit {
+impl<'p> Counted<'p> {
+    fn visit(&mut self) -> Visit
+        ensures plan { self.new.plan.now ≡ self.old.plan.now }
+        ensures number { self.new.number ≡ self.old.number }
+        ensures visits { self.old.visits ≤ self.new.visits }
+        ensures over { result ≡ Visit.Over → slice_index self.new.plan.now self.new.number ≤ self.new.visits }
+    {
         if self.number >= self.plan.len() || self.visits >= self.plan[self.number] {
             return Visit::Over;
         }
@@ -67,7 +74,19 @@ fn visited<'p, R: Threads + Wait + Sync>(
         All (λ item. slice_index item.plan.now item.number ≤ item.visits) items.items) }
 {
     let items = items(alloc, plan)?;
-    let ran = run(rt, alloc, items, workers, &NeverStops)?;
+    let ran = run(
+        rt,
+        alloc,
+        items,
+        workers,
+        &NeverStops,
+        &|item: &mut Counted| -> Visit
+            ensures plan { item.new.plan.now ≡ item.old.plan.now }
+            ensures number { item.new.number ≡ item.old.number }
+            ensures visits { item.old.visits ≤ item.new.visits }
+            ensures over { result ≡ Visit.Over → slice_index item.new.plan.now item.new.number ≤ item.new.visits }
+        { item.visit() },
+    )?;
     Ok(ran.items)
 }
 

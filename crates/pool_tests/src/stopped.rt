@@ -1,4 +1,4 @@
-ghost use Rattle.std.specs.Prelude.{◌≡◌, ◌≤◌, length};
+ghost use Rattle.std.specs.Prelude.{◌≡◌, ◌≢◌, ◌≤◌, length};
 
 use std::alloc::Global;
 use std::process::Abort;
@@ -21,8 +21,13 @@ impl<'f> Visited for Endless<'f> {
     ghost since = { λ old new. new.number ≡ old.number };
 
     ghost over = { λ _. ⊥ };
+}
 
-    fn visit(&mut self) -> Visit {
+impl<'f> Endless<'f> {
+    fn visit(&mut self) -> Visit
+        ensures number { self.new.number ≡ self.old.number }
+        ensures over { result ≢ Visit.Over }
+    {
         self.visits = self.visits.saturating_add(1);
         if self.number == 1 && self.visits == 3 {
             self.stop.set();
@@ -57,7 +62,18 @@ fn assert_stops<R: Abort + Threads + Wait + Sync>(rt: &R, alloc: Global, workers
 {
     let stop = RunFlag::new(alloc).expect(rt, "memory");
     let items = items(rt, alloc, 5, &stop);
-    let ran = run(rt, alloc, items, workers, &stop).expect(rt, "memory");
+    let ran = run(
+        rt,
+        alloc,
+        items,
+        workers,
+        &stop,
+        &|item: &mut Endless| -> Visit
+            ensures number { item.new.number ≡ item.old.number }
+            ensures over { result ≢ Visit.Over }
+        { item.visit() },
+    )
+    .expect(rt, "memory");
     assert!(rt; ran.stopped);
     assert!(rt; came_back(&ran, 5, 3));
 }
@@ -77,7 +93,18 @@ fn assert_not_begun<R: Abort + Threads + Wait + Sync>(rt: &R, alloc: Global) {
     let stop = RunFlag::new(alloc).expect(rt, "memory");
     stop.set();
     let items = items(rt, alloc, 3, &stop);
-    let ran = run(rt, alloc, items, 2, &stop).expect(rt, "memory");
+    let ran = run(
+        rt,
+        alloc,
+        items,
+        2,
+        &stop,
+        &|item: &mut Endless| -> Visit
+            ensures number { item.new.number ≡ item.old.number }
+            ensures over { result ≢ Visit.Over }
+        { item.visit() },
+    )
+    .expect(rt, "memory");
     assert!(rt; ran.stopped);
     assert!(rt; came_back(&ran, 3, 0));
     assert!(rt; ran.items.iter().all(|item| item.visits == 0));

@@ -1,4 +1,4 @@
-ghost use Rattle.std.specs.Prelude.{◌≡◌, Some};
+ghost use Rattle.std.specs.Prelude.{◌≡◌, IsSome, Some};
 ghost use Rattle.pool_tests.specs.Talkers.{Ends, queues_of};
 
 use link_queue::{Passed, QueueLink, WriterEnd, open};
@@ -26,8 +26,13 @@ impl<'r, R: Wait> Visited for Talker<'r, R> {
     ghost since = { λ old new. queues_of new.link new.passed ≡ queues_of old.link old.passed };
 
     ghost over = { λ item. IsSome (queues_of item.link item.passed) → IsSome item.passed };
+}
 
-    fn visit(&mut self) -> Visit {
+impl<'r, R: Wait> Talker<'r, R> {
+    fn visit(&mut self) -> Visit
+        ensures queues { queues_of self.new.link self.new.passed ≡ queues_of self.old.link self.old.passed }
+        ensures over { result ≡ Visit.Over → IsSome (queues_of self.new.link self.new.passed) → IsSome self.new.passed }
+    {
         let Some(mut link) = self.link.take() else {
             return Visit::Over;
         };
@@ -78,7 +83,18 @@ fn talked<'r, R: Abort + Threads + Wait + Sync>(
         passed: None,
         left,
     });
-    let ran = run(rt, alloc, items, 1, &NeverStops).expect(rt, "memory");
+    let ran = run(
+        rt,
+        alloc,
+        items,
+        1,
+        &NeverStops,
+        &|item: &mut Talker<R>| -> Visit
+            ensures queues { queues_of item.new.link item.new.passed ≡ queues_of item.old.link item.old.passed }
+            ensures over { result ≡ Visit.Over → IsSome (queues_of item.new.link item.new.passed) → IsSome item.new.passed }
+        { item.visit() },
+    )
+    .expect(rt, "memory");
     let item = the_one(rt, ran.items);
     closed(rt, item)
 }

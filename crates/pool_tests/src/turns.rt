@@ -27,8 +27,12 @@ impl<'t> Visited for InTurn<'t> {
     ghost since = { λ old new. new.number ≡ old.number };
 
     ghost over = { λ _. ⊤ };
+}
 
-    fn visit(&mut self) -> Visit {
+impl<'t> InTurn<'t> {
+    fn visit(&mut self) -> Visit
+        ensures { self.new.number ≡ self.old.number }
+    {
         let ticket = self.tickets.fetch_add(1, Ordering::SeqCst);
         if ticket % COUNT != self.number {
             self.strays = self.strays.saturating_add(1);
@@ -60,7 +64,17 @@ fn items<'t>(rt: &impl Abort, alloc: Global, tickets: &'t AtomicU64) -> Vec<InTu
 fn assert_in_turn<R: Abort + Threads + Wait + Sync>(rt: &R, alloc: Global) {
     let tickets = AtomicU64::new(0);
     let items = items(rt, alloc, &tickets);
-    let ran = run(rt, alloc, items, 1, &NeverStops).expect(rt, "memory");
+    let ran = run(
+        rt,
+        alloc,
+        items,
+        1,
+        &NeverStops,
+        &|item: &mut InTurn| -> Visit
+            ensures { item.new.number ≡ item.old.number }
+        { item.visit() },
+    )
+    .expect(rt, "memory");
     assert!(rt;
         ran.items
             .iter()

@@ -24,8 +24,12 @@ impl<'s, R: Wait> Visited for Sleepy<'s, R> {
     ghost since = { λ old new. new.sleeps ≡ old.sleeps };
 
     ghost over = { λ _. ⊤ };
+}
 
-    fn visit(&mut self) -> Visit {
+impl<'s, R: Wait> Sleepy<'s, R> {
+    fn visit(&mut self) -> Visit
+        ensures { self.new.sleeps ≡ self.old.sleeps }
+    {
         self.visits = self.visits.saturating_add(1);
         if self.sleeps {
             let word = AtomicU64::new(0);
@@ -61,7 +65,17 @@ const FEW: u64 = 5000;
 fn assert_rests<R: Abort + Threads + Wait + Sync>(rt: &R, alloc: Global) {
     let slept = AtomicBool::new(false);
     let items = items(rt, alloc, &slept);
-    let ran = run(rt, alloc, items, 2, &NeverStops).expect(rt, "memory");
+    let ran = run(
+        rt,
+        alloc,
+        items,
+        2,
+        &NeverStops,
+        &|item: &mut Sleepy<R>| -> Visit
+            ensures { item.new.sleeps ≡ item.old.sleeps }
+        { item.visit() },
+    )
+    .expect(rt, "memory");
     assert!(rt;
         ran.items
             .iter()

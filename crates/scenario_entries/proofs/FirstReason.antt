@@ -1,5 +1,5 @@
 -- The first of the reasons that stand, as it is joined from those of the parts.
-use Rattle.std.proofs.Common.{◌≡◌, ◌⊎◌, ℕ, ◌≤◌, nat_le, Bool, true, false, if◌then◌else◌, Option, Some, None, inl, inr, refl, sym, ◌∙◌, ap, subst, arith}
+use Rattle.std.proofs.Common.{◌≡◌, ◌⊎◌, ℕ, ◌≤◌, nat_le, Bool, true, false, if◌then◌else◌, Option, Some, None, inl, inr, refl, sym, ap, subst, arith}
 use Rattle.std.specs.Bool.{Decides}
 use Rattle.std.proofs.lemmas.Bool.{leb-true, leb-false}
 use Rattle.scenario.specs.Reasons.{IsFirstReason, IsSoFar, earlier, order_of, reason_if}
@@ -57,18 +57,6 @@ Flag P q x = P × (x ≡ q)
 
 pub flag : (P : Type 0) (q : ScenarioReason) (b : Bool) → Decides b P → IsSoFar (Flag P q) (reason_if b q)
 flag P q b d = flagged P q b d.0 d.1
-
--- ---- what no reason, and a first one, say of the parts
-
-pub none_parts : (x y : Option ScenarioReason) → earlier x y ≡ None → (x ≡ None) × (y ≡ None)
-none_parts None None e = (refl, refl)
-none_parts None (Some y) e = absurd cc
-none_parts (Some x) None e = absurd cc
-none_parts (Some x) (Some y) e = absurd cc
-
-pub none_flag : (b : Bool) (q : ScenarioReason) → reason_if b q ≡ None → b ≡ false
-none_flag true q e = absurd cc
-none_flag false q e = refl
 
 -- a reason before which none can come
 pub alone_first : (C : ScenarioReason → Type 0) (q : ScenarioReason) → C q → ((other : ScenarioReason) → C other → order_of q ≤ order_of other)

@@ -1,4 +1,3 @@
-mod Declaring
 mod FirstReason
 mod Linked
 mod Linking
@@ -6,4 +5,5 @@ mod Listing
 mod Lists
 mod Naming
 mod OneFault
+mod Ranges
 mod Submitting

@@ -1,18 +1,18 @@
 -- The first reason against a link is what the tests of the code say.
-use Rattle.std.proofs.Common.{◌≡◌, ◌⊎◌, ℕ, ◌==◌, ◌≤◌, not, Bool, true, false, ◌&&◌, ◌||◌, List, [], ◌∷◌, ◌++◌, map, Contains, Option, Some, None, refl, sym, ap, ◌∙◌, subst, inl, inr, arith}
+use Rattle.std.proofs.Common.{◌≡◌, ◌⊎◌, ℕ, ◌==◌, ◌≤◌, not, true, false, ◌&&◌, ◌||◌, List, [], ◌∷◌, map, Contains, Some, refl, sym, ap, ◌∙◌, subst, inl, inr, arith}
 use Rattle.std.specs.Bool.{Decides}
 use Rattle.std.specs.List.{list_all, list_any}
-use Rattle.std.proofs.lemmas.Bool.{and_cases, and_from, and_left, and_parts, both_ways, eq-eqb, eqb-true, false_from_ne_true, not-true, not_from_false, or_cases, or_left, or_parts, or_right}
+use Rattle.std.proofs.lemmas.Bool.{and_cases, and_from, and_parts, both_ways, eq-eqb, eqb-true, false_from_ne_true, not-true, not_from_false, or_cases, or_left, or_parts, or_right}
 use Rattle.std.proofs.lemmas.Option.{same_Some}
 use Rattle.run_plan.specs.declared.plan.Pair.{Pair}
 use Rattle.toml.specs.Data.{Members}
 use Rattle.scenario_lines.specs.Programs.{Each}
-use Rattle.scenario_values.specs.Values.{TheRange, has_keys, is_out, is_within_at, number_in}
+use Rattle.scenario_values.specs.Values.{has_keys, is_within_at, number_in}
 use Rattle.scenario.specs.Applications.{IsClientOn, LinkAgainst, all_ends, app_tables, conn_of, conns_of, ends_of}
 use Rattle.scenario.specs.Applications as against
 use Rattle.scenario.specs.Keys.{end_a, end_b, link_keys, link_ranges, role_of}
 use Rattle.scenario_entries.specs.Ports.{IsPortOf, has_client, has_port, is_client, is_linked, link_first}
-use Rattle.scenario.specs.Reasons.{IsFirstReason, IsSoFar, earlier, order_of, reason_if}
+use Rattle.scenario.specs.Reasons.{IsFirstReason, IsSoFar, order_of, reason_if}
 use Rattle.scenario.specs.Scenarios.{LinkSays}
 use Rattle.scenario.specs.declared.fault.ScenarioReason.{ScenarioReason}
 use Rattle.scenario.specs.declared.fault.ScenarioReason.TheVariants.{Key, Number, Unknown}
@@ -20,7 +20,7 @@ use Rattle.scenario.specs.declared.fault.ScenarioReason.TheVariants.{Pair as NoP
 use Rattle.scenario.specs.declared.form.RoleWord.{RoleWord}
 use Rattle.scenario.specs.declared.form.RoleWord.TheVariants as role
 use Rattle.scenario_entries.specs.declared.link.Port.{Port}
-use Rattle.scenario_entries.proofs.Declaring.{all_within, one_out}
+use Rattle.scenario_entries.proofs.Ranges.{all_within, one_out}
 use Rattle.scenario_entries.proofs.FirstReason.{Either, Flag, alone_first, at_least, flag, joined, same_reasons}
 use Rattle.scenario_entries.proofs.Lists.{each_map, none_in, there_cases, there_first, there_more}
 

@@ -1,21 +1,20 @@
 -- A chain as the code keeps it takes and refuses the steps that the chain of an engine does.
-use Rattle.std.proofs.Common.{◌≡◌, ◌≢◌, ◌⊎◌, ℕ, zero, suc, ◌+◌, ◌<◌, ◌≤◌, ◌^◌, Bool, true, false, if◌then◌else◌, List, [], ◌∷◌, ◌++◌, length, get_or, map, take, drop, set, Contains, Option, Some, None, refl, sym, ap, ◌∙◌, subst, inl, inr, arith}
-use Rattle.std.specs.Prelude.{slice_get, position, is_some, nat_lt, cond}
+use Rattle.std.proofs.Common.{◌≡◌, ℕ, zero, suc, ◌+◌, ◌<◌, ◌≤◌, ◌^◌, Bool, true, false, if◌then◌else◌, List, [], ◌∷◌, ◌++◌, length, get_or, map, take, drop, set, Contains, Option, Some, None, refl, sym, ap, ◌∙◌, subst, inl, inr, arith}
+use Rattle.std.specs.Prelude.{slice_get, position, is_some, nat_lt}
 use Rattle.std.specs.List.{insert, remove}
 use Rattle.std.specs.Str.{bytes_eq}
-use Rattle.std.proofs.lemmas.Bool.{both_ways, cases_Bool, ltb-true, ltb-false}
+use Rattle.std.proofs.lemmas.Bool.{both_ways, ltb-false}
 use Rattle.std.proofs.lemmas.List.{map-append, take-map, take-append-drop, length-map, length-take-le, set_split}
 use Rattle.std.proofs.lemmas.Option.{same_Some, slice_get_read}
 use Rattle.mrpc_table.specs.Lines.{in_64_bits}
 use Rattle.mrpc_table.specs.Valid.{AreDistinct}
-use Rattle.mrpc_table.specs.declared.words.Decimal.{Decimal}
 use Rattle.mrpc_table.specs.declared.words.Decimal.TheVariants.{Small, Large}
 use Rattle.engine_core.specs.Chains.{Chain, Changes, Entry, IsAgainst, IsChain, Refusal, Refuses, names_of, new_entry, order_of, upgraded}
 use Rattle.engine_core.specs.Chains as chains
 use Rattle.engine_core.specs.Policies.{is_same_kind}
 use Rattle.engine_core.specs.declared.op.Op.TheVariants as op
 use Rattle.engine_core.specs.declared.policy.Policy.{Policy}
-use Rattle.scenario_entries.specs.Linking.{IsChanged, IsKept, kept_of, seen_of}
+use Rattle.scenario_entries.specs.Linking.{IsChanged, IsKept, kept_of}
 use Rattle.scenario_entries.specs.declared.chain.ChainEntry.{ChainEntry}
 use Rattle.scenario.specs.declared.fault.ScenarioReason.TheVariants as reason
 use Rattle.scenario_entries.proofs.Lists.{position_map, there_cases, there_first, there_more}

@@ -1,5 +1,5 @@
 -- Lists of entries, one more read at a time.
-use Rattle.std.proofs.Common.{◌≡◌, ◌⊎◌, ℕ, ◌+◌, ◌<◌, ◌≤◌, List, [], ◌∷◌, ◌++◌, length, get_or, map, take, drop, refl, sym, ap, ◌∙◌, subst, inl, inr, arith}
+use Rattle.std.proofs.Common.{◌≡◌, ℕ, ◌+◌, ◌<◌, ◌≤◌, List, [], ◌∷◌, ◌++◌, length, get_or, take, drop, sym, ap, ◌∙◌, subst, inl, inr, arith}
 use Rattle.std.specs.Prelude.{String}
 use Rattle.std.specs.BTreeMap.{BTreeMap}
 use Rattle.std.specs.Borrow.{Bor}
@@ -8,12 +8,10 @@ use Rattle.std.proofs.lemmas.List.{drop_more, length-map, length-take-le, map-ap
 use Rattle.toml.specs.Data.{Members}
 use Rattle.toml.specs.View.{table_view}
 use Rattle.toml.specs.declared.value.Value.{Value}
-use Rattle.scenario_lines.specs.Programs.{Each}
 use Rattle.scenario_entries.specs.Entries.{AreFree, IsFirstEntry, views}
 use Rattle.scenario.specs.Reasons.{IsFirstReason}
-use Rattle.scenario.specs.Scenarios.{StandsAt}
 use Rattle.scenario.specs.declared.fault.ScenarioReason.{ScenarioReason}
-use Rattle.scenario_entries.proofs.Lists.{each_push, map_more, snoc_split}
+use Rattle.scenario_entries.proofs.Lists.{map_more, snoc_split}
 
 module _ (Against : List Members → Members → ScenarioReason → Type 0) where
   nothing_stands : (before : List Members) (ms : Members) (back : List Members) → [] ≡ before ++ ms ∷ back → ⊥

@@ -1,9 +1,8 @@
 -- Lists of which one says another item by item, and lists of entries that grow by one.
-use Rattle.std.proofs.Common.{◌≡◌, ◌⊎◌, ℕ, zero, suc, ◌+◌, ◌<◌, List, [], ◌∷◌, ◌++◌, length, get_or, map, take, Contains, Option, Some, None, refl, sym, ap, ◌∙◌, subst, inl, inr, arith}
-use Rattle.std.specs.Prelude.{slice_get, cond, nat_lt, not, Bool, position}
+use Rattle.std.proofs.Common.{◌≡◌, ◌⊎◌, ℕ, zero, suc, ◌+◌, ◌<◌, List, [], ◌∷◌, ◌++◌, length, get_or, map, take, Contains, Some, None, refl, sym, ap, ◌∙◌, inl, inr, arith}
+use Rattle.std.specs.Prelude.{cond, nat_lt, not, Bool, position}
 use Rattle.std.specs.List.{prefix_len}
 use Rattle.std.proofs.lemmas.List.{map-append, take_more}
-use Rattle.std.proofs.lemmas.Option.{same_Some}
 use Rattle.scenario_lines.specs.Programs.{Each}
 
 -- ---- what a list contains
@@ -36,42 +35,11 @@ module _ {X Y : Type 0} (R : X → Y → Type 0) where
   each_push (w ∷ xs) [] x y e r = absurd e
   each_push (w ∷ xs) (z ∷ ys) x y e r = (e.0, each_push xs ys x y e.1 r)
 
-  pub each_length : (xs : List X) (ys : List Y) → Each R xs ys → length xs ≡ length ys
-  each_length [] [] e = refl
-  each_length [] (y ∷ ys) e = absurd e
-  each_length (x ∷ xs) [] e = absurd e
-  each_length (x ∷ xs) (y ∷ ys) e = ap suc (each_length xs ys e.1)
-
   pub each_map : {Z : Type 0} (f : X → Z) (g : Y → Z) → ((x : X) (y : Y) → R x y → f x ≡ g y) → (xs : List X) (ys : List Y) → Each R xs ys → map f xs ≡ map g ys
   each_map f g same [] [] e = refl
   each_map f g same [] (y ∷ ys) e = absurd e
   each_map f g same (x ∷ xs) [] e = absurd e
   each_map f g same (x ∷ xs) (y ∷ ys) e = ap (λ z. z ∷ map f xs) (same x y e.0) ∙ ap (λ zs. g y ∷ zs) (each_map f g same xs ys e.1)
-
-  pub each_at : (xs : List X) (ys : List Y) (i : ℕ) (y : Y) → Each R xs ys → slice_get ys i ≡ Some y → (x : X) × (slice_get xs i ≡ Some x) × R x y
-  each_at [] [] i y e at = absurd cc
-  each_at [] (z ∷ ys) i y e at = absurd e
-  each_at (x ∷ xs) [] i y e at = absurd e
-  each_at (x ∷ xs) (z ∷ ys) zero y e at = (x, refl, subst (R x) (same_Some z y at) e.0)
-  each_at (x ∷ xs) (z ∷ ys) (suc i) y e at = each_at xs ys i y e.1 at
-
-  pub each_of : (xs : List X) (ys : List Y) (x : X) → Each R xs ys → Contains xs x → (y : Y) × Contains ys y × R x y
-  each_of [] [] x e h = absurd (none_in x h)
-  each_of [] (y ∷ ys) x e h = absurd e
-  each_of (w ∷ xs) [] x e h = absurd e
-  each_of (w ∷ xs) (z ∷ ys) x e h = elim (there_cases w xs x h) [
-    | inl is ↦ (z, there_first z ys, subst (λ (v : X). R v z) is e.0)
-    | inr more ↦ (let r = each_of xs ys x e.1 more in (r.0, there_more z ys r.0 r.1, r.2))
-  ]
-
-  pub each_from : (xs : List X) (ys : List Y) (y : Y) → Each R xs ys → Contains ys y → (x : X) × Contains xs x × R x y
-  each_from [] [] y e h = absurd (none_in y h)
-  each_from [] (z ∷ ys) y e h = absurd e
-  each_from (w ∷ xs) [] y e h = absurd e
-  each_from (w ∷ xs) (z ∷ ys) y e h = elim (there_cases z ys y h) [
-    | inl is ↦ (w, there_first w xs, subst (R w) is e.0)
-    | inr more ↦ (let r = each_from xs ys y e.1 more in (r.0, there_more w xs r.0 r.1, r.2))
-  ]
 
 -- ---- places
 

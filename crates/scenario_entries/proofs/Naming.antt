@@ -1,5 +1,5 @@
 -- Where something of a name stands in a list.
-use Rattle.std.proofs.Common.{◌≡◌, ℕ, zero, suc, ◌+◌, ◌<◌, ◌≤◌, not, Bool, true, false, cond, List, [], ◌∷◌, length, get_or, map, Contains, Option, Some, None, refl, sym, ap, ◌∙◌, inl, inr, arith}
+use Rattle.std.proofs.Common.{◌≡◌, ℕ, zero, suc, ◌+◌, ◌<◌, not, Bool, true, false, cond, List, [], ◌∷◌, length, get_or, map, Contains, Option, Some, None, refl, sym, ap, ◌∙◌, inl, inr, arith}
 use Rattle.std.specs.Prelude.{nat_lt, is_some, slice_get, position}
 use Rattle.std.specs.List.{position_or_len}
 use Rattle.std.specs.Str.{bytes_eq}
@@ -89,13 +89,3 @@ module _ {X : Type 0} (f : X → List ℕ) where
       let is = first_is name xs within in
       let same = both.1 in
       record { item = is.0; at = sym (ap (slice_get xs) same) ∙ is.1; same = is.2; within = omega (arith, within, same) }
-
-  none_by : (b : Bool) (n : ℕ) → cond b (Some n) None ≡ None → b ≡ false
-  none_by true n e = absurd cc
-  none_by false n e = refl
-
-  pub place_none : (name : List ℕ) (xs : List X) → (Contains (map f xs) name → ⊥) → place name xs ≡ None
-  place_none name xs none = elim (cases_Bool (nat_lt (first name xs) (length xs))) [
-    | inl is ↦ absurd (none (first_there name xs (ltb-true _ _ is)))
-    | inr isnt ↦ place_by name xs false isnt
-  ]

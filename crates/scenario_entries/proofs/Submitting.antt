@@ -1,6 +1,5 @@
 -- Which lines have the form of a submission, and how many.
-use Rattle.std.proofs.Common.{◌≡◌, ◌+◌, ℕ, Bool, true, false, cond, List, [], ◌∷◌, ◌++◌, codes, Option, Some, None, refl, sym, ap, ◌∙◌, arith}
-use Rattle.std.specs.List.{count_by}
+use Rattle.std.proofs.Common.{◌≡◌, ◌+◌, ℕ, Bool, true, false, cond, List, [], ◌∷◌, ◌++◌, codes, Some, None, refl, sym, ap, ◌∙◌}
 use Rattle.std.specs.Str.{bytes_eq}
 use Rattle.std.proofs.lemmas.List.Sums.{sum_by_push}
 use Rattle.std.proofs.lemmas.Slice.Eq.{bytes_eq-Decides}
@@ -8,7 +7,6 @@ use Rattle.mrpc_table.specs.Lines.{words_of}
 use Rattle.scenario.specs.Lines.{is_submit, submits_of}
 use Rattle.scenario_lines.specs.Forms.{line_form}
 use Rattle.scenario_lines.specs.Lines.{first_of, form_of}
-use Rattle.scenario_lines.specs.declared.form.LineForm.{LineForm}
 use Rattle.scenario_lines.specs.declared.form.LineForm.TheVariants as line
 use Rattle.scenario_lines.specs.declared.form.ProgramRole.TheVariants as of
 

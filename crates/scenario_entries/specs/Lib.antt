@@ -1,4 +1,3 @@
 pub mod Entries
-pub mod Firsts
 pub mod Linking
 pub mod Ports

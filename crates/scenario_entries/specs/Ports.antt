@@ -4,9 +4,8 @@ use Rattle.std.specs.List.{list_any}
 use Rattle.run_plan.specs.declared.plan.Pair.{Pair}
 use Rattle.toml.specs.Data.{Members}
 use Rattle.scenario.specs.Applications.{conn_of}
-use Rattle.scenario.specs.Keys.{end_a, end_b, role_of}
+use Rattle.scenario.specs.Keys.{role_of}
 use Rattle.scenario.specs.Reasons.{earlier, reason_if}
-use Rattle.scenario_values.specs.Values.{number_in}
 use Rattle.scenario.specs.declared.fault.ScenarioReason.{ScenarioReason}
 use Rattle.scenario.specs.declared.fault.ScenarioReason.TheVariants.{Pair as NoPair, Unknown}
 use Rattle.scenario.specs.declared.form.RoleWord.{RoleWord}

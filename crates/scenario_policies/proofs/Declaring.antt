@@ -9,7 +9,6 @@ use Rattle.std.proofs.lemmas.Option.{get_or_from_slice_get, same_Some}
 use Rattle.mrpc_table.specs.declared.memory.Memory.{Memory}
 use Rattle.mrpc_table.specs.Names.{IsName, is_name_form, is_short}
 use Rattle.mrpc_table.specs.declared.policy_lines.RuleReason.{RuleReason}
-use Rattle.mrpc_table.specs.declared.policy_lines.RuleReason.TheVariants as rule
 use Rattle.mrpc_table.specs.declared.table.Table.{Table}
 use Rattle.engine_core.specs.declared.policy.Policy.{Policy}
 use Rattle.engine_core.specs.declared.policy.Policy.TheVariants as policy
@@ -24,12 +23,12 @@ use Rattle.scenario_policies.specs.Firsts.{IsLined, IsLinesRead, head_first, is_
 use Rattle.scenario.specs.Keys.{cap, has_policy_keys, kind_of, per, policy_ranges, tenant_keys}
 use Rattle.scenario.specs.Policies.{KindSays, LinesFail, PolicyAgainst, TenantAgainst, TenantSays, name_of, names_of}
 use Rattle.scenario.specs.Policies as against
-use Rattle.scenario.specs.Reasons.{IsFirstReason, IsSoFar, earlier, of_rule, order_of, reason_if}
+use Rattle.scenario.specs.Reasons.{IsSoFar, earlier, of_rule, order_of, reason_if}
 use Rattle.scenario.specs.declared.fault.ScenarioReason.{ScenarioReason}
 use Rattle.scenario.specs.declared.fault.ScenarioReason.TheVariants.{Key, Number, Name, Known, Unknown}
 use Rattle.scenario.specs.declared.form.Kind.{Kind}
 use Rattle.scenario.specs.declared.form.Kind.TheVariants as kind
-use Rattle.scenario_policies.proofs.FirstReason.{Either, Flag, alone_first, at_least, flag, joined, none_flag, none_parts, same_reasons}
+use Rattle.scenario_policies.proofs.FirstReason.{Either, Flag, flag, joined, none_flag, none_parts, same_reasons}
 use Rattle.scenario_policies.proofs.Lists.{each_at, each_length, each_map, none_in, position_map, there_cases, there_first, there_more}
 use Rattle.scenario_policies.proofs.Naming as naming
 
@@ -180,27 +179,7 @@ abbrev pub lines_first : Result (Option Policy) RuleReason → Option ScenarioRe
 lines_first (Ok lined) = None
 lines_first (Err why) = Some (of_rule why)
 
-rule_late : (why : RuleReason) → 2 ≤ order_of (of_rule why)
-rule_late rule.Word = omega arith
-rule_late rule.Number = omega arith
-rule_late rule.Name = omega arith
-rule_late rule.Known = omega arith
-rule_late rule.Path = omega arith
-rule_late rule.Default = omega arith
-
 module _ (T : Table) (tenants before : List Members) (ms : Members) where
-  key_late : (q : ScenarioReason) → PolicyAgainst T tenants before ms q → 1 ≤ order_of q
-  key_late q (against.wrong_keys h is) = at_least q Key 1 is (omega arith)
-  key_late q (against.out_of_range r there h is) = at_least q Number 1 is (omega arith)
-  key_late q (against.no_name h is) = at_least q Name 1 is (omega arith)
-  key_late q (against.no_tenant_name k h is) = at_least q Name 1 is (omega arith)
-  key_late q (against.is_known h is) = at_least q Known 1 is (omega arith)
-  key_late q (against.no_tenant k h is) = at_least q Unknown 1 is (omega arith)
-  key_late q (against.in_lines why h is) = at_least q (of_rule why) 1 is (let l = rule_late why in omega (arith, l))
-
-  pub keys_first : has_policy_keys (kind_of ms) ms ≡ false → IsFirstReason (PolicyAgainst T tenants before ms) Key
-  keys_first wrong = alone_first (PolicyAgainst T tenants before ms) Key (against.wrong_keys wrong refl) key_late
-
   module _ (k : Kind) where
     abbrev out_of : ScenarioReason → Type 0
     out_of = Flag (list_all (is_within_at ms) (policy_ranges (Some k)) ≡ false) Number

@@ -1,5 +1,5 @@
 -- The first of the reasons that stand, as it is joined from those of the parts.
-use Rattle.std.proofs.Common.{◌≡◌, ◌⊎◌, ℕ, ◌≤◌, nat_le, Bool, true, false, if◌then◌else◌, Option, Some, None, inl, inr, refl, sym, ap, subst, arith}
+use Rattle.std.proofs.Common.{◌≡◌, ◌⊎◌, nat_le, Bool, true, false, if◌then◌else◌, Option, Some, None, inl, inr, refl, ap, arith}
 use Rattle.std.specs.Bool.{Decides}
 use Rattle.std.proofs.lemmas.Bool.{leb-true, leb-false}
 use Rattle.scenario.specs.Reasons.{IsFirstReason, IsSoFar, earlier, order_of, reason_if}
@@ -69,11 +69,3 @@ none_parts (Some x) (Some y) e = absurd cc
 pub none_flag : (b : Bool) (q : ScenarioReason) → reason_if b q ≡ None → b ≡ false
 none_flag true q e = absurd cc
 none_flag false q e = refl
-
--- a reason before which none can come
-pub alone_first : (C : ScenarioReason → Type 0) (q : ScenarioReason) → C q → ((other : ScenarioReason) → C other → order_of q ≤ order_of other)
-    → IsFirstReason C q
-alone_first C q stands least = record { stands = stands; first = least }
-
-pub at_least : (r q : ScenarioReason) (n : ℕ) → r ≡ q → n ≤ order_of q → n ≤ order_of r
-at_least r q n e h = subst (λ (x : ScenarioReason). n ≤ order_of x) (sym e) h

@@ -9,5 +9,6 @@ mod OnePolicy
 mod Owned
 mod Reentering
 mod Rereading
+mod Rows
 mod Sound
 mod Using

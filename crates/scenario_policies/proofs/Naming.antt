@@ -3,7 +3,7 @@ use Rattle.std.proofs.Common.{◌≡◌, ℕ, zero, suc, ◌+◌, ◌<◌, not, 
 use Rattle.std.specs.Prelude.{nat_lt, is_some, slice_get, position}
 use Rattle.std.specs.List.{position_or_len}
 use Rattle.std.specs.Str.{bytes_eq}
-use Rattle.std.proofs.lemmas.Bool.{cases_Bool, lt-ltb, ltb-true, false≢true}
+use Rattle.std.proofs.lemmas.Bool.{cases_Bool, lt-ltb, ltb-true}
 use Rattle.std.proofs.lemmas.Option.{same_Some}
 use Rattle.std.proofs.lemmas.Slice.Eq.{bytes_eq-Decides}
 
@@ -68,9 +68,6 @@ module _ {X : Type 0} (f : X → List ℕ) where
 
   pub found : (name : List ℕ) (xs : List X) → Contains (map f xs) name → is_some (place name xs) ≡ true
   found name xs h = ap is_some (place_by name xs true (lt-ltb (first name xs) (length xs) (first_within name xs h.0 h.1 h.2)))
-
-  pub none_there : (name : List ℕ) (xs : List X) → place name xs ≡ None → Contains (map f xs) name → ⊥
-  none_there name xs none h = false≢true (sym (ap is_some none) ∙ found name xs h)
 
   some_by : (b : Bool) (n i : ℕ) → cond b (Some n) None ≡ Some i → (b ≡ true) × (n ≡ i)
   some_by true n i e = (refl, same_Some n i e)

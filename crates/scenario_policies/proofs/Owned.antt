@@ -1,14 +1,12 @@
 -- The policies that are named, by their places, and what stands against those that are read again.
-use Rattle.std.proofs.Common.{◌≡◌, ◌⊎◌, ℕ, zero, suc, ◌<◌, Bool, true, false, List, [], ◌∷◌, ◌++◌, length, set, replicate, Option, Some, None, Result, Ok, Err, refl, sym, ap, ◌∙◌, subst, inl, inr, arith}
+use Rattle.std.proofs.Common.{◌≡◌, ◌⊎◌, ℕ, zero, suc, ◌<◌, Bool, true, List, [], ◌∷◌, ◌++◌, length, set, Option, Some, None, Result, Ok, Err, refl, sym, ap, ◌∙◌, subst, inl, inr, arith}
 use Rattle.std.specs.Prelude.{IfOk, slice_get}
-use Rattle.std.proofs.lemmas.List.{length-set, length-replicate}
+use Rattle.std.proofs.lemmas.List.{length-set}
 use Rattle.std.proofs.lemmas.List.Elements.{Contains-append_left, Contains-push, Contains-push_cases}
 use Rattle.std.proofs.lemmas.Option.{same_Some}
 use Rattle.mrpc_table.specs.declared.policy_lines.RuleReason.{RuleReason}
 use Rattle.mrpc_table.specs.declared.table.Table.{Table}
 use Rattle.engine_core.specs.declared.policy.Policy.{Policy}
-use Rattle.engine_core.specs.declared.policy.Policy.TheVariants as policy
-use Rattle.policy_rate.specs.declared.rate.Rate.{Rate as TheRate}
 use Rattle.policy_blocks.specs.Declarations.{Declared, policy_place}
 use Rattle.policy_blocks.specs.declared.item.NamedPolicy.{NamedPolicy}
 use Rattle.toml.specs.Data.{Members}
@@ -26,11 +24,6 @@ ok_more P Q more (Ok a) h = more a h
 ok_more P Q more (Err e) h = tt
 
 -- ---- marks
-
-none_marked : (n j : ℕ) → slice_get (replicate n false) j ≡ Some true → ⊥
-none_marked zero j e = absurd cc
-none_marked (suc n) zero e = absurd cc
-none_marked (suc n) (suc j) e = none_marked n j e
 
 set_true : (xs : List Bool) (i j : ℕ) → slice_get (set xs i true) j ≡ Some true → (i ≡ j) ⊎ (slice_get xs j ≡ Some true)
 set_true [] i j e = absurd cc
@@ -55,13 +48,6 @@ set_here (x ∷ xs) zero within = refl
 set_here (x ∷ xs) (suc i) within = set_here xs i (omega (arith, within))
 
 module _ (d : Declared) where
-  pub marks_none : AreMarked d [] (replicate (length d.policies) false)
-  marks_none = record {
-    long = length-replicate (length d.policies) false;
-    named = λ place e. absurd (none_marked (length d.policies) place e);
-    marked = λ place named. absurd (let within = named.1.1 in omega (arith, within));
-  }
-
   pub place_within : (name : List ℕ) (place : ℕ) → policy_place d name ≡ Some place → place < length d.policies
   place_within name place e = (naming.place_is (λ (p : NamedPolicy). p.name) name d.policies place e).within
 
@@ -111,16 +97,3 @@ module _ (own : Table) (tenants : List Members) (ms : Members) where
 
   pub redact_again : kind_of ms ≡ Some kind.Redact → (r : Result Policy RuleReason) → IsRuled kind.Redact own ms r → IsReadAgain own tenants ms r
   redact_again is = ruled_again kind.Redact is (λ p h. redact_says own tenants ms ⊥ (Some p) is h)
-
-  no_lines : (k : Kind) → kind_of ms ≡ Some k → ((why : RuleReason) → LinesFail (Some k) own ms why → ⊥) → (why : RuleReason)
-      → LinesFail (kind_of ms) own ms why → ⊥
-  no_lines k is none why fails = none why (subst (λ (o : Option Kind). LinesFail o own ms why) is fails)
-
-  pub rate_again : (shared : Table) (r : TheRate) → KindSays shared tenants ms (policy.Rate r) → IsReadAgain own tenants ms (Ok (policy.Rate r))
-  rate_again shared r h = (h, no_lines kind.Rate h.0 (λ why f. absurd f))
-
-  pub quota_again : (shared : Table) (t w c : ℕ) → KindSays shared tenants ms (policy.Quota t w c) → IsReadAgain own tenants ms (Ok (policy.Quota t w c))
-  quota_again shared t w c h = (h, no_lines kind.Quota h.0 (λ why f. absurd f))
-
-  pub count_again : (shared : Table) → KindSays shared tenants ms policy.Count → IsReadAgain own tenants ms (Ok policy.Count)
-  count_again shared h = (h, no_lines kind.Count h (λ why f. absurd f))

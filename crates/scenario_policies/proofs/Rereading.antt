@@ -91,13 +91,6 @@ module _ (entries tenants : List Members) (own : Table) (marks : List Bool) wher
           | inr there ↦ inl (record { place = h.place; marked = there; entry = h.entry; there = h.there; why = h.why; fails = h.fails; is = h.is })
         ])
 
-  pub read_none : AreReadAgain entries tenants own [] []
-  read_none = record {
-    marked = λ place. (λ h. absurd (none_in place h), λ e. absurd (let none : None ≡ Some true = e in cc));
-    ascend = tt;
-    read = λ k d within. absurd (omega (arith, within));
-  }
-
   places_push : (policies : List OwnPolicy) (p : OwnPolicy) → map (λ o. o.place) (policies ++ p ∷ []) ≡ map (λ (o : OwnPolicy). o.place) policies ++ p.place ∷ []
   places_push policies p = map-append (λ (o : OwnPolicy). o.place) policies (p ∷ [])
 

@@ -4,9 +4,9 @@
 //! its first reason (`scenario_entries` has the words). Policies that a connection uses are read again under the schema
 //! of its application, all of them or with the first reason against them (`specs/Owning.antt`). The crate stands on
 //! `scenario`, on `policy_access` and `policy_redact` for the lines of policies, on `policy_blocks` for what is
-//! declared, on `run_plan`, and on `proto_schema` and `schema_resolve` for the law that a schema has one table. The reader
-//! of whole scenarios uses one contract: what is declared is what the entries say, under either table, and a fault is
-//! their first.
+//! declared, on `run_plan`, and on `proto_schema` and `schema_resolve` for the law that a schema has one table. The
+//! reader of whole scenarios uses one contract: what is declared is what the entries say, under either table, and a
+//! fault is their first.
 #![tactic(auto)]
 
 mod laws;

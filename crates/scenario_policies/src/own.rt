@@ -1,6 +1,7 @@
 //! The policies that a connection uses, as they are read under the schema of its application.
 
-ghost use Rattle.std.specs.Prelude.{◌≡◌, ℕ, List, Some, IfOk, MatchResult, Contains, codes, false, length, map, replicate};
+ghost use Rattle.std.specs.Prelude.{◌≡◌, ℕ, List, Some, IfOk, MatchResult, Contains, codes};
+ghost use Rattle.std.specs.Prelude.{false, length, map, replicate};
 ghost use Rattle.mrpc_table.specs.Valid.{IsValid};
 ghost use Rattle.mrpc_table.specs.declared.table.Table.{Table as TheTable};
 ghost use Rattle.toml.specs.Data.{Members};

@@ -89,8 +89,8 @@ fn quota_in(declared: &Declarations, entry: &Table) -> Option<Policy>
     }
 }
 
-/// The policy of an entry of a kind, by what its lines say; none where the tenant of a quota isn't declared, or its lines
-/// say nothing.
+/// The policy of an entry of a kind, by what its lines say; none where the tenant of a quota isn't declared, or its
+/// lines say nothing.
 fn policy_in(
     declared: &Declarations,
     kind: Kind,
@@ -99,7 +99,8 @@ fn policy_in(
 ) -> Option<Policy>
     ensures { (T : TheTable) (tenants : List Members) → kind_of (table_view entry.now) ≡ Some kind
         → IsLined kind T (table_view entry.now) lined → Each TenantSays tenants declared.now.tenants
-        → MatchOption result ((kind ≡ of_kind.Quota) × (tenant_place declared.now (tenant_of (table_view entry.now)) ≡ None))
+        → MatchOption result
+        ((kind ≡ of_kind.Quota) × (tenant_place declared.now (tenant_of (table_view entry.now)) ≡ None))
         (KindSays T tenants (table_view entry.now)) }
 {
     match kind {

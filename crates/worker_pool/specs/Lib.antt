@@ -1,3 +1,4 @@
 pub mod Later
 pub mod Rule
 pub mod Workers
+pub mod Visits

@@ -1,9 +1,10 @@
 //! A pool of workers over a queue of whole connections.
 //!
 //! [`run`] takes some items, each a connection with everything that belongs to it, and starts workers. A worker takes
-//! an item from the one queue, by value, makes one visit, and puts it back unless it is over; no lock holds an item.
-//! Where nothing is to be done, a worker spins a little, then yields, and then sleeps in growing steps. The run ends
-//! once all items are over, or once the stop flag is set. It stands on the ruled array queue of `crossbeam_queue` and on
+//! an item from the one queue, by value, makes one visit, by a closure that the run is given, and puts it back unless it is
+//! over; no lock holds an item.
+//! Where nothing is to be done, a worker spins a little, then yields, and then sleeps in growing steps. The run ends once
+//! all items are over, or once the stop flag is set. It stands on the ruled array queue of `crossbeam_queue` and on
 //! `stop_flag`.
 //!
 //! The layer above uses one contract: each item comes back once, at its place, and is then the item that was handed in,

@@ -3,13 +3,14 @@ ghost use Rattle.std.specs.List.{AllZip};
 ghost use Rattle.std.specs.Vec.{vec_capacity};
 ghost use Rattle.crossbeam_queue.specs.Passes.{view, IsSamePass};
 ghost use Rattle.worker_pool.specs.Rule.{all_parts, hand};
+ghost use Rattle.worker_pool.specs.Visits.{EachLeaves};
 ghost use Rattle.worker_pool.specs.Workers.{HasEnded, IsFresh, IsLinePass, IsOfRun, Knows};
 ghost use Rattle.worker_pool.specs.Later.{IsLater};
 ghost use Rattle.worker_pool.specs.declared.limits.TheConstants.{MOST_ITEMS, MOST_WORKERS};
 
 use crate::hand::{Enters, Line, LinePass, Numbered, Shares};
 use crate::limits::{MOST_ITEMS, MOST_WORKERS};
-use crate::visited::Visited;
+use crate::visited::{Visit, Visited};
 use crate::worker::Worker;
 use std::alloc::{AllocError, Global};
 use std::sync::Wait;
@@ -27,18 +28,26 @@ pub struct Ran<T> {
     pub stopped: bool,
 }
 
-/// Visits items by so many workers, until all are over or the flag is set, and gives them back. Items are numbered by
-/// their places in the list. Where no thread can be made, the workers run one after another.
+/// Visits items by so many workers, until all are over or the flag is set, and gives them back. A visit does what can be
+/// done now, and may wait only where the item's own handle lets it. Items are numbered by their places in the list. Where no thread can be made, the workers run one after another.
 ///
 /// It fails only where no memory was found, and then all items are dropped. Whatever it needs is taken before the first
 /// visit, but for what the start of threads takes.
-pub fn run<R: Threads + Wait + Sync, T: Visited + Send + Drop, S: StopFlag>(
+pub fn run<
+    R: Threads + Wait + Sync,
+    T: Visited + Send + Drop,
+    S: StopFlag,
+    V: Fn(&mut T) -> Visit + Sync,
+>(
     rt: &R,
     alloc: Global,
     items: Vec<T>,
     workers: usize,
     stop: &S,
+    visit: &V,
 ) -> Result<Ran<T>, AllocError>
+    requires callable { V.IsAlwaysCallable visit.now }
+    requires leaves { EachLeaves T.since T.over (V.post visit.now) }
     requires few_items { length items.items ≤ MOST_ITEMS }
     requires some_worker { 1 ≤ workers }
     requires few_workers { workers ≤ MOST_WORKERS }
@@ -57,9 +66,9 @@ pub fn run<R: Threads + Wait + Sync, T: Visited + Send + Drop, S: StopFlag>(
         stopped: false,
     };
     let left = AtomicU64::new(count as u64);
-    let ended = work_beside(rt, &line, &left, stop, jobs)?;
+    let ended = work_beside(rt, &line, &left, stop, visit, jobs)?;
     absorb_all(&line, &mut all, ended, stop);
-    all.finish(rt, &line, stop);
+    all.finish(rt, &line, stop, visit);
     Ok(all.into_items(back))
 }
 
@@ -148,13 +157,21 @@ fn share<T: Visited>(line: &Line<T>, pass: &mut LinePass<T>, kept: Vec<Numbered<
 }
 
 // Lets workers work beside each other, up to the end of each.
-fn work_beside<R: Threads + Wait + Sync, T: Visited + Send + Drop, S: StopFlag>(
+fn work_beside<
+    R: Threads + Wait + Sync,
+    T: Visited + Send + Drop,
+    S: StopFlag,
+    V: Fn(&mut T) -> Visit + Sync,
+>(
     rt: &R,
     line: &Line<T>,
     left: &AtomicU64,
     stop: &S,
+    visit: &V,
     jobs: Vec<Worker<T>>,
 ) -> Result<Vec<Worker<T>>, AllocError>
+    requires callable { V.IsAlwaysCallable visit.now }
+    requires leaves { EachLeaves T.since T.over (V.post visit.now) }
     requires fresh { All (IsFresh T.since T.over line.now) jobs.items }
     ensures len { IfOk result (λ ended. length ended.items ≡ length jobs.items) }
     ensures of_run { (firsts : List T) → All (Knows firsts) jobs.items
@@ -166,9 +183,11 @@ fn work_beside<R: Threads + Wait + Sync, T: Visited + Send + Drop, S: StopFlag>(
         jobs,
         &|worker: Worker<T>| -> Worker<T>
             requires fresh { IsFresh T.since T.over line.now worker }
+            requires callable { V.IsAlwaysCallable visit.now }
+            requires leaves { EachLeaves T.since T.over (V.post visit.now) }
             ensures ended { HasEnded T.since T.over (S.may_be_set stop.entry.now) result }
             ensures of_run { IsOfRun line.entry.now (view worker.pass).firsts result }
-        { worker.work(rt, line, left, stop) },
+        { worker.work(rt, line, left, stop, visit) },
     )
 }
 

@@ -1,5 +1,3 @@
-ghost use Rattle.std.specs.Prelude.{◌≡◌};
-
 /// What a visit came to.
 #[derive(Clone, Copy, PartialEq, Eq)]
 pub enum Visit {
@@ -12,7 +10,8 @@ pub enum Visit {
 }
 
 /// An item of a pool: a connection with everything that belongs to it. One worker at a time holds it by value, each
-/// time perhaps another one.
+/// time perhaps another one. What a visit does is a closure of its own, which a run is given: it may call whatever asks
+/// of its types that threads share them.
 pub trait Visited {
     /// That the second is the first, later on: whatever an item was once, each visit leaves it so. It says which parts
     /// of an item are constants, those that its references show included, and how the others may come to change.
@@ -20,9 +19,4 @@ pub trait Visited {
 
     /// That it is over.
     ghost over: { Self → Type 0 };
-
-    /// Makes one visit. It does what can be done now, and may wait only where the item's own handle lets it.
-    fn visit(&mut self) -> Visit
-        ensures same_item { (first : Self) → since first self.old → since first self.new }
-        ensures over { result ≡ Visit.Over → over self.new };
 }

@@ -5,6 +5,7 @@ ghost use Rattle.std.specs.List.Sorted.{IsNonDecreasingBy};
 ghost use Rattle.std.specs.Vec.{vec_capacity};
 ghost use Rattle.crossbeam_queue.specs.Passes.{view, IsSamePass};
 ghost use Rattle.worker_pool.specs.Later.{IsLater};
+ghost use Rattle.worker_pool.specs.Visits.{EachLeaves};
 ghost use Rattle.worker_pool.specs.Rule.{IsOneOf, StandOnce, Took, all_parts, hand, numbers_of, without_last};
 ghost use Rattle.worker_pool.specs.Workers.{GoesOn, HasEnded, IsLinePass, IsWorker};
 
@@ -74,7 +75,14 @@ fn put_back<R: Wait, T: Visited>(
 
 impl<T: Visited + Drop> Worker<T> {
     // Takes an item, makes one visit, and puts it back or keeps it.
-    pub(crate) fn turn<R: Wait>(&mut self, rt: &R, line: &Line<T>) -> Turn
+    pub(crate) fn turn<R: Wait, V: Fn(&mut T) -> Visit>(
+        &mut self,
+        rt: &R,
+        line: &Line<T>,
+        visit: &V,
+    ) -> Turn
+        requires callable { V.IsAlwaysCallable visit.now }
+        requires leaves { EachLeaves T.since T.over (V.post visit.now) }
         requires pass { IsLinePass line.now self.old.pass }
         requires part { 0 < (view self.old.pass).parts }
         requires worker { IsWorker T.since T.over self.old }
@@ -87,7 +95,7 @@ impl<T: Visited + Drop> Worker<T> {
         let Some(mut numbered) = take(rt, line, &mut self.pass) else {
             return Turn::Empty;
         };
-        match numbered.item.visit() {
+        match visit(&mut numbered.item) {
             Visit::Over => {
                 self.kept.push_reserved(numbered);
                 Turn::Kept
@@ -123,13 +131,16 @@ impl<T: Visited + Drop> Worker<T> {
     }
 
     // Takes turns beside other workers, until no item is left that isn't over, or the flag is set.
-    pub(crate) fn work<R: Wait, S: StopFlag>(
+    pub(crate) fn work<R: Wait, S: StopFlag, V: Fn(&mut T) -> Visit>(
         mut self,
         rt: &R,
         line: &Line<T>,
         left: &AtomicU64,
         stop: &S,
+        visit: &V,
     ) -> Worker<T>
+        requires callable { V.IsAlwaysCallable visit.now }
+        requires leaves { EachLeaves T.since T.over (V.post visit.now) }
         requires pass { IsLinePass line.now self.pass }
         requires part { 0 < (view self.pass).parts }
         requires worker { IsWorker T.since T.over self }
@@ -143,7 +154,7 @@ impl<T: Visited + Drop> Worker<T> {
                 self.stopped = true;
                 break;
             }
-            match self.turn(rt, line) {
+            match self.turn(rt, line, visit) {
                 Turn::Kept => {
                     left.fetch_sub(1, Ordering::SeqCst);
                     pauses.reset();
@@ -158,7 +169,15 @@ impl<T: Visited + Drop> Worker<T> {
     }
 
     // Takes turns alone, until the queue is empty. Once the flag is set it visits nothing more, and keeps what waits.
-    pub(crate) fn finish<R: Wait, S: StopFlag>(&mut self, rt: &R, line: &Line<T>, stop: &S)
+    pub(crate) fn finish<R: Wait, S: StopFlag, V: Fn(&mut T) -> Visit>(
+        &mut self,
+        rt: &R,
+        line: &Line<T>,
+        stop: &S,
+        visit: &V,
+    )
+        requires callable { V.IsAlwaysCallable visit.now }
+        requires leaves { EachLeaves T.since T.over (V.post visit.now) }
         requires pass { IsLinePass line.now self.old.pass }
         requires all { (view self.old.pass).parts ≡ all_parts }
         requires ended { HasEnded T.since T.over (S.may_be_set stop.now) self.old }
@@ -171,7 +190,7 @@ impl<T: Visited + Drop> Worker<T> {
             if stop.is_set() {
                 self.stopped = true;
             }
-            match self.turn_unless_stopped(rt, line) {
+            match self.turn_unless_stopped(rt, line, visit) {
                 Turn::Empty => return,
                 Turn::Idle => pauses.after_idle(rt, MOST_ITEMS as u64),
                 Turn::Worked | Turn::Kept => pauses.reset(),
@@ -181,7 +200,14 @@ impl<T: Visited + Drop> Worker<T> {
     }
 
     // Takes an item, and visits it unless the worker was stopped.
-    fn turn_unless_stopped<R: Wait>(&mut self, rt: &R, line: &Line<T>) -> Turn
+    fn turn_unless_stopped<R: Wait, V: Fn(&mut T) -> Visit>(
+        &mut self,
+        rt: &R,
+        line: &Line<T>,
+        visit: &V,
+    ) -> Turn
+        requires callable { V.IsAlwaysCallable visit.now }
+        requires leaves { EachLeaves T.since T.over (V.post visit.now) }
         requires pass { IsLinePass line.now self.old.pass }
         requires part { 0 < (view self.old.pass).parts }
         requires worker { IsWorker T.since T.over self.old }
@@ -194,7 +220,7 @@ impl<T: Visited + Drop> Worker<T> {
         if self.stopped {
             self.take_unvisited(rt, line)
         } else {
-            self.turn(rt, line)
+            self.turn(rt, line, visit)
         }
     }
 

@@ -1,4 +1,4 @@
-use Rattle.std.proofs.Common.{◌≡◌, ◌≤◌, length}
+use Rattle.std.proofs.Common.{◌≡◌, length}
 use Rattle.app_tests.specs.Services.{IsTaking}
 use Rattle.app_tests.proofs.service.serve.Given as goal
 

@@ -1,4 +1,4 @@
-use Rattle.std.proofs.Common.{◌≡◌, ℕ, List, sym, ap, ◌∙◌, subst, refl, None, arith}
+use Rattle.std.proofs.Common.{ℕ, List, sym, ap, ◌∙◌, subst, refl, None, arith}
 use Rattle.std.specs.Prelude.{is_some}
 use Rattle.std.specs.List.{insert}
 use Rattle.engine_core.specs.declared.op.Op.TheVariants as op

@@ -1,0 +1,140 @@
+//! The faults of a proto file.
+
+ghost use Rattle.std.specs.Prelude.{List, ℕ, ◌≡◌, ◌<◌, ◌^◌, length, IfOk};
+ghost use Rattle.explain.specs.Findings.{PointsInto};
+ghost use Rattle.explain.specs.Said.{IsTextOf};
+ghost use Rattle.proto_schema.specs.Faults.{IsFaultOf};
+ghost use Rattle.proto_schema.specs.declared.fault.ProtoFault.TheVariants.{At};
+
+use crate::commands::only;
+use crate::expected::say_expected;
+use crate::fault_line::FaultLine;
+use crate::finding::Finding;
+use crate::offence::found_offence;
+use crate::part::Part;
+use crate::sentence::{Around, Sentence};
+use crate::set::explain_set;
+use file_bundle::is_bundle;
+use mrpc_table::Memory;
+use proto_file::Span;
+use proto_schema::{ProtoFault, ProtoReason, alone_is_ordered, read_proto};
+use schema_resolve::{ResolveFault, resolve};
+use std::alloc::Global;
+
+/// How long a text is that isn't read again. No input that a command reads is so long.
+pub(crate) const TOO_LONG: usize = 0x1000_0000;
+
+/// What stands against a proto file or a set of files.
+pub(crate) fn explain_check<'a>(
+    alloc: Global,
+    input: &'a [u8],
+    fault: &FaultLine<'_>,
+    front: &mut Sentence,
+) -> Result<Finding<'a>, Memory>
+    ensures { IfOk result (λ f. PointsInto input.now f.part) }
+{
+    if input.len() > TOO_LONG {
+        return only(alloc, b"the input has a fault");
+    }
+    if is_bundle(input) {
+        explain_set(alloc, input, fault, front)
+    } else {
+        explain_file(alloc, input)
+    }
+}
+
+// What stands against a file by itself.
+fn explain_file<'a>(alloc: Global, text: &'a [u8]) -> Result<Finding<'a>, Memory>
+    requires short { length text.now < 2 ^ 62 }
+    ensures { IfOk result (λ f. PointsInto text.now f.part) }
+{
+    alone_is_ordered();
+    let file = match read_proto(alloc, text) {
+        Ok(file) => file,
+        Err(
+            ProtoFault::At {
+                reason,
+                start,
+                end,
+                ..
+            },
+        ) => {
+            return found_token(alloc, text, reason, start, end);
+        }
+        Err(ProtoFault::Memory) => return Err(Memory),
+    };
+    match resolve(alloc, &file) {
+        Err(
+            ResolveFault::At {
+                reason,
+                start,
+                end,
+                line,
+            },
+        ) => { found_offence(alloc, text, &file, reason, Span { start, end, line }) }
+        Err(ResolveFault::Memory) => Err(Memory),
+        Ok(_) => only(alloc, b"the input has a fault"),
+    }
+}
+
+/// What is wrong with the first token at fault of a text.
+pub(crate) fn found_token<'a>(
+    alloc: Global,
+    text: &'a [u8],
+    reason: ProtoReason,
+    start: usize,
+    end: usize,
+) -> Result<Finding<'a>, Memory>
+    ensures { (input : List ℕ) (line : ℕ) → IsTextOf input text.now → IsFaultOf text.now (At reason start end line)
+        → IfOk result (λ f. PointsInto input f.part) }
+{
+    let mut sentence = Sentence::new(alloc);
+    say_token(alloc, text, reason, start, end, &mut sentence)?;
+    Ok(Finding {
+        sentence,
+        part: Some(Part::of(text, start, end)),
+    })
+}
+
+fn say_token(
+    alloc: Global,
+    text: &[u8],
+    reason: ProtoReason,
+    start: usize,
+    end: usize,
+    sentence: &mut Sentence,
+) -> Result<(), Memory> {
+    match token_words(reason) {
+        None => say_expected(alloc, text, start, end, sentence),
+        Some(words) => sentence.say_around(words, text, start, end),
+    }
+}
+
+// What is said in front of the token and behind it; None where it is said what could stand there.
+fn token_words(reason: ProtoReason) -> Option<Around> {
+    match reason {
+        ProtoReason::Token => Some(Around::quoted("no token begins with ", "")),
+        ProtoReason::Expected => None,
+        ProtoReason::Import => Some(Around::quoted(
+            "expected a path in quotation marks or \"public\" behind \"import\", found ",
+            "",
+        )),
+        ProtoReason::Stream => Some(Around::alone(
+            "an rpc of this profile has one request and one reply: \"stream\" can't stand here",
+        )),
+        ProtoReason::Group => Some(Around::alone(
+            "\"group\" isn't part of proto3: a message's name stands here",
+        )),
+        ProtoReason::Extend => Some(Around::quoted(
+            "extensions aren't part of this profile: ",
+            " can't stand here",
+        )),
+        ProtoReason::Syntax2 => Some(Around::quoted(
+            "expected syntax = \"proto3\"; as the first statement, found ",
+            "",
+        )),
+        ProtoReason::Nesting => Some(Around::alone(
+            "at most 32 messages stand in one another, and this is the 33rd",
+        )),
+    }
+}

@@ -1,0 +1,108 @@
+//! What could stand in the place of a token that can't.
+
+use crate::sentence::Sentence;
+use mrpc_table::{Bytes, Memory};
+use proto_schema::{ProtoFault, read_proto};
+use std::alloc::Global;
+
+/// How long the text in front of a token is, at the most, where it is tried what could stand there. It is read again
+/// for each token that is tried.
+const LONGEST: usize = 0x10_0000;
+
+/// Names, numbers, strings and marks that are tried, and then words, which are tried where not every name can stand.
+const TOKENS: [&[u8]; 24] = [
+    b"x", b"1", b"'x'", b";", b"=", b"{", b"}", b"(", b")", b"[", b"]", b"<", b">", b",",
+    b"returns", b"message", b"enum", b"service", b"rpc", b"import", b"package", b"option",
+    b"syntax", b"to",
+];
+
+/// The place of the first word among them.
+const FIRST_WORD: usize = 14;
+
+/// Says `expected X, Y or Z, found W` about the token that stands in a text from one place to another. What is named is
+/// what the reader of proto files takes in its place.
+pub(crate) fn say_expected(
+    alloc: Global,
+    text: &[u8],
+    start: usize,
+    end: usize,
+    sentence: &mut Sentence,
+) -> Result<(), Memory> {
+    let front = &text[..start.min(text.len())];
+    sentence.say(b"expected ")?;
+    if front.len() > LONGEST {
+        sentence.say(b"another token")?;
+    } else {
+        let places = standing(alloc, front)?;
+        say_list(places.as_slice(), sentence)?;
+    }
+    sentence.say(b", found ")?;
+    sentence.quote_part(text, start, end)
+}
+
+// The places of the tokens that can stand behind the beginning of a text.
+fn standing(alloc: Global, front: &[u8]) -> Result<Vec<usize>, Memory> {
+    let mut places = Vec::new(alloc);
+    let any_name = can_stand(alloc, front, b"x")?;
+    let tried = if any_name { FIRST_WORD } else { TOKENS.len() };
+    for place in 0..tried {
+        if can_stand(alloc, front, token_at(place))? {
+            places.push(place)?;
+        }
+    }
+    Ok(places)
+}
+
+fn token_at(place: usize) -> &'static [u8] {
+    if place < TOKENS.len() {
+        TOKENS[place]
+    } else {
+        b""
+    }
+}
+
+// Whether a token can stand behind the beginning of a text: the first fault of both stands behind the token.
+fn can_stand(alloc: Global, front: &[u8], token: &[u8]) -> Result<bool, Memory> {
+    let mut text = Bytes::from_slice(alloc, &front[..front.len().min(LONGEST)])?;
+    text.append(b" ")?;
+    text.append(&token[..token.len().min(8)])?;
+    let behind = text.len();
+    text.append(b" ")?;
+    match read_proto(alloc, text.as_slice()) {
+        Ok(_) => Ok(true),
+        Err(ProtoFault::At { start, .. }) => Ok(start >= behind),
+        Err(ProtoFault::Memory) => Err(Memory),
+    }
+}
+
+// Names tokens, with `or` in front of the last one.
+fn say_list(places: &[usize], sentence: &mut Sentence) -> Result<(), Memory> {
+    if places.is_empty() {
+        return sentence.say(b"another token");
+    }
+    for (i, place) in places.iter().enumerate() {
+        if i > 0 {
+            sentence.say(joint(i, places.len()))?;
+        }
+        say_token(token_at(*place), sentence)?;
+    }
+    Ok(())
+}
+
+// What stands in front of a part of a list, which isn't the first one.
+fn joint(place: usize, count: usize) -> &'static [u8] {
+    if place.saturating_add(1) < count {
+        b", "
+    } else {
+        b" or "
+    }
+}
+
+fn say_token(token: &[u8], sentence: &mut Sentence) -> Result<(), Memory> {
+    match token {
+        b"x" => sentence.say(b"a name"),
+        b"1" => sentence.say(b"a number"),
+        b"'x'" => sentence.say(b"a string"),
+        _ => sentence.quote(token),
+    }
+}

@@ -1,0 +1,174 @@
+//! The faults of `decode`: of the text in front of the frames, and of the frames.
+
+ghost use Rattle.std.specs.Prelude.{◌≤◌, ℕ, List, length, IfOk};
+ghost use Rattle.mrpc_table.specs.Valid.{IsValid};
+ghost use Rattle.explain.specs.Findings.{PointsInto};
+
+use crate::fault_line::FaultLine;
+use crate::finding::Finding;
+use crate::frame_path::say_path;
+use crate::lines::{Format, explain_line};
+use crate::sentence::Sentence;
+use frame_transport::{HEADER_LEN, frame_at};
+use mrpc_table::{Memory, Table, is_word};
+use std::alloc::Global;
+use table_text::{TableFault, read_table, split_table};
+
+/// What stands in front of the table of an input of `decode`.
+const HEAD: &[u8] = b"mrpc-decode 1\ntable\n";
+
+/// How many bytes are shown in front of a byte, and behind it, at the most.
+const AROUND: usize = 12;
+
+/// What stands against an input of `decode`.
+pub(crate) fn explain_decode<'a>(
+    alloc: Global,
+    input: &'a [u8],
+    fault: &FaultLine<'_>,
+) -> Result<Finding<'a>, Memory>
+    ensures { IfOk result (λ f. PointsInto input.now f.part) }
+{
+    let Some((text, stream)) = split_table(input, HEAD) else {
+        return explain_line(alloc, input, fault, Format::Decode);
+    };
+    match read_table(alloc, text) {
+        Ok(table) => found_frames(alloc, &table, stream, fault),
+        Err(TableFault::Memory) => Err(Memory),
+        Err(TableFault::At { .. }) => explain_line(alloc, input, fault, Format::Decode),
+    }
+}
+
+// What stands against the frames, in a sentence alone.
+fn found_frames<'a>(
+    alloc: Global,
+    table: &Table,
+    stream: &[u8],
+    fault: &FaultLine<'_>,
+) -> Result<Finding<'a>, Memory>
+    requires valid { IsValid table.now }
+    ensures { (input : List ℕ) → IfOk result (λ f. PointsInto input f.part) }
+{
+    let mut sentence = Sentence::new(alloc);
+    let at = if fault.place < stream.len() as u64 {
+        fault.place as usize
+    } else {
+        stream.len()
+    };
+    say_where(
+        table,
+        stream,
+        at,
+        byte_within(at, fault.reason),
+        &mut sentence,
+    )?;
+    sentence.say(b": ")?;
+    sentence.say(frame_sentence(fault.reason).as_bytes())?;
+    sentence.end_line()?;
+    say_around(stream, at, &mut sentence)?;
+    Ok(Finding::alone(sentence))
+}
+
+// A byte of the frame at fault. A message that is too deep starts at the place of the fault, and may be empty and the
+// last of its frame; the byte of its length stands in front of it.
+fn byte_within(at: usize, reason: &[u8]) -> usize
+    ensures { result ≤ at }
+{
+    if is_word(reason, b"Depth") {
+        at.saturating_sub(1)
+    } else {
+        at
+    }
+}
+
+// Says the place of a fault, and in which frame and which field a byte stands.
+fn say_where(
+    table: &Table,
+    stream: &[u8],
+    at: usize,
+    byte: usize,
+    sentence: &mut Sentence,
+) -> Result<(), Memory>
+    requires valid { IsValid table.now }
+    requires within { byte ≤ length stream.now }
+{
+    let (count, from) = frame_around(stream, byte);
+    sentence.say(b"byte ")?;
+    sentence.say_number(at as u64)?;
+    sentence.say(b" of the frames, in frame ")?;
+    sentence.say_number(count)?;
+    sentence.say(b" at byte ")?;
+    sentence.say_number(from as u64)?;
+    match frame_at(0, &stream[from..]) {
+        Ok(Some(frame)) => say_path(table, &frame, byte - from, sentence),
+        _ => Ok(()),
+    }
+}
+
+// The number of the frame, from 1, in which a byte of a stream stands, and the place at which that frame begins.
+fn frame_around(stream: &[u8], at: usize) -> (u64, usize)
+    ensures before { result.1 ≤ at }
+{
+    let mut from = 0;
+    let mut count: u64 = 1;
+    for _ in 0..stream.len() {
+        let Some(behind) = frame_end(stream, from) else {
+            break;
+        };
+        if behind > at {
+            break;
+        }
+        from = behind;
+        count = count.saturating_add(1);
+    }
+    (count, from.min(at))
+}
+
+// The place behind the frame that begins at a place; None where no whole frame stands there.
+fn frame_end(stream: &[u8], from: usize) -> Option<usize> {
+    if from > stream.len() {
+        return None;
+    }
+    match frame_at(0, &stream[from..]) {
+        Ok(Some(frame)) => Some(
+            from.saturating_add(HEADER_LEN)
+                .saturating_add(frame.payload.len()),
+        ),
+        _ => None,
+    }
+}
+
+// What a reason says.
+fn frame_sentence(reason: &[u8]) -> &'static str {
+    match reason {
+        b"Version" => "the version of a frame is 1, of a hello 1 or 2",
+        b"Kind" => "the kind of a frame is 1 (a request), 2 (a reply) or 3 (a hello)",
+        b"TooLong" => "a payload has 262144 bytes at the most",
+        b"NoMethod" => "the table has no method of this index",
+        b"Varint" => "a varint has ten bytes at the most",
+        b"TagRange" => "a tag is below 4294967296",
+        b"NumberZero" => "a field number is at least 1",
+        b"WireType" => "a wire type is 0, 1, 2 or 5",
+        b"Short" => "the bytes end inside of what begins here",
+        b"Utf8" => "the payload of a string isn't UTF-8",
+        b"PackedLength" => "the payload of packed numbers isn't whole numbers",
+        b"Depth" => "32 messages stand in one another at the most, and this is the 33rd",
+        _ => "the frame is at fault",
+    }
+}
+
+// Shows the bytes around a place in hexadecimal digits, with a mark under its own.
+fn say_around(stream: &[u8], at: usize, sentence: &mut Sentence) -> Result<(), Memory>
+    requires within { at ≤ length stream.now }
+{
+    let from = at - at.min(AROUND);
+    let to = at + (stream.len() - at).min(AROUND);
+    for byte in &stream[from..to] {
+        sentence.say_digits(*byte)?;
+        sentence.say(b" ")?;
+    }
+    sentence.end_line()?;
+    for _ in from..at {
+        sentence.say(b"   ")?;
+    }
+    sentence.say(b"^^")
+}

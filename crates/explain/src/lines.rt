@@ -1,0 +1,180 @@
+//! The faults of texts of lines: scripts, what stands in front of frames, and audits.
+
+ghost use Rattle.std.specs.Prelude.{IfOk};
+ghost use Rattle.explain.specs.Findings.{PointsInto};
+
+use crate::fault_line::{FAULT, FaultLine};
+use crate::finding::Finding;
+use crate::line_forms::line_form;
+use crate::line_reasons::reason_sentence;
+use crate::script_words_at_fault::{WordAtFault, word_at_fault};
+use crate::sentence::Sentence;
+use crate::text_lines::TextLine;
+use mrpc_table::{Memory, cut, is_word};
+use std::alloc::Global;
+
+/// What a text of lines is.
+#[derive(Clone, Copy)]
+pub(crate) enum Format {
+    /// A script, which `replay` reads.
+    Replay,
+    /// What stands in front of the frames that `decode` reads.
+    Decode,
+    /// An audit.
+    Audit,
+}
+
+impl Format {
+    fn first_line(self) -> &'static str {
+        match self {
+            Format::Replay => "mrpc-replay 1",
+            Format::Decode => "mrpc-decode 1",
+            Format::Audit => "mrpc-audit 1",
+        }
+    }
+
+    // The line whose absence is a fault of its own.
+    fn last_line(self) -> &'static str {
+        match self {
+            Format::Audit => "audit",
+            _ => "close",
+        }
+    }
+}
+
+/// What stands against a line of a text.
+pub(crate) fn explain_line<'a>(
+    alloc: Global,
+    text: &'a [u8],
+    fault: &FaultLine<'_>,
+    format: Format,
+) -> Result<Finding<'a>, Memory>
+    ensures { IfOk result (λ f. PointsInto text.now f.part) }
+{
+    let mut sentence = Sentence::new(alloc);
+    let line = TextLine::of(text, fault.place);
+    let found = word_at_fault(&line, fault.reason, format);
+    if line.bytes.is_empty() {
+        say_missing(&line, fault.reason, format, &mut sentence)?;
+    } else if is_word(fault.reason, b"Header") {
+        sentence.say(b"expected the first line to be ")?;
+        sentence.quote(format.first_line().as_bytes())?;
+    } else {
+        say_reason(&line, fault.reason, format, found, &mut sentence)?;
+    }
+    say_end(&line, &mut sentence)?;
+    let part = match found {
+        Some(word) => line.word(word.place),
+        None => line.whole(),
+    };
+    Ok(Finding::in_line(sentence, part))
+}
+
+// What is missing at the end of the text, or that a line is empty.
+fn say_missing(
+    line: &TextLine<'_>,
+    reason: &[u8],
+    format: Format,
+    sentence: &mut Sentence,
+) -> Result<(), Memory> {
+    if line.start < line.text.len() {
+        return sentence.say(b"an empty line can't stand here");
+    }
+    sentence.say(b"the text ends here, and a line is missing: ")?;
+    sentence.say(missing_line(line.text, reason, format).as_bytes())
+}
+
+fn missing_line(text: &[u8], reason: &[u8], format: Format) -> &'static str {
+    match reason {
+        b"Word" if !has_table(text) => "table",
+        b"Header" => format.first_line(),
+        b"Close" => format.last_line(),
+        b"Default" => "the default of a policy",
+        b"Syntax" | b"Number" => "the value 0 of an enum",
+        _ => "the end of the table or of a policy",
+    }
+}
+
+// Whether the table begins in the line where it may.
+fn has_table(text: &[u8]) -> bool {
+    is_word(TextLine::of(text, 2).bytes, b"table") || is_word(TextLine::of(text, 3).bytes, b"table")
+}
+
+// What stands against a line that isn't empty.
+fn say_reason(
+    line: &TextLine<'_>,
+    reason: &[u8],
+    format: Format,
+    found: Option<WordAtFault>,
+    sentence: &mut Sentence,
+) -> Result<(), Memory> {
+    match found {
+        Some(word) => word.say(line, sentence)?,
+        None if is_of_form(reason) => return say_form(line, reason, format, sentence),
+        None => sentence.say(reason_sentence(reason).as_bytes())?,
+    }
+    match line_form(first_word(line.bytes), format) {
+        Some(form) => {
+            sentence.say(b", in ")?;
+            sentence.quote(form.as_bytes())
+        }
+        None => Ok(()),
+    }
+}
+
+// Whether a reason is one of form.
+fn is_of_form(reason: &[u8]) -> bool {
+    is_word(reason, b"Word") || is_word(reason, b"Syntax") || is_word(reason, b"Audit")
+}
+
+// The form of a line, by its first word, or that no line begins with that word.
+fn say_form(
+    line: &TextLine<'_>,
+    reason: &[u8],
+    format: Format,
+    sentence: &mut Sentence,
+) -> Result<(), Memory> {
+    let word = first_word(line.bytes);
+    match line_form(word, format) {
+        Some(form) => {
+            sentence.say(b"expected ")?;
+            sentence.quote(form.as_bytes())?;
+            sentence.say(form_rule(reason).as_bytes())
+        }
+        None => {
+            sentence.say(b"no line begins with ")?;
+            sentence.quote(word)?;
+            sentence.say(b" here")
+        }
+    }
+}
+
+// What is asked of a line besides its form.
+fn form_rule(reason: &[u8]) -> &'static str {
+    if is_word(reason, b"Audit") {
+        ", with numbers in their ranges, names that are declared, and the encoding of a copy"
+    } else {
+        ", in its place, with one blank between two words"
+    }
+}
+
+// That the line is one that a command wrote, or how it ends, where that isn't a line feed alone.
+fn say_end(line: &TextLine<'_>, sentence: &mut Sentence) -> Result<(), Memory> {
+    if line.start > 0 && line.bytes.starts_with(FAULT) {
+        return sentence.say(b"; this is what a command wrote that failed");
+    }
+    if line.bytes.ends_with(b"\r") {
+        return sentence.say(b"; the line ends in CR and LF, and lines end in LF alone");
+    }
+    if line.is_unended() && !line.bytes.is_empty() {
+        return sentence.say(b"; no line feed stands behind the line");
+    }
+    Ok(())
+}
+
+fn first_word(line: &[u8]) -> &[u8] {
+    match cut(line, b' ') {
+        Some((word, _)) => word,
+        None => line,
+    }
+}

@@ -1,0 +1,195 @@
+//! Which word of a line is at fault.
+
+use crate::line_reasons::reason_sentence;
+use crate::lines::Format;
+use crate::sentence::Sentence;
+use crate::text_lines::TextLine;
+use mrpc_table::{Memory, cut, is_word};
+use script_words::{Form, Sort, form_of, judge};
+
+/// A word of a line of a known form, and what stands against it.
+#[derive(Clone, Copy)]
+pub(crate) struct WordAtFault {
+    /// Its place among the words of the line, from 0.
+    pub place: usize,
+    why: Why,
+}
+
+#[derive(Clone, Copy)]
+enum Why {
+    /// It isn't of the sort of the words that stand there.
+    NotOf(Sort),
+    /// What the reason of the fault says.
+    Reason(&'static str),
+}
+
+impl WordAtFault {
+    /// Says what stands against the word.
+    pub(crate) fn say(&self, line: &TextLine<'_>, sentence: &mut Sentence) -> Result<(), Memory> {
+        let word = self.word(line);
+        match self.why {
+            Why::NotOf(sort) => {
+                sentence.say(b"expected ")?;
+                say_sort(sort, sentence)?;
+                sentence.say(b", found ")?;
+                sentence.quote(word)
+            }
+            Why::Reason(words) => {
+                sentence.quote(word)?;
+                sentence.say(b": ")?;
+                sentence.say(words.as_bytes())
+            }
+        }
+    }
+
+    fn word<'a>(&self, line: &TextLine<'a>) -> &'a [u8] {
+        let part = line.word(self.place);
+        if part.start <= part.end && part.end <= part.text.len() {
+            &part.text[part.start..part.end]
+        } else {
+            &[]
+        }
+    }
+}
+
+/// The word of a line at fault, if it is a line of a script whose form is known and the reason stands against a word.
+pub(crate) fn word_at_fault(
+    line: &TextLine<'_>,
+    reason: &[u8],
+    format: Format,
+) -> Option<WordAtFault> {
+    if let Format::Decode = format {
+        return None;
+    }
+    let form = form_of(line.bytes)?;
+    if let Some(found) = misjudged(form.sorts(), line.bytes, reason) {
+        return Some(found);
+    }
+    let place = place_of(form, line, reason)?;
+    Some(WordAtFault {
+        place,
+        why: Why::Reason(reason_sentence(reason)),
+    })
+}
+
+// The first word that its sort refuses for this reason.
+fn misjudged(sorts: &[Sort], line: &[u8], reason: &[u8]) -> Option<WordAtFault> {
+    let mut rest = line;
+    for (place, sort) in sorts.iter().enumerate() {
+        let (word, behind) = match cut(rest, b' ') {
+            Some(parts) => parts,
+            None => (rest, &rest[rest.len()..]),
+        };
+        if is_refused(*sort, word, reason) {
+            return Some(WordAtFault {
+                place,
+                why: Why::NotOf(*sort),
+            });
+        }
+        rest = behind;
+    }
+    None
+}
+
+// Whether a word isn't of a sort, for this reason.
+fn is_refused(sort: Sort, word: &[u8], reason: &[u8]) -> bool {
+    match judge(&[sort], word) {
+        Ok(_) => false,
+        Err(why) => is_word(reason, why.word().as_bytes()),
+    }
+}
+
+// The word that a reason stands against, in a line whose words are of their sorts.
+fn place_of(form: Form, line: &TextLine<'_>, reason: &[u8]) -> Option<usize> {
+    match reason {
+        b"Known" => Some(1),
+        b"Unknown" => Some(unknown_place(form, line)),
+        b"Place" => Some(place_place(form, line)),
+        b"At" => Some(2),
+        b"NoSuch" | b"Taken" => Some(name_place(form)),
+        b"OtherKind" => Some(3),
+        _ => None,
+    }
+}
+
+// The name of an engine.
+fn name_place(form: Form) -> usize {
+    match form {
+        Form::Attach => 3,
+        _ => 2,
+    }
+}
+
+// The place in the heap, or the load of a race, where that is 0.
+fn place_place(form: Form, line: &TextLine<'_>) -> usize {
+    match form {
+        Form::Race if !is_word(nth(line.bytes, 2), b"0") => 3,
+        _ => 2,
+    }
+}
+
+// The connection, where no line before opens it, or else the last name.
+fn unknown_place(form: Form, line: &TextLine<'_>) -> usize {
+    match form {
+        Form::Quota => 3,
+        Form::Attach if is_open(line) => 4,
+        Form::Upgrade if is_open(line) => 3,
+        _ => 1,
+    }
+}
+
+// Whether a line before this one opens the connection that it names.
+fn is_open(line: &TextLine<'_>) -> bool {
+    let conn = nth(line.bytes, 1);
+    let mut rest = &line.text[..line.start.min(line.text.len())];
+    for _ in 0..line.text.len() {
+        let Some((before, behind)) = cut(rest, b'\n') else {
+            return false;
+        };
+        if is_word(nth(before, 0), b"conn") && is_word(nth(before, 1), conn) {
+            return true;
+        }
+        rest = behind;
+    }
+    false
+}
+
+// The word of a line at a place, from 0; nothing where the line has fewer.
+fn nth(line: &[u8], place: usize) -> &[u8] {
+    let mut rest = line;
+    for _ in 0..place {
+        match cut(rest, b' ') {
+            Some((_, behind)) => rest = behind,
+            None => return &[],
+        }
+    }
+    match cut(rest, b' ') {
+        Some((word, _)) => word,
+        None => rest,
+    }
+}
+
+// What words of a sort are.
+fn say_sort(sort: Sort, sentence: &mut Sentence) -> Result<(), Memory> {
+    match sort {
+        Sort::Key(word) | Sort::Fixed(word) => sentence.quote(word.spelling()),
+        Sort::Either(one, other) => {
+            sentence.quote(one.spelling())?;
+            sentence.say(b" or ")?;
+            sentence.quote(other.spelling())
+        }
+        Sort::Number { least, most } => {
+            sentence.say(b"a number from ")?;
+            sentence.say_number(least)?;
+            sentence.say(b" to ")?;
+            sentence.say_number(most)
+        }
+        Sort::Unbounded => sentence.say(b"a number of decimal digits"),
+        Sort::Value => sentence.say(
+            b"64 bits as decimal digits, behind \"-\" down to -2^63, or 1 to 16 digits 0-9 a-f behind \"0x\"",
+        ),
+        Sort::Name => sentence.say(
+            b"a name of 1 to 64 letters, digits and \"_\", the first no digit",
+        ),
+    }
+}

@@ -1,0 +1,126 @@
+// What was read, and the line of a fault that was written, kept for whoever says what stands against the input.
+ghost use Rattle.std.specs.Prelude.{◌≡◌, ◌<◌, ◌≤◌, length, take};
+ghost use Rattle.std.specs.Io.KnownBytes.{Appends, Consumes, IsAtEnd, Keeps};
+ghost use Rattle.mrpc_base.specs.Faults.{HasCause};
+ghost use Rattle.mrpc_base.specs.Reading.{OnBytes, OnNoBytes};
+ghost use Rattle.mrpc_base.specs.Writing.{OnTook};
+
+use mrpc_base::{Got, Put, Sink, Source};
+use mrpc_table::Bytes;
+use std::alloc::Global;
+
+/// How the line of a fault begins.
+const FAULT: &[u8] = b"fault ";
+
+/// How long it is, at the most.
+const LONGEST: usize = 64;
+
+/// A source whose bytes are kept as they are read.
+#[derive(Drop)]
+pub(crate) struct KeptSource<S: Source + Drop> {
+    source: S,
+    bytes: Bytes,
+    is_whole: bool,
+}
+
+impl<S: Source + Drop> KeptSource<S> {
+    /// Nothing was read yet.
+    pub(crate) fn new(alloc: Global, source: S) -> KeptSource<S> {
+        KeptSource {
+            source,
+            bytes: Bytes::new(alloc),
+            is_whole: true,
+        }
+    }
+
+    /// All that was read; None where there was no memory to keep it.
+    pub(crate) fn kept(&self) -> Option<&[u8]> {
+        if self.is_whole {
+            Some(self.bytes.as_slice())
+        } else {
+            None
+        }
+    }
+
+    fn keep(&mut self, bytes: &[u8])
+        ensures { self.new.source ≡ self.old.source }
+    {
+        self.is_whole = self.is_whole && self.bytes.append(bytes).is_ok();
+    }
+}
+
+impl<S: Source + Drop> Source for KeptSource<S> {
+    ghost left = { λ s. S.left s.source };
+
+    ghost faults = { λ s. S.faults s.source };
+
+    fn read(&mut self, buf: &mut [u8]) -> Got
+        requires room { 0 < length buf.old }
+        ensures count { OnBytes result (λ n. (0 < n) × (n ≤ length buf.old)) }
+        ensures next { OnBytes result (λ n. Consumes (S.left self.old.source) (S.left self.new.source)
+            (take n buf.new)) }
+        ensures end { result ≡ Got.End → IsAtEnd (S.left self.old.source) }
+        ensures kept { OnNoBytes result (Keeps (S.left self.old.source) (S.left self.new.source)) }
+        ensures cause { HasCause (result ≡ Got.Failed) (S.faults self.old.source) (S.faults self.new.source) }
+    {
+        let got = self.source.read(buf);
+        if let Got::Bytes(count) = got {
+            self.keep(&buf[..count]);
+        }
+        got
+    }
+}
+
+/// A sink of which the line of a fault is kept. The commands write it in a piece of its own.
+#[derive(Drop)]
+pub(crate) struct KeptSink<K: Sink + Drop> {
+    sink: K,
+    alloc: Global,
+    fault: Bytes,
+}
+
+impl<K: Sink + Drop> KeptSink<K> {
+    /// Nothing was written yet.
+    pub(crate) fn new(alloc: Global, sink: K) -> KeptSink<K> {
+        KeptSink {
+            sink,
+            alloc,
+            fault: Bytes::new(alloc),
+        }
+    }
+
+    /// The line of a fault that was written last; empty where there is none.
+    pub(crate) fn fault(&self) -> &[u8] {
+        self.fault.as_slice()
+    }
+
+    fn keep(&mut self, piece: &[u8])
+        ensures { self.new.sink ≡ self.old.sink }
+    {
+        if piece.len() > LONGEST || !piece.starts_with(FAULT) {
+            return;
+        }
+        if let Ok(fault) = Bytes::from_slice(self.alloc, piece) {
+            self.fault = fault;
+        }
+    }
+}
+
+impl<K: Sink + Drop> Sink for KeptSink<K> {
+    ghost written = { λ s. K.written s.sink };
+
+    ghost faults = { λ s. K.faults s.sink };
+
+    fn write(&mut self, piece: &[u8]) -> Put
+        requires some { 0 < length piece.now }
+        ensures count { OnTook result (λ n. (0 < n) × (n ≤ length piece.now)) }
+        ensures appended { OnTook result (λ n. Appends (K.written self.old.sink) (K.written self.new.sink)
+            (take n piece.now)) }
+        ensures kept { result ≡ Put.Failed → Keeps (K.written self.old.sink) (K.written self.new.sink) }
+        ensures cause { HasCause (result ≡ Put.Failed) (K.faults self.old.sink) (K.faults self.new.sink) }
+    {
+        let put = self.sink.write(piece);
+        self.keep(piece);
+        put
+    }
+}

@@ -1,0 +1,52 @@
+//! The policies that an application names.
+
+ghost use Rattle.std.specs.Prelude.{◌≡◌, IfOk, codes, filter_map, map, option_and_then};
+ghost use Rattle.policy_blocks.specs.Declarations.{policy_place};
+ghost use Rattle.toml.specs.View.{table_view};
+ghost use Rattle.scenario.specs.Applications.{names_in};
+ghost use Rattle.scenario_values.specs.Values.{text_at};
+
+use mrpc_table::{Memory, Sequence};
+use policy_blocks::Declarations;
+use scenario_values::{text_at, texts_at};
+use std::alloc::Global;
+use toml::Table;
+
+/// The names of its chain, and then that of the policy that judges what it is delivered.
+pub fn names_in<'a>(alloc: Global, entry: &'a Table) -> Result<Vec<&'a [u8]>, Memory>
+    ensures { IfOk result (λ names. map (λ n. n.now) names.items ≡ names_in (table_view entry.now)) }
+{
+    let mut names = texts_at(alloc, entry, "chain")?;
+    match text_at(entry, "inbound") {
+        Some(name) => names.push(name.as_bytes())?,
+        None => {}
+    }
+    Ok(names)
+}
+
+/// The places of the names that are declared.
+pub fn places_in(
+    alloc: Global,
+    declared: &Declarations,
+    names: &[&[u8]],
+) -> Result<Sequence<usize>, Memory>
+    ensures { IfOk result (λ places. places ≡ filter_map (policy_place declared.now) (map (λ n. n.now) names.now)) }
+{
+    let mut places = Sequence::new(alloc);
+    for name in names {
+        if let Some(place) = declared.policy(name) {
+            places.push(place)?;
+        }
+    }
+    Ok(places)
+}
+
+/// The place of the policy that judges what an application is delivered, if it names one that is declared.
+pub fn inbound_in(declared: &Declarations, entry: &Table) -> Option<usize>
+    ensures { result ≡ option_and_then (policy_place declared.now) (text_at (codes "inbound") (table_view entry.now)) }
+{
+    match text_at(entry, "inbound") {
+        Some(name) => declared.policy(name.as_bytes()),
+        None => None,
+    }
+}

@@ -1,0 +1,109 @@
+//! The lines of an operator.
+
+ghost use Rattle.std.specs.Prelude.{◌≡◌, ◌≤◌, ◌<◌, ◌++◌, ◌∷◌, [], ℕ, List, Some, IfOk, OnOk, filter_map, map};
+ghost use Rattle.std.specs.Option.{option_copied};
+ghost use Rattle.scenario.specs.Lines.{count_in, policy_in};
+ghost use Rattle.scenario.specs.Reasons.{earlier};
+ghost use Rattle.scenario.specs.declared.fault.ScenarioReason.TheVariants.{Number};
+ghost use Rattle.scenario_reader.specs.Stepping.{HasTold};
+
+use mrpc_table::Memory;
+use scenario::{ScenarioReason, earlier, of_line};
+use scenario_lines::{StepText, read_step};
+use script_words::one_judgement;
+use std::alloc::Global;
+
+/// What the lines of an operator tell so far.
+#[derive(Drop)]
+pub struct Steps<'a> {
+    /// What the lines without a fault tell, in order.
+    pub told: Vec<StepText<'a>>,
+    /// The largest count among it.
+    pub most: u64,
+    /// The first reason against the lines.
+    pub first: Option<ScenarioReason>,
+}
+
+/// How many calls the connection has taken when a step comes.
+pub fn count_in(step: &StepText<'_>) -> u64
+    ensures { result ≡ count_in step.now }
+{
+    match step {
+        StepText::Attach { count, .. }
+        | StepText::Detach { count, .. }
+        | StepText::Upgrade { count, .. } => *count,
+    }
+}
+
+/// The policy that a step names, if it names one.
+fn policy_in<'a>(step: &StepText<'a>) -> Option<&'a [u8]>
+    ensures { option_copied result ≡ policy_in step.now }
+{
+    match step {
+        StepText::Attach { policy, .. } | StepText::Upgrade { policy, .. } => Some(*policy),
+        StepText::Detach { .. } => None,
+    }
+}
+
+impl<'a> Steps<'a> {
+    /// Keeps what a line tells behind others.
+    fn keep(&mut self, step: StepText<'a>) -> Result<(), Memory>
+        ensures told { OnOk result (self.new.told.items ≡ self.old.told.items ++ step.entry ∷ []) }
+        ensures more { OnOk result (self.old.most ≤ count_in step.entry
+            → (self.new.most ≡ count_in step.entry) × (self.new.first ≡ self.old.first)) }
+        ensures less { OnOk result (count_in step.entry < self.old.most
+            → (self.new.most ≡ self.old.most) × (self.new.first ≡ earlier self.old.first (Some Number))) }
+    {
+        let count = count_in(&step);
+        self.told.push(step)?;
+        if count < self.most {
+            self.first = earlier(self.first, Some(ScenarioReason::Number));
+        } else {
+            self.most = count;
+        }
+        Ok(())
+    }
+
+    /// Reads one line more.
+    fn read(&mut self, line: &'a [u8]) -> Result<(), Memory>
+        ensures { OnOk result ((lines : List (List ℕ)) → HasTold lines self.old.told.items self.old.most self.old.first
+            → HasTold (lines ++ line.entry.now ∷ []) self.new.told.items self.new.most self.new.first) }
+    {
+        one_judgement();
+        match read_step(line) {
+            Ok(step) => self.keep(step),
+            Err(reason) => {
+                self.first = earlier(self.first, Some(of_line(reason)));
+                Ok(())
+            }
+        }
+    }
+}
+
+/// What the lines of an operator tell, and the first reason against them.
+pub fn read_steps<'a>(alloc: Global, lines: &[&'a [u8]]) -> Result<Steps<'a>, Memory>
+    ensures { IfOk result (λ s. HasTold (map (λ l. l.now) lines.now) s.told.items s.most s.first) }
+{
+    let mut steps = Steps {
+        told: Vec::new(alloc),
+        most: 0,
+        first: None,
+    };
+    for line in lines {
+        steps.read(line)?;
+    }
+    Ok(steps)
+}
+
+/// Adds the policies that the steps name to names.
+pub fn add_names<'a>(names: &mut Vec<&'a [u8]>, told: &[StepText<'a>]) -> Result<(), Memory>
+    ensures { OnOk result (map (λ n. n.now) names.new.items
+        ≡ map (λ n. n.now) names.old.items ++ filter_map policy_in told.now) }
+{
+    for step in told {
+        if let Some(name) = policy_in(step) {
+            names.push(name)?;
+        }
+    }
+    Ok(())
+}
