@@ -1,14 +1,13 @@
 -- What is kept of a stream behind the frames that had their fates.
-use Rattle.std.proofs.Common.{◌≡◌, ◌≢◌, ℕ, ◌+◌, ◌-◌, Bool, List, [], ◌∷◌, ◌++◌, ◌≤◌, length, Option, Some, None, refl, sym, ap, ◌∙◌, subst, append_assoc, length-append, arith}
+use Rattle.std.proofs.Common.{◌≡◌, ℕ, ◌+◌, ◌-◌, Bool, List, [], ◌∷◌, ◌++◌, ◌≤◌, length, Option, Some, None, refl, sym, ap, ◌∙◌, subst, append_assoc, length-append, arith}
 use Rattle.std.proofs.lemmas.Grind.{flat_map-append}
 use Rattle.frame_transport.specs.Bytes.{header_bytes}
 use Rattle.frame_transport.specs.Feed.{Fed, total}
-use Rattle.frame_transport.specs.Frames.{HasFault, IsFaultAt, Splits, SplitsOnce, bytes_of, joined, long, no_kind, no_version}
+use Rattle.frame_transport.specs.Frames.{HasFault, IsFaultAt, Splits, SplitsOnce, bytes_of, joined}
 use Rattle.frame_transport.specs.declared.fault.FeedFault.{FeedFault}
-use Rattle.frame_transport.specs.declared.fault.FeedFault.TheVariants.{Memory as NoMemory}
 use Rattle.frame_transport.specs.declared.format.Frame.{Frame}
 use Rattle.receive_core.specs.Life.{Life, frames_of}
-use Rattle.receive_core.specs.Order.{HasTaken, goes_on, has_stopped}
+use Rattle.receive_core.specs.Order.{goes_on, has_stopped}
 use Rattle.deliveries.specs.Arriving.{HaveLived}
 use Rattle.deliveries.specs.declared.arrivals.Arrivals.{Arrivals}
 use Rattle.run_text.specs.Telling.{cut_text}

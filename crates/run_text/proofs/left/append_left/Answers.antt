@@ -1,4 +1,4 @@
-use Rattle.std.proofs.Common.{◌≡◌, ◌∙◌, ap, refl, append_assoc}
+use Rattle.std.proofs.Common.{◌∙◌, ap, refl, append_assoc}
 use Rattle.std.proofs.lemmas.Result.{on_ok_weaker}
 use Rattle.std.specs.Prelude.{◌++◌, ◌-◌, length}
 use Rattle.run_text.specs.Telling.{cut_text, waiting_text}

@@ -1,4 +1,4 @@
-use Rattle.std.proofs.Common.{◌≡◌, ◌≤◌, ◌++◌, ℕ, List, length, ap, sym, ◌∙◌, arith}
+use Rattle.std.proofs.Common.{◌≡◌, ◌≤◌, ◌++◌, ℕ, length, ap, sym, ◌∙◌, arith}
 use Rattle.mrpc_table.specs.Text.{line}
 use Rattle.frame_transport.specs.Feed.{total}
 use Rattle.arrival_text.specs.Lines.{waits_words}

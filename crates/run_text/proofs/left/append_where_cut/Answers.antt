@@ -1,6 +1,5 @@
-use Rattle.std.proofs.Common.{◌≡◌, ◌+◌, ℕ, List, length, ap, ◌∙◌, length-append, arith}
-use Rattle.frame_transport.specs.Frames.{Splits, joined}
-use Rattle.frame_transport.specs.declared.format.Frame.{Frame}
+use Rattle.std.proofs.Common.{◌≡◌, ◌+◌, length, ap, ◌∙◌, length-append, arith}
+use Rattle.frame_transport.specs.Frames.{joined}
 use Rattle.run_text.proofs.left.append_where_cut.Goals as goal
 
 pub overflow_sub-fed : goal.overflow_sub-fed
