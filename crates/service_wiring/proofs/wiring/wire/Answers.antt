@@ -1,0 +1,140 @@
+use Rattle.std.proofs.Common.{◌≡◌, ℕ, ◌<◌, ◌≤◌, List, [], Some, ap, length, refl, subst, sym, ◌∙◌}
+use Rattle.mrpc_table.specs.Valid.{IsValid}
+use Rattle.mrpc_table.specs.declared.limits.TheConstants.{MAX_HEAP, MIN_HEAP}
+use Rattle.mrpc_table.specs.declared.table.Table.{Table}
+use Rattle.shared_heap.specs.Fresh.{HeapId, Reading}
+use Rattle.descriptor_ring.specs.Rings.{NumberReceiving, Receiving, RingId}
+use Rattle.tenant_quota.specs.Drawing.{Drawing}
+use Rattle.link_queue.specs.Queueing.{Queueing}
+use Rattle.conn_core.specs.Connections.{Connection}
+use Rattle.deliveries.specs.Arriving.{AreSame}
+use Rattle.deliveries.specs.Telling.{number_ring_of, ring_of}
+use Rattle.deliveries.specs.declared.arrivals.Arrivals.{Arrivals}
+use Rattle.run_plan.specs.Plans.{HasProgram}
+use Rattle.run_plan.specs.Ports.{IsIn}
+use Rattle.service_loop.specs.Delivering.{HaveDelivered}
+use Rattle.service_loop.specs.Steps.{KnowTenants}
+use Rattle.service_loop.specs.declared.delivering.Deliveries.{Deliveries}
+use Rattle.service_loop.specs.declared.due_step.DueStep.{DueStep}
+use Rattle.service_loop.specs.declared.endpoint.Endpoint.{Endpoint}
+use Rattle.service_loop.specs.declared.submissions.Submissions.{Submissions}
+use Rattle.service_wiring.specs.Ends.{AreEnds}
+use Rattle.service_wiring.proofs.Parts.{is_application, valid_table}
+use Rattle.service_wiring.proofs.wiring.wire.Goals as goal
+
+pub open-requires-2-clause-valid : goal.open-requires-2-clause-valid
+open-requires-2-clause-valid g c =
+    subst (λ (T : Table). IsValid T) (sym c.table_of-table.ensures)
+    (valid_table c.args.common.now.plan.now c.args.app.now c.requires.plan c.requires.app)
+
+pub programmed-requires : goal.programmed-requires
+programmed-requires g c = (
+  c.args.app.now.heap,
+  (is_application c.args.common.now.plan.now c.args.app.now c.requires.plan c.requires.app).program,
+)
+
+pub new-endpoint-requires-clause-known : goal.new-endpoint-requires-clause-known
+new-endpoint-requires-clause-known g c κs within =
+    subst (λ (steps : List DueStep). KnowTenants (λ tenant. tenant < length c.args.seats) steps)
+    (sym c.new-submissions.ensures.steps) c.requires.known
+
+pub new-endpoint-requires-clause-delivering : goal.new-endpoint-requires-clause-delivering
+new-endpoint-requires-clause-delivering g c κs within =
+    let lived = c.requires.lived in (
+      lived.0,
+      [],
+      [],
+      c.new-deliveries.ensures.delivered lived.0 (c.opened_again.ensures.lived lived.0 lived.1) lived.2,
+    )
+
+pub returns : goal.returns
+returns g c = λ life lived fates.
+    let app = is_application c.args.common.now.plan.now c.args.app.now c.requires.plan c.requires.app in
+    let item : c.new.result ≡ c.new-endpoint.result = c.new.ensures in
+    let subs : c.new.result.submissions ≡ c.new-submissions.result =
+    ap (λ (e : Endpoint g.row.C.Denot (List Drawing) Queueing). e.submissions) item
+    ∙ c.new-endpoint.ensures.submissions in
+    let dels : c.new.result.deliveries ≡ c.new-deliveries.result =
+    ap (λ (e : Endpoint g.row.C.Denot (List Drawing) Queueing). e.deliveries) item
+    ∙ c.new-endpoint.ensures.deliveries in
+    let arrived : c.new.result.deliveries.arrivals ≡ c.opened_again.result =
+    ap (λ (d : Deliveries). d.arrivals) dels ∙ c.new-deliveries.ensures.arrivals in
+    let opened = ap (λ (s : Submissions). s.conn) subs ∙ c.new-submissions.ensures.conn ∙ c.in_ok-conn.ensures in
+    let link : c.new.result.link ≡ c.in_ok-queue.queue =
+    ap (λ (e : Endpoint g.row.C.Denot (List Drawing) Queueing). e.link) item ∙ c.new-endpoint.ensures.link in
+    let size : c.in_ok-writer.writer.heap.words ≡ c.args.app.now.heap = c.in_ok-writer.ensures.size in
+    let received : c.args.arrivals.inbound.heap.words ≡ c.args.reader.heap.words =
+    sym (ap (λ (heap : HeapId). heap.words) c.requires.one_heap ∙ lived.words) in
+    let ends : AreEnds c.args.app.now.ring c.in_ok-writer.own_reader.heap c.args.reader.heap c.in_ok-sender.field-0 =
+    c.in_ok-sender.ensures in record {
+      conn = record {
+        number = ap (λ (x : Connection). x.conn) opened;
+        table = ap (λ (x : Connection). x.table) opened ∙ c.table_of-table.ensures;
+        limit = ap (λ (x : Connection). x.limit) opened;
+        nothing = ap (λ (x : Connection). x.happenings) opened;
+        working = ap (λ (x : Connection). x.ended) opened;
+        memory = ap (λ (e : Endpoint g.row.C.Denot (List Drawing) Queueing). e.memory) item
+            ∙ c.new-endpoint.ensures.memory;
+        none_kept = ap (λ (e : Endpoint g.row.C.Denot (List Drawing) Queueing). e.kept) item
+            ∙ c.new-endpoint.ensures.kept;
+        its_clock = ap (λ (e : Endpoint g.row.C.Denot (List Drawing) Queueing). e.clock.now) item
+            ∙ c.new-endpoint.ensures.clock;
+        its_steps = ap (λ (s : Submissions). s.steps.now) subs ∙ c.new-submissions.ensures.steps;
+        its_seats = ap (λ (e : Endpoint g.row.C.Denot (List Drawing) Queueing). e.tickets) item
+            ∙ c.new-endpoint.ensures.tickets;
+        programmed = ap (λ (d : Deliveries). d.reclaims.programmed) dels ∙ c.new-deliveries.ensures.programmed
+            ∙ c.programmed.ensures.count;
+        same = subst (λ (a : Arrivals). AreSame c.args.arrivals a) (sym arrived) c.opened_again.ensures.same;
+        delivered = subst (λ (d : Deliveries). HaveDelivered life [] [] d) (sym dels)
+            (c.new-deliveries.ensures.delivered life (c.opened_again.ensures.lived life lived) fates);
+      };
+      link = record {
+        handed = ap (λ (q : Queueing). q.handed) link ∙ c.in_ok-queue.ensures.handed;
+        given = ap (λ (q : Queueing). q.given) link ∙ c.in_ok-queue.ensures.given;
+        ended = ap (λ (q : Queueing). q.ended) link ∙ c.in_ok-queue.ensures.ended;
+        faults = ap (λ (q : Queueing). q.faults) link ∙ c.in_ok-queue.ensures.faults;
+        start = c.in_ok-queue.ensures.start;
+        forward = ap (λ (q : Queueing). q.forward) link ∙ c.in_ok-queue.ensures.forward;
+        backward = ap (λ (q : Queueing). q.backward) link ∙ c.in_ok-queue.ensures.backward;
+      };
+      app_job = record {
+        is_job = record {
+          port = record {
+            calls = ends.sender_heap ∙ c.in_ok-writer.ensures.one_heap;
+            capacity = sym ends.capacity;
+            notices = ends.noticed_heap;
+            stored = c.in_ok-writer.ensures.stores;
+            loaded = c.requires.new_heap;
+            sent = ends.none_sent;
+            taken = ends.none_noticed;
+            numbers = ends.no_blocks;
+            reclaimed = ends.none_given;
+          };
+          program = subst (λ (n : ℕ). HasProgram n c.args.app.now.role) (sym size) app.program;
+          table = subst (λ (T : Table). IsValid T) (sym c.table_of-table.ensures)
+              (valid_table c.args.common.now.plan.now c.args.app.now c.requires.plan c.requires.app);
+          heap = subst (λ (n : ℕ). IsIn MIN_HEAP MAX_HEAP n) (sym size) app.port.heap;
+          receive = (c.requires.words, subst (λ (n : ℕ). n ≤ MAX_HEAP) received lived.most);
+          ring = app.port.ring.1;
+        };
+        its_role = refl;
+        its_table = c.table_of-table.ensures;
+        heap = size;
+        ring = refl;
+        send_heap = ap (λ (s : Submissions). s.reader.heap) subs
+            ∙ ap (λ (r : Reading). r.heap) c.new-submissions.ensures.reader ∙ c.in_ok-writer.ensures.one_heap;
+        calls_ring = ap (λ (s : Submissions). s.calls.ring) subs
+            ∙ ap (λ (r : Receiving). r.ring) c.new-submissions.ensures.calls ∙ ends.calls_ring;
+        reader = refl;
+        receive_heap = ap (λ (a : Arrivals). a.writer.heap) arrived ∙ c.opened_again.ensures.same.heap
+            ∙ sym c.requires.one_heap;
+        notices_ring = ap (λ (d : Deliveries). ring_of d.notices.notices d.notices.noticed) dels
+            ∙ c.new-deliveries.ensures.notices
+            ∙ ap (λ (r : RingId). Some r) (sym ends.notices_ring);
+        numbers_ring = ap (λ (d : Deliveries). number_ring_of d.notices.blocks d.notices.numbered) dels
+            ∙ c.new-deliveries.ensures.numbers
+            ∙ ap (λ (r : RingId). Some r) (sym ends.numbers_ring);
+        reclaims_ring = ap (λ (d : Deliveries). d.reclaims.numbers.ring) dels
+            ∙ ap (λ (r : NumberReceiving). r.ring) c.new-deliveries.ensures.reclaims ∙ ends.reclaims_ring;
+      };
+    }

@@ -1,0 +1,79 @@
+-- What an application of a run is given, and what it does with it (this project's own).
+use Rattle.std.specs.Prelude.{◌≡◌, ◌≤◌, ◌++◌, false, List, map, IfSome}
+use Rattle.mrpc_table.specs.Valid.{IsValid}
+use Rattle.mrpc_table.specs.declared.limits.TheConstants.{MAX_HEAP, MIN_HEAP}
+use Rattle.mrpc_table.specs.declared.table.Table.{Table}
+use Rattle.descriptor_ring.specs.declared.limits.TheConstants.{MAX_CAPACITY}
+use Rattle.app_program.specs.Programs.{reclaims_of, stores_of, submits_of}
+use Rattle.app_program.specs.declared.program.ProgramLine.{ProgramLine}
+use Rattle.app_stub.specs.Echoing.{Echoed}
+use Rattle.app_stub.specs.Ports.{HasSent, IsNew, IsOfPort, TookAll}
+use Rattle.app_stub.specs.Serving.{all_served_replies, all_served_stores, blocks_of, submission_of}
+use Rattle.app_stub.specs.declared.port.AppEnd.{AppEnd}
+use Rattle.app_stub.specs.declared.port.AppPort.{AppPort}
+use Rattle.app_stub.specs.declared.port.AppSent.{AppSent}
+use Rattle.run_plan.specs.Plans.{HasProgram}
+use Rattle.run_plan.specs.Ports.{IsIn}
+use Rattle.run_plan.specs.declared.application.Role.{Role}
+use Rattle.run_plan.specs.declared.application.Role.TheVariants as role
+use Rattle.service_wiring.specs.declared.applications.Job.{Job}
+
+-- ---- what it is given
+
+-- An application can be run: nothing has happened at its port, its program is one of its role for its heap, its table is
+-- valid, and heaps and rings are of sizes that there may be.
+pub record IsJob (job : Job) : Type 0 where
+  pub port : IsNew job.port
+  pub program : HasProgram job.port.writer.heap.words job.role.now
+  pub table : IsValid job.table.now
+  pub heap : IsIn MIN_HEAP MAX_HEAP job.port.writer.heap.words
+  pub receive : IsIn MIN_HEAP MAX_HEAP job.port.reader.heap.words
+  pub ring : job.port.capacity ≤ MAX_CAPACITY
+
+-- ---- what it does
+
+module _ {F : Type 0} (port : AppPort F) (end : AppEnd) (left : AppSent) where
+  -- A client makes the stores of its program, submits the calls of its program, and gives the blocks back that its
+  -- program names, and behind them those of its notices. It reads nothing.
+  pub record DidClient (program : List ProgramLine) : Type 0 where
+    pub stores : end.note.stores ≡ stores_of program
+    pub sent : HasSent port.sender.ring port.reclaims.ring (submits_of 0 program)
+        (reclaims_of program ++ blocks_of end.notices.taken end.blocks.taken) left
+    pub reader : end.reader ≡ port.reader
+
+  -- A server does so for each request that it is told of.
+  pub record DidServer (program : List ProgramLine) : Type 0 where
+    pub stores : end.note.stores ≡ all_served_stores program end.notices.taken
+    pub sent : HasSent port.sender.ring port.reclaims.ring (all_served_replies program 0 end.notices.taken)
+        (blocks_of end.notices.taken end.blocks.taken) left
+    pub reader : end.reader ≡ port.reader
+
+  -- An echo replies to the requests that it is told of with their own messages.
+  pub record DidEcho (T : Table) : Type 0 where
+    pub echoed : Echoed (record {
+      table = T;
+      heap = port.writer.heap.words;
+      receive = port.reader.heap.words;
+      ring = port.capacity;
+    }) end.notices.taken end.note.stores (map submission_of left.calls.items) end.reader
+    pub sent : HasSent port.sender.ring port.reclaims.ring (map submission_of left.calls.items)
+        (blocks_of end.notices.taken end.blocks.taken) left
+
+-- what an application of a role did at a port
+abbrev pub Did : {F : Type 0} → Role → Table → AppPort F → AppEnd → AppSent → Type 0
+Did (role.Client program) T port end left = DidClient port end left program
+Did (role.Server program) T port end left = DidServer port end left program
+Did role.Echo T port end left = DidEcho port end left T
+
+-- ---- what it leaves
+
+-- it came to its end: memory sufficed, and it took all that it was told
+pub record HasDone (job : Job) (end : AppEnd) (left : AppSent) : Type 0 where
+  pub memory : end.memory ≡ false
+  pub all : TookAll end
+  pub did : Did job.role.now job.table.now job.port end left
+
+-- what it left, of its port's heaps and rings; unless the run was stopped, it came to its end
+pub record IsEndOf (job : Job) (end : AppEnd) : Type 0 where
+  pub of_port : IsOfPort job.port end
+  pub done : IfSome end.sent (HasDone job end)

@@ -1,0 +1,22 @@
+-- What is left of a connection once its link was closed (this project's own).
+use Rattle.std.specs.Prelude.{◌≡◌, ◌↔◌, ◌<◌, ℕ, List, true}
+use Rattle.tenant_quota.specs.Drawing.{Drawing}
+use Rattle.link_queue.specs.Queueing.{Queueing}
+use Rattle.link_queue.specs.declared.marks.Health.TheVariants.{Failed}
+use Rattle.service_loop.specs.declared.endpoint.Endpoint.{Endpoint}
+use Rattle.service_wiring.specs.declared.closed.Closed.{Closed}
+
+-- The parts are those of the connection. Its link left the frames that were handed over and the bytes that were given,
+-- whether these had ended, and whether it had learnt of a failure, as it has where it counted a fault of its own.
+pub record IsLeftOf {C : Type 0} (e : Endpoint C (List Drawing) Queueing) (left : Closed) : Type 0 where
+  pub submissions : left.submissions ≡ e.submissions
+  pub deliveries : left.deliveries ≡ e.deliveries
+  pub seats : left.seats ≡ e.tickets
+  pub memory : left.memory ≡ e.memory
+  pub handed : left.passed.handed ≡ e.link.handed
+  pub given : left.passed.given ≡ e.link.given
+  pub ended : left.passed.ended ≡ e.link.ended
+  pub failed : (left.passed.failed ≡ true) ↔ (e.link.health ≡ Failed)
+  pub counted : 0 < e.link.faults → left.passed.failed ≡ true
+  pub forward : left.passed.forward ≡ e.link.forward
+  pub backward : left.passed.backward ≡ e.link.backward

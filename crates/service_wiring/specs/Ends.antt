@@ -1,0 +1,26 @@
+-- The code's own: the ends of the rings between an application and the service, as they were opened.
+use Rattle.std.specs.Prelude.{◌≡◌, ℕ, [], false}
+use Rattle.shared_heap.specs.Fresh.{HeapId}
+use Rattle.service_wiring.specs.declared.ends.Ends.{Ends}
+
+-- Nothing was sent or taken. Calls are of the heap that the application writes, and notices of the one that it reads.
+pub record AreEnds (cap : ℕ) (sent received : HeapId) (ends : Ends) : Type 0 where
+  pub calls_ring : ends.calls.ring ≡ ends.sender.ring
+  pub calls_heap : ends.calls.heap ≡ sent
+  pub sender_heap : ends.sender.heap ≡ sent
+  pub capacity : ends.sender.capacity ≡ cap
+  pub none_sent : ends.sender.sent ≡ []
+  pub none_taken : ends.calls.taken ≡ []
+  pub calls_open : ends.calls.closed ≡ false
+  pub notices_ring : ends.noticed.ring ≡ ends.rings.notices.ring
+  pub notices_heap : ends.rings.notices.heap ≡ received
+  pub noticed_heap : ends.noticed.heap ≡ received
+  pub none_told : ends.rings.notices.sent ≡ []
+  pub none_noticed : ends.noticed.taken ≡ []
+  pub numbers_ring : ends.numbered.ring ≡ ends.rings.blocks.ring
+  pub none_numbered : ends.rings.blocks.sent ≡ []
+  pub no_blocks : ends.numbered.taken ≡ []
+  pub reclaims_ring : ends.rings.reclaims.ring ≡ ends.reclaims.ring
+  pub none_given : ends.reclaims.sent ≡ []
+  pub none_back : ends.rings.reclaims.taken ≡ []
+  pub reclaims_open : ends.rings.reclaims.closed ≡ false

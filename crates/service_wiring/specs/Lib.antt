@@ -1,0 +1,7 @@
+pub mod Applications
+pub mod Closing
+pub mod Ends
+pub mod Listing
+pub mod Stepping
+pub mod Turning
+pub mod Wired

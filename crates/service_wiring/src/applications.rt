@@ -1,0 +1,32 @@
+//! The applications of a run.
+
+ghost use Rattle.service_wiring.specs.Applications.{IsEndOf, IsJob};
+
+use app_stub::{AppEnd, AppPort, client, echo, server};
+use mrpc_table::Table;
+use run_plan::Role;
+use std::alloc::Global;
+use std::sync::Wait;
+use stop_flag::RunFlag;
+
+/// An application that is to be run.
+#[derive(Drop)]
+pub struct Job<'t> {
+    pub role: &'t Role,
+    /// The table by which it binds.
+    pub table: &'t Table,
+    pub port: AppPort<RunFlag>,
+}
+
+/// Runs an application to its end, or until the run is stopped.
+pub fn run_application<R: Wait>(rt: &R, alloc: Global, job: Job) -> AppEnd
+    requires { IsJob job }
+    ensures { IsEndOf job.entry result }
+{
+    let Job { role, table, port } = job;
+    match role {
+        Role::Client(program) => client(rt, program, port),
+        Role::Server(program) => server(rt, program, port),
+        Role::Echo => echo(rt, alloc, table, port),
+    }
+}

@@ -1,0 +1,51 @@
+// The rings between an application and the service.
+
+ghost use Rattle.std.specs.Prelude.{◌≤◌, IfOk};
+ghost use Rattle.descriptor_ring.specs.declared.limits.TheConstants.{MAX_CAPACITY};
+ghost use Rattle.service_wiring.specs.Ends.{AreEnds};
+
+use descriptor_ring::{NumberReceiver, NumberSender, Receiver, Sender};
+use mrpc_table::Memory;
+use service_loop::Rings;
+use shared_heap::Reader;
+use std::alloc::Global;
+
+// The ends that the application has, and those of the service.
+#[derive(Drop)]
+pub(crate) struct Ends {
+    pub sender: Sender,
+    pub noticed: Receiver,
+    pub numbered: NumberReceiver,
+    pub reclaims: NumberSender,
+    pub calls: Receiver,
+    pub rings: Rings,
+}
+
+// Opens the rings. Calls are of the heap of the one reader, and notices of that of the other.
+pub(crate) fn open_ends(
+    alloc: Global,
+    cap: u64,
+    sent: &Reader,
+    received: &Reader,
+) -> Result<Ends, Memory>
+    requires least { 1 ≤ cap }
+    requires most { cap ≤ MAX_CAPACITY }
+    ensures { IfOk result (AreEnds cap sent.now.heap received.now.heap) }
+{
+    let (sender, calls) = descriptor_ring::open(alloc, cap, sent)?;
+    let (notices, noticed) = descriptor_ring::open(alloc, cap, received)?;
+    let (blocks, numbered) = descriptor_ring::open_numbers(alloc, cap)?;
+    let (reclaims, given_back) = descriptor_ring::open_numbers(alloc, cap)?;
+    Ok(Ends {
+        sender,
+        noticed,
+        numbered,
+        reclaims,
+        calls,
+        rings: Rings {
+            notices,
+            blocks,
+            reclaims: given_back,
+        },
+    })
+}

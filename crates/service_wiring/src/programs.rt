@@ -1,0 +1,46 @@
+// How many blocks an application gives back by its program.
+
+ghost use Rattle.std.specs.Prelude.{◌≡◌, ◌<◌, ◌≤◌, ◌^◌, ℕ, length};
+ghost use Rattle.app_program.specs.Programs.{line_reclaims, reclaims_of};
+ghost use Rattle.run_plan.specs.Plans.{HasProgram};
+ghost use Rattle.service_wiring.specs.Wired.{programmed_by};
+
+use app_program::{Program, ProgramLine};
+use run_plan::Role;
+
+// The count, whether the application has such blocks or not.
+pub(crate) fn programmed(role: &Role) -> u64
+    requires { (words : ℕ) × HasProgram words role.now }
+    ensures count { result ≡ programmed_by role.now }
+    ensures few { result < 2 ^ 63 }
+{
+    match role {
+        Role::Client(program) => reclaims_in(program),
+        Role::Server(_) | Role::Echo => 0,
+    }
+}
+
+// The lines of a program that give a block back.
+fn reclaims_in(program: &Program) -> u64
+    requires { length program.now < 2 ^ 63 }
+    ensures count { result ≡ length (reclaims_of program.now) }
+    ensures few { result ≤ length program.now }
+{
+    let lines = program.as_slice();
+    let mut count = 0;
+    for line in lines {
+        count += given_back_by(line);
+    }
+    count
+}
+
+// One where the line gives a block back.
+fn given_back_by(line: &ProgramLine) -> u64
+    ensures count { result ≡ length (line_reclaims line.now) }
+    ensures few { result ≤ 1 }
+{
+    match line {
+        ProgramLine::Reclaim { .. } => 1,
+        _ => 0,
+    }
+}

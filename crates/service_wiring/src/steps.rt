@@ -1,0 +1,75 @@
+//! The steps of operators on a connection.
+
+ghost use Rattle.std.specs.Prelude.{◌≡◌, ◌<◌, ◌≤◌, Contains, IfOk, IsSome, Some, length};
+ghost use Rattle.run_plan.specs.Chains.{attachment_of, op_of, steps_on};
+ghost use Rattle.run_plan.specs.Plans.{IsApplication, IsPlan};
+ghost use Rattle.service_loop.specs.Steps.{AreSteps, KnowTenants};
+ghost use Rattle.service_wiring.specs.Listing.{AreListed, counts_of, lines_of};
+ghost use Rattle.service_wiring.specs.Stepping.{IsStepsOf};
+
+use engine_core::{change_is_changed, stays_chain};
+use mrpc_table::Memory;
+use run_plan::{Application, Plan, Step};
+use service_loop::DueStep;
+use std::alloc::Global;
+
+/// The steps of operators on the connection of an application of a plan, in order: its attachments, and then those of its
+/// operator. Nothing is refused of them, and they name no tenant that the plan doesn't declare.
+pub fn due_steps(alloc: Global, plan: &Plan, app: &Application) -> Result<Vec<DueStep>, Memory>
+    requires plan { IsPlan plan.now }
+    requires app { Contains plan.now.applications app.now }
+    ensures steps { IfOk result (λ steps. IsStepsOf plan.now app.now steps.items) }
+    ensures sound { IfOk result (λ steps. AreSteps steps.items) }
+    ensures known { IfOk result (λ steps.
+        KnowTenants (λ tenant. tenant < length plan.now.declared.tenants) steps.items) }
+{
+    stays_chain();
+    change_is_changed();
+    let mut steps = attachments(alloc, plan, app)?;
+    let later = plan.steps(app.conn);
+    'steps: for step in later {
+        let due = due_step(alloc, plan, app, step)?;
+        steps.push(due)?;
+    }
+    Ok(steps)
+}
+
+// The attachments of the application's chain.
+fn attachments(alloc: Global, plan: &Plan, app: &Application) -> Result<Vec<DueStep>, Memory>
+    requires plan { IsPlan plan.now }
+    requires app { IsApplication plan.now app.now }
+    requires few { length app.now.chain ≤ 8 }
+    ensures { IfOk result (λ steps. AreListed plan.now app.now steps.items
+        (lines_of (steps_on plan.now.operators app.now.conn)) (counts_of (steps_on plan.now.operators app.now.conn))) }
+{
+    let mut steps = Vec::new(alloc);
+    let places = app.chain.as_slice();
+    let mut at: u32 = 0;
+    'places: while (at as usize) < places.len() {
+        let due = attached(alloc, plan, app, at)?;
+        steps.push(due)?;
+        at += 1;
+    }
+    Ok(steps)
+}
+
+// The attachment at a place of the chain, before the first call.
+fn attached(alloc: Global, plan: &Plan, app: &Application, at: u32) -> Result<DueStep, Memory>
+    requires { IsSome (attachment_of plan.now app.now at) }
+    ensures count { IfOk result (λ due. due.count ≡ 0) }
+    ensures step { IfOk result (λ due. attachment_of plan.now app.now at ≡ Some due.step) }
+{
+    let step = plan.attachment(alloc, app, at)?;
+    Ok(DueStep { count: 0, step })
+}
+
+// The step that a line of an operator stands for, at its count.
+fn due_step(alloc: Global, plan: &Plan, app: &Application, step: &Step) -> Result<DueStep, Memory>
+    requires { IsSome (op_of plan.now app.now step.now.line) }
+    ensures count { IfOk result (λ due. due.count ≡ step.now.count) }
+    ensures step { IfOk result (λ due. op_of plan.now app.now step.now.line ≡ Some due.step) }
+{
+    let count = step.count;
+    let step = plan.step(alloc, app, &step.line)?;
+    Ok(DueStep { count, step })
+}

@@ -1,0 +1,123 @@
+//! How a connection, its application and its link are put together.
+
+ghost use Rattle.std.specs.Prelude.{◌≡◌, ◌≢◌, ◌<◌, ◌≤◌, [], Contains, IfOk, length};
+ghost use Rattle.mrpc_table.specs.declared.limits.TheConstants.{MAX_HEAP, MIN_HEAP};
+ghost use Rattle.receive_core.specs.Life.{Life as TheLife};
+ghost use Rattle.deliveries.specs.Arriving.{AreSame, HaveLived};
+ghost use Rattle.run_plan.specs.Plans.{IsApplication, IsPlan};
+ghost use Rattle.service_loop.specs.Steps.{AreSteps, KnowTenants};
+ghost use Rattle.service_wiring.specs.Wired.{Beginning, IsWired};
+
+use crate::applications::Job;
+use crate::common::Common;
+use crate::ends::{Ends, open_ends};
+use crate::programs::programmed;
+use crate::turned::Turned;
+use app_stub::AppPort;
+use conn_core::Conn;
+use deliveries::{Arrivals, Stream};
+use link_queue::{QueueLink, QueueWriter};
+use mrpc_base::{Clock, Link};
+use mrpc_table::Memory;
+use run_plan::Application;
+use service_loop::{Deliveries, DueStep, Endpoint, Submissions};
+use shared_heap::Reader;
+use std::alloc::Global;
+use std::sync::Wait;
+use tenant_quota::Seats;
+
+/// How many frames wait before a link at most.
+pub const QUEUE: u64 = 64;
+
+/// How many bytes are received at once, at the most.
+pub const MOST_BYTES: usize = 65536;
+
+/// A connection that workers visit, its application, and the writer of its link.
+pub type Wired<'t, R, L, C, G, O> = (
+    Turned<'t, R, C, Seats, QueueLink<'t, R>, G, O>,
+    Job<'t>,
+    QueueWriter<'t, R, L>,
+);
+
+/// Wires the connection of an application with its application and its link, behind the hello by which the connection
+/// was bound. A stream that has ended there is open again, since the queue before the link hasn't told its end yet.
+pub fn wire<'t, R: Wait, L: Link + Drop, C: Clock, G, O>(
+    common: &Common<'t, R, C, G, O>,
+    app: &'t Application,
+    steps: &'t [DueStep],
+    arrivals: Arrivals<'t>,
+    reader: Reader,
+    seats: Seats,
+    link: L,
+) -> Result<Wired<'t, R, L, C, G, O>, Memory>
+    requires plan { IsPlan common.now.plan.now }
+    requires app { Contains common.now.plan.now.applications app.now }
+    requires steps { AreSteps steps.now }
+    requires known { KnowTenants (λ tenant. tenant < length seats) steps.now }
+    requires lived { (life : TheLife) × HaveLived life arrivals × (life.fates ≡ []) }
+    requires working { arrivals.stream ≢ Stream.Failed }
+    requires none_held { arrivals.inbound.heap.held ≡ [] }
+    requires one_heap { reader.heap ≡ arrivals.writer.heap }
+    requires new_heap { reader.loads ≡ [] }
+    requires words { MIN_HEAP ≤ reader.heap.words }
+    ensures { (life : TheLife) → HaveLived life arrivals.entry → life.fates ≡ []
+        → IfOk result (λ wired. IsWired common.now.plan.now app.now (record {
+          arrivals = arrivals.entry;
+          life = life;
+          reader = reader;
+          seats = seats;
+          steps = steps.now;
+          clock = common.now.clock.now;
+          link = link;
+        }) wired.0 wired.1 wired.2) }
+{
+    let alloc = common.alloc;
+    let table = common.plan.table_of(app);
+    let (writer, own_reader) = shared_heap::open(alloc, app.heap)?;
+    let Ends {
+        sender,
+        noticed,
+        numbered,
+        reclaims,
+        calls,
+        rings,
+    } = open_ends(alloc, app.ring, &own_reader, &reader)?;
+    let conn = Conn::open(alloc, app.conn, table, common.plan.loads)?;
+    let (queue, passing) = link_queue::open(common.rt, alloc, QUEUE, link)?;
+    let submissions = Submissions::new(conn, own_reader, calls, steps);
+    let deliveries = Deliveries::new(alloc, opened_again(arrivals), rings, programmed(&app.role));
+    let buffer = vec![in alloc; 0; MOST_BYTES]?;
+    let stop = common.stop.try_clone()?;
+    let endpoint = Endpoint::new(submissions, deliveries, queue, seats, common.clock, buffer);
+    let port = AppPort {
+        writer,
+        sender,
+        capacity: app.ring,
+        notices: noticed,
+        blocks: numbered,
+        reader,
+        reclaims,
+        stop,
+    };
+    let job = Job {
+        role: &app.role,
+        table,
+        port,
+    };
+    Ok((Turned::new(common, endpoint), job, passing))
+}
+
+// The arrivals with their stream open, if it has ended.
+fn opened_again(mut arrivals: Arrivals) -> Arrivals
+    requires { arrivals.stream ≢ Stream.Failed }
+    ensures lived { (life : TheLife) → HaveLived life arrivals.entry → HaveLived life result }
+    ensures same { AreSame arrivals.entry result }
+    ensures held { result.inbound.heap.held ≡ arrivals.entry.inbound.heap.held }
+    ensures working { result.stream ≢ Stream.Failed }
+    ensures not_ended { result.stream ≢ Stream.Ended }
+{
+    if arrivals.stream == Stream::Ended {
+        arrivals.stream = Stream::Open;
+    }
+    arrivals
+}
