@@ -1,6 +1,6 @@
 -- The parts of what is wired.
-use Rattle.std.proofs.Common.{◌≡◌, ◌≢◌, ℕ, ◌+◌, ◌<◌, ◌≤◌, List, [], ◌∷◌, ◌++◌, Option, Some, None, refl, sym, ap, subst, ◌∙◌, arith, length, take, get_or, add-one, append-nil, length-append}
-use Rattle.std.specs.Prelude.{All, Contains, IfSome}
+use Rattle.std.proofs.Common.{◌≡◌, ℕ, ◌+◌, ◌<◌, List, [], ◌∷◌, ◌++◌, Option, Some, None, sym, ap, ◌∙◌, arith, length, take, get_or, add-one, append-nil, length-append}
+use Rattle.std.specs.Prelude.{Contains, IfSome}
 use Rattle.std.proofs.Math.Seq.{take-suc}
 use Rattle.std.proofs.lemmas.Grind.{flat_map-append}
 use Rattle.std.proofs.lemmas.List.Elements.{All-contains}
@@ -8,10 +8,9 @@ use Rattle.app_program.specs.Programs.{line_reclaims, reclaims_of}
 use Rattle.app_program.specs.declared.program.ProgramLine.{ProgramLine}
 use Rattle.mrpc_table.specs.Valid.{IsValid}
 use Rattle.receive_core.specs.Life.{Life}
-use Rattle.deliveries.specs.Arriving.{AreSame, HaveLived}
+use Rattle.deliveries.specs.Arriving.{HaveLived}
 use Rattle.deliveries.specs.declared.arrivals.Arrivals.{Arrivals}
-use Rattle.deliveries.specs.declared.arrivals.Stream.{Stream}
-use Rattle.deliveries.specs.declared.arrivals.Stream.TheVariants.{Cut, Ended, Failed, Open}
+use Rattle.deliveries.specs.declared.arrivals.Stream.TheVariants.{Cut, Ended, Open}
 use Rattle.run_plan.specs.Chains.{table_by, table_of}
 use Rattle.run_plan.specs.Plans.{IsApplication, IsOwnSchema, IsPlan}
 use Rattle.run_plan.specs.declared.application.Application.{Application}

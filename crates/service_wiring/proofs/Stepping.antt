@@ -1,6 +1,6 @@
 -- The steps on a connection: what lines stand for, and what follows from the plan.
-use Rattle.std.proofs.Common.{◌≡◌, ℕ, zero, suc, ◌+◌, ◌*◌, ◌<◌, ◌≤◌, ◌^◌, Bool, true, false, List, [], ◌∷◌, ◌++◌, map, length, take, drop, get_or, add-one, Option, Some, None, cond, refl, sym, ap, subst, ◌∙◌, arith, append_assoc, append-nil, length-append}
-use Rattle.std.specs.Prelude.{◌==◌, All, Contains, IsSome, IfSome, slice_get, unwrap_or, option_map, option_and_then}
+use Rattle.std.proofs.Common.{◌≡◌, ℕ, suc, ◌+◌, ◌<◌, ◌≤◌, ◌^◌, Bool, true, false, List, [], ◌∷◌, ◌++◌, map, length, drop, get_or, add-one, Option, Some, None, cond, refl, sym, ap, subst, ◌∙◌, arith, append_assoc, append-nil, length-append}
+use Rattle.std.specs.Prelude.{◌==◌, All, IsSome, IfSome, slice_get, unwrap_or, option_map, option_and_then}
 use Rattle.std.specs.List.{find}
 use Rattle.std.proofs.lemmas.List.{drop_all, length-map, map-append}
 use Rattle.std.proofs.lemmas.List.Elements.{All-cons, All-contains, All-head, All-nil, All-tail}
@@ -13,7 +13,7 @@ use Rattle.engine_core.specs.Policies.{IsPolicy, KnowsTenantOf}
 use Rattle.engine_core.specs.declared.op.Op.{Op}
 use Rattle.engine_core.specs.declared.op.Op.TheVariants as op
 use Rattle.engine_core.specs.declared.policy.Policy.{Policy}
-use Rattle.engine_core.specs.declared.policy.Policy.TheVariants.{Access, Count, Quota, Rate, Redact}
+use Rattle.engine_core.specs.declared.policy.Policy.TheVariants.{Access, Redact}
 use Rattle.conn_core.specs.Steps.{IfPolicy}
 use Rattle.policy_blocks.specs.Declarations.{IsSound}
 use Rattle.policy_blocks.specs.declared.item.NamedPolicy.{NamedPolicy}

@@ -20,8 +20,8 @@ use Rattle.service_wiring.specs.declared.applications.Job.{Job}
 
 -- ---- what it is given
 
--- An application can be run: nothing has happened at its port, its program is one of its role for its heap, its table is
--- valid, and heaps and rings are of sizes that there may be.
+-- An application can be run: nothing has happened at its port, its program is one of its role for its heap, its table
+-- is valid, and heaps and rings are of sizes that there may be.
 pub record IsJob (job : Job) : Type 0 where
   pub port : IsNew job.port
   pub program : HasProgram job.port.writer.heap.words job.role.now

@@ -1,5 +1,5 @@
 -- What is left of a connection once its link was closed (this project's own).
-use Rattle.std.specs.Prelude.{◌≡◌, ◌↔◌, ◌<◌, ℕ, List, true}
+use Rattle.std.specs.Prelude.{◌≡◌, ◌↔◌, ◌<◌, List, true}
 use Rattle.tenant_quota.specs.Drawing.{Drawing}
 use Rattle.link_queue.specs.Queueing.{Queueing}
 use Rattle.link_queue.specs.declared.marks.Health.TheVariants.{Failed}

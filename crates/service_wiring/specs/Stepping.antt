@@ -1,9 +1,7 @@
 -- Which steps of operators come to the chain of a connection, and when (this project's own).
-use Rattle.std.specs.Prelude.{◌≡◌, ℕ, List, [], ◌∷◌, ◌++◌, map, Option, Some}
-use Rattle.engine_core.specs.declared.op.Op.{Op}
+use Rattle.std.specs.Prelude.{◌≡◌, ℕ, List, ◌++◌, map, Some}
 use Rattle.run_plan.specs.Chains.{lines_on, op_of, steps_on}
 use Rattle.run_plan.specs.declared.application.Application.{Application}
-use Rattle.run_plan.specs.declared.operator.Step.{Step}
 use Rattle.run_plan.specs.declared.plan.Plan.{Plan}
 use Rattle.service_loop.specs.declared.due_step.DueStep.{DueStep}
 

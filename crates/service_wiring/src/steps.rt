@@ -13,8 +13,8 @@ use run_plan::{Application, Plan, Step};
 use service_loop::DueStep;
 use std::alloc::Global;
 
-/// The steps of operators on the connection of an application of a plan, in order: its attachments, and then those of its
-/// operator. Nothing is refused of them, and they name no tenant that the plan doesn't declare.
+/// The steps of operators on the connection of an application of a plan, in order: its attachments, and then those of
+/// its operator. Nothing is refused of them, and they name no tenant that the plan doesn't declare.
 pub fn due_steps(alloc: Global, plan: &Plan, app: &Application) -> Result<Vec<DueStep>, Memory>
     requires plan { IsPlan plan.now }
     requires app { Contains plan.now.applications app.now }

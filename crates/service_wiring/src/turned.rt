@@ -100,7 +100,8 @@ impl<'t, R: Wait, C: Clock, Q: Tickets, L: Link, G: Gate, O: ReadyOrder> Turned<
 > {
     /// Makes a visit. Where no memory is found it sets the stop flag, so that the run ends, and gets no further visit.
     pub fn visit(&mut self) -> Visit
-        ensures { Leaves (HasTurned C.Clock Q.Tickets L.Link) (IsDone C.Clock Q.Tickets L.Link) self.old result self.new }
+        ensures { Leaves (HasTurned C.Clock Q.Tickets L.Link) (IsDone C.Clock Q.Tickets L.Link)
+            self.old result self.new }
     {
         connections_go_on::<C, Q, L>();
         turn(

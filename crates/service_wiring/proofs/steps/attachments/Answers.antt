@@ -1,7 +1,7 @@
 use Rattle.std.proofs.Common.{◌≡◌, ℕ, ◌<◌, List, length, ap, arith}
 use Rattle.run_plan.specs.Chains.{steps_on}
 use Rattle.service_wiring.specs.Listing.{lines_of}
-use Rattle.service_wiring.proofs.Stepping.{listed-none, listed-place, place-there}
+use Rattle.service_wiring.proofs.Stepping.{listed-place, place-there}
 use Rattle.service_wiring.proofs.steps.attachments.Goals as goal
 
 pub attached-requires : goal.attached-requires
@@ -18,8 +18,8 @@ places-preserved c =
     ap (λ (xs : List ℕ). length xs) c.as_slice-places.ensures in
     let within : c.places.at < length c.args.app.now.chain = omega arith in (
       rw c.in_ok-push.ensures.items
-      (listed-place c.args.plan.now c.args.app.now c.places.steps.items c.places.at c.in_ok-due.due
-      (steps_on c.args.plan.now.operators c.args.app.now.conn) within c.in_ok-due.ensures.count
-      c.in_ok-due.ensures.step c.places.invariant.0),
+          (listed-place c.args.plan.now c.args.app.now c.places.steps.items c.places.at c.in_ok-due.due
+          (steps_on c.args.plan.now.operators c.args.app.now.conn) within c.in_ok-due.ensures.count
+          c.in_ok-due.ensures.step c.places.invariant.0),
       omega arith,
     )
