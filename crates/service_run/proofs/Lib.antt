@@ -1,0 +1,8 @@
+mod Closed
+mod Each
+mod Knowing
+mod Left
+mod Members
+mod Splits
+mod Together
+mod Zips

@@ -1,0 +1,74 @@
+-- What the threads of a run leave of a bound connection (this project's own).
+use Rattle.std.specs.Prelude.{◌≡◌, List, [], ◌∷◌}
+use Rattle.mrpc_base.specs.declared.clock.Clock.{Ghosts as ClockMembers}
+use Rattle.mrpc_base.specs.declared.link.Link.{Ghosts as LinkMembers}
+use Rattle.mrpc_base.specs.declared.tickets.Tickets.{Ghosts as TicketMembers}
+use Rattle.tenant_quota.specs.Drawing.{Drawing}
+use Rattle.app_stub.specs.declared.port.AppEnd.{AppEnd}
+use Rattle.link_queue.specs.Queueing.{Queueing}
+use Rattle.link_queue.specs.Writers.{end_backward, end_forward, start_of, writer_backward, writer_forward, writer_start}
+use Rattle.link_queue.specs.declared.writer.QueueWriter.{QueueWriter}
+use Rattle.link_queue.specs.declared.writer_end.WriterEnd.{WriterEnd}
+use Rattle.run_plan.specs.declared.application.Application.{Application}
+use Rattle.run_plan.specs.declared.plan.Plan.{Plan}
+use Rattle.service_loop.specs.Rounds.{IsEndpoint}
+use Rattle.service_loop.specs.declared.endpoint.Endpoint.{Endpoint}
+use Rattle.service_wiring.specs.Applications.{IsEndOf}
+use Rattle.service_wiring.specs.Turning.{HasTurned, IsDone}
+use Rattle.service_wiring.specs.Closing.{IsLeftOf}
+use Rattle.service_wiring.specs.Wired.{Beginning, IsWiredConn, IsWiredJob}
+use Rattle.service_wiring.specs.declared.applications.Job.{Job}
+use Rattle.service_wiring.specs.declared.closed.Closed.{Closed}
+
+-- a connection of a run: its numbers in the plan, its clock, its quotas, and a link whose frames a writer passes on
+abbrev pub Item : Type 0 → Type 0
+Item C = Endpoint C (List Drawing) Queueing
+
+-- how a bound connection began: by the plan, for one of its applications, with what there was behind the hellos
+pub record Opening (C L : Type 0) : Type 0 where
+  pub plan : Plan
+  pub app : Application
+  pub begun : Beginning C L
+
+-- what a writer left: the inner link is the one that the writer was made with, and its queues are the same
+pub record IsWrittenBy {R L : Type 0} {g : LinkMembers L} (writer : QueueWriter R L g) (end : WriterEnd L g) : Type 0
+  where
+    pub start : start_of end ≡ writer_start writer
+    pub forward : end_forward end ≡ writer_forward writer
+    pub backward : end_backward end ≡ writer_backward writer
+
+module _ {C : Type 0} (of_clock : ClockMembers C) (of_quotas : TicketMembers (List Drawing))
+    (of_link : LinkMembers Queueing) where
+  -- These are the parts of a connection that is the first one, later on, and is over. Where no memory was found, no
+  -- more is said.
+  pub record IsClosedOf (first : Item C) (closed : Closed) : Type 0 where
+    pub last : Item C
+    pub turned : HasTurned of_clock of_quotas of_link first last
+    pub whole : IsEndpoint of_clock of_quotas of_link last
+    pub done : IsDone of_clock of_quotas of_link last
+    pub parts : IsLeftOf last closed
+
+  -- What is left of a connection that was opened so: of its own part, of its application, and of the writer of its
+  -- link.
+  pub record IsLeft {L : Type 0} {g : LinkMembers L} (opening : Opening C L) (closed : Closed) (end : AppEnd)
+      (writer : WriterEnd L g) : Type 0 where
+    pub first : Item C
+    pub job : Job
+    pub conn : IsWiredConn opening.plan opening.app opening.begun first
+    pub app_job : IsWiredJob opening.plan opening.app opening.begun first job
+    pub handed : first.link.handed ≡ []
+    pub given : first.link.given ≡ []
+    pub faults : first.link.faults ≡ 0
+    pub closed_of : IsClosedOf first closed
+    pub end_of : IsEndOf job end
+    pub start : start_of writer ≡ opening.begun.link
+    pub forward : end_forward writer ≡ first.link.forward
+    pub backward : end_backward writer ≡ first.link.backward
+
+  -- what is left of each of some connections, in the order in which they were opened
+  abbrev pub AreLeft : {L : Type 0} {g : LinkMembers L} → List (Opening C L) → List Closed → List AppEnd
+      → List (WriterEnd L g) → Type 0
+  AreLeft [] [] [] [] = Unit {0}
+  AreLeft (o ∷ openings) (closed ∷ all_closed) (end ∷ ends) (writer ∷ writers) =
+      IsLeft o closed end writer × AreLeft openings all_closed ends writers
+  AreLeft _ _ _ _ = ⊥

@@ -1,0 +1,4 @@
+pub mod Closings
+pub mod Joining
+pub mod Parts
+pub mod Served

@@ -1,0 +1,122 @@
+-- What a run did on a bound connection (this project's own).
+use Rattle.std.specs.Prelude.{◌≡◌, ◌≤◌, ◌<◌, ℕ, List, [], ◌++◌, All, length, map, Some, IsPermutation, IsTrue, true, false}
+use Rattle.std.specs.List.{AllZip}
+use mathlib.Core.List.{IsPrefix}
+use Rattle.mrpc_base.specs.Faults.{Rose}
+use Rattle.mrpc_base.specs.declared.clock.Clock.{Ghosts as ClockMembers}
+use Rattle.mrpc_base.specs.declared.link.Link.{Ghosts as LinkMembers}
+use Rattle.mrpc_base.specs.declared.tickets.TheConstants.{WINDOWS}
+use Rattle.call_history.specs.Tickets.{tickets_behind}
+use Rattle.conn_core.specs.Connections.{behind, frames}
+use Rattle.receive_core.specs.Life.{Life}
+use Rattle.tenant_quota.specs.Drawing.{AreLater, Drawing, drawn_by}
+use Rattle.deliveries.specs.Arriving.{HasAll, HaveLived}
+use Rattle.deliveries.specs.Telling.{IsReclaiming, TellsOf}
+use Rattle.deliveries.specs.declared.arrivals.Stream.TheVariants.{Ended, Failed}
+use Rattle.app_program.specs.Programs.{Submission, reclaims_of, stores_of, submits_of}
+use Rattle.app_stub.specs.Echoing.{Echo, Echoed}
+use Rattle.app_stub.specs.Serving.{all_served_replies, all_served_stores, blocks_of, submission_of}
+use Rattle.link_queue.specs.Known.{TellsMore}
+use Rattle.run_plan.specs.Chains.{table_of}
+use Rattle.run_plan.specs.declared.application.Role.{Role}
+use Rattle.run_plan.specs.declared.application.Role.TheVariants as role
+use Rattle.service_loop.specs.Calls.{moments_at_calls, moments_in}
+use Rattle.service_loop.specs.Delivering.{LivesOn, held_numbers, message_blocks, messages_of}
+use Rattle.service_loop.specs.Serving.{IsServed}
+use Rattle.service_run.specs.Closings.{Opening}
+use Rattle.service_run.specs.declared.served.BoundConn.{BoundConn}
+
+-- ---- the application
+
+-- these stores were made, and these calls submitted; of them the service knows and took all, and these blocks came back
+pub record HasMade (stores : List (ℕ × ℕ)) (calls : List Submission) (blocks : List ℕ) (b : BoundConn) : Type 0 where
+  pub stored : b.note.stores ≡ stores
+  pub submitted : map submission_of b.submissions.calls.taken ≡ calls
+  pub returned : b.reclaims.numbers.taken ≡ blocks
+
+-- an echo's heaps and ring
+abbrev pub echo_on : {C L : Type 0} → Opening C L → Echo
+echo_on o = record {
+  table = table_of o.plan o.app;
+  heap = o.app.heap;
+  receive = o.begun.reader.heap.words;
+  ring = o.app.ring;
+}
+
+-- what the application of a role did: the stores and calls of a client are those of its program, those of a server are
+-- its program's for each request that it was told of, and those of an echo its copies'; each gave back the block of
+-- each notice, and a client those of its program before
+abbrev pub DidAs : Role → Echo → BoundConn → Type 0
+DidAs (role.Client program) e b = HasMade (stores_of program) (submits_of 0 program)
+    (reclaims_of program ++ blocks_of b.notices.taken b.blocks.taken) b
+DidAs (role.Server program) e b = HasMade (all_served_stores program b.notices.taken)
+    (all_served_replies program 0 b.notices.taken) (blocks_of b.notices.taken b.blocks.taken) b
+DidAs role.Echo e b =
+    Echoed e b.notices.taken b.note.stores (map submission_of b.submissions.calls.taken) b.reader
+    × (b.reclaims.numbers.taken ≡ blocks_of b.notices.taken b.blocks.taken)
+
+-- ---- what arrived
+
+-- What was delivered to an application, to the end. Its receiver lived on from the life that it began with; each frame
+-- that may have its fate had it, each line is the fate of a frame, in order, and each message that was placed was told
+-- to the application, with the number of its block. Each of these blocks is held or came back, among the numbers that
+-- were judged.
+pub record WasDelivered (life : Life) (piece : List ℕ) (b : BoundConn) : Type 0 where
+  pub later : Life
+  pub lives : LivesOn piece life later
+  pub numbers : List ℕ
+  pub back : List ℕ
+  pub lived : HaveLived later b.arrivals
+  pub all : HasAll b.arrivals
+  pub told : AllZip TellsOf (messages_of later.fates) b.notices.taken
+  pub blocks : b.blocks.taken ≡ message_blocks (messages_of later.fates)
+  pub returned : IsReclaiming numbers back b.reclaims
+  pub held : IsPermutation (message_blocks (messages_of later.fates)) (held_numbers b.arrivals.inbound.heap.held ++ back)
+
+module _ {C L : Type 0} (of_link : LinkMembers L) where
+  -- What came of a link and was delivered: a first piece of what the link gave since, and all of it where the stream
+  -- has ended, which the link answered.
+  pub record Arrived (opening : Opening C L) (now : L) (b : BoundConn) : Type 0 where
+    pub piece : List ℕ
+    pub rest : List ℕ
+    pub came : TellsMore (of_link.given opening.begun.link) (of_link.given now) (piece ++ rest)
+    pub delivered : WasDelivered opening.begun.life piece b
+    pub whole : b.arrivals.stream ≡ Ended → rest ≡ []
+    pub ended : b.arrivals.stream ≡ Ended → IsTrue (of_link.ended now)
+    pub failed : b.arrivals.stream ≡ Failed → b.submissions.conn.ended ≡ true
+
+  -- What a link was handed: a first piece of the frames that the history tells, and all of them unless the connection
+  -- has ended.
+  pub record WasHanded (opening : Opening C L) (now : L) (b : BoundConn) : Type 0 where
+    pub passed : List (List ℕ)
+    pub handed : of_link.handed now ≡ of_link.handed opening.begun.link ++ passed
+    pub in_order : IsPrefix passed (frames b.submissions.conn)
+    pub all : b.submissions.conn.ended ≡ false → passed ≡ frames b.submissions.conn
+
+module _ {C L : Type 0} (of_clock : ClockMembers C) (of_link : LinkMembers L) where
+  -- What a run did on a connection that was opened so, what is left of it, its seats and its link behind the run.
+  pub record HasServed (opening : Opening C L) (b : BoundConn) (seats : List Drawing) (now : L) : Type 0 where
+    pub number : b.submissions.conn.conn ≡ opening.app.conn
+    pub table : b.submissions.conn.table ≡ table_of opening.plan opening.app
+    pub limit : b.submissions.conn.limit ≡ opening.plan.loads
+    pub steps : b.submissions.steps.now ≡ opening.begun.steps
+    -- its calls are those that its application submitted, all and in order, its loads are fresh, and the steps of
+    -- operators came where they were due, all of them
+    pub served : IsServed b.submissions
+    pub finished : b.submissions.finished ≡ true
+    pub known : b.submissions.reader.known ≡ b.note.stores
+    pub did : DidAs opening.app.role (echo_on opening) b
+    -- each moment is the clock's
+    pub moments : All (of_clock.gives opening.begun.clock) (moments_in (behind b.submissions.conn))
+    pub least : All (λ ms. of_clock.least opening.begun.clock ≤ ms) (moments_at_calls (behind b.submissions.conn))
+    pub arrived : Arrived of_link opening now b
+    pub handed : WasHanded of_link opening now b
+    -- the connection has ended where the count of its link's faults rose, and only there
+    pub rose : b.submissions.conn.ended ≡ true → Rose (of_link.faults opening.begun.link) (of_link.faults now)
+    pub stays : b.submissions.conn.ended ≡ false → of_link.faults now ≡ of_link.faults opening.begun.link
+    pub same_link : (first : L) → of_link.since first opening.begun.link → of_link.since first now
+    -- its seats drew the tickets that its history tells, and no others
+    pub same_seats : AreLater opening.begun.seats seats
+    pub drawn : (tenant window : ℕ) (earlier : List ℕ) → tenant < length opening.begun.seats → window < WINDOWS
+        → drawn_by opening.begun.seats tenant window ≡ Some earlier
+        → drawn_by seats tenant window ≡ Some (earlier ++ tickets_behind tenant window (behind b.submissions.conn))

@@ -1,0 +1,229 @@
+//! What the threads left of one connection is put together.
+
+ghost use Rattle.std.specs.Prelude.{◌≡◌, ℕ, List, None, Some, IfOk, OnOk, IsTrue, true, false};
+ghost use Rattle.std.specs.List.{AllZip};
+ghost use Rattle.app_stub.specs.declared.port.AppEnd.{AppEnd as TheEnd};
+ghost use Rattle.deliveries.specs.Telling.{IsReclaiming, notices_of, number_ring_of, numbers_of, ring_of};
+ghost use Rattle.link_queue.specs.declared.writer_end.WriterEnd.{WriterEnd as TheWriterEnd};
+ghost use Rattle.link_queue.specs.Writers.{end_backward, end_forward, start_of};
+ghost use Rattle.service_loop.specs.Serving.{IsServed};
+ghost use Rattle.service_run.specs.Closings.{AreLeft, IsLeft, Opening};
+ghost use Rattle.service_run.specs.Parts.{FailsWith, HasPassed, KnowsAll};
+ghost use Rattle.service_run.specs.Served.{HasServed};
+
+use crate::served::BoundConn;
+use app_stub::{AppEnd, AppSent};
+use deliveries::{Notices, Reclaims};
+use descriptor_ring::{NumberReceiver, NumbersSent, Receiver, Sent};
+use link_queue::{Passed, QueueLink, WriterEnd};
+use mrpc_base::{Clock, Link, Tickets};
+use mrpc_table::Memory;
+use service_loop::{Deliveries, Submissions};
+use service_wiring::Closed;
+use shared_heap::{Note, calls_are_fresh};
+use std::alloc::Global;
+use std::sync::Wait;
+use tenant_quota::Seats;
+
+/// What was put together of one connection: the connection, its seats, and its link.
+#[derive(Drop)]
+pub struct Met<'t, L> {
+    pub bound: BoundConn<'t>,
+    pub seats: Seats,
+    pub link: L,
+}
+
+/// Puts together what was left of each connection, in their order. `Memory` also where memory was wanting in one of
+/// their threads.
+pub fn meet_each<'t, R: Wait + 't, C: Clock, L: Link + Drop>(
+    rt: &R,
+    alloc: Global,
+    clock: &C,
+    closed: Vec<Closed<'t>>,
+    ends: Vec<AppEnd>,
+    writers: Vec<WriterEnd<L>>,
+) -> Result<Vec<Met<'t, L>>, Memory>
+    requires left { (openings : List (Opening C L))
+        × AreLeft C.Clock ⟦<Seats as Tickets>⟧ ⟦<QueueLink<'t, R> as Link>⟧ openings closed.items ends.items
+        writers.items }
+    ensures served { (openings : List (Opening C L))
+        → AreLeft C.Clock ⟦<Seats as Tickets>⟧ ⟦<QueueLink<'t, R> as Link>⟧ openings closed.entry.items ends.items
+        writers.items
+        → IfOk result (λ all. AllZip (λ o met. HasServed C.Clock L.Link o met.bound met.seats met.link) openings
+        all.items) }
+{
+    let mut all = Vec::with_capacity(alloc, closed.len())?;
+    let mut ends = ends.into_iter();
+    let mut writers = writers.into_iter();
+    let mut rest = closed.into_iter();
+    while let Some(one) = rest.next() {
+        let met = meet_next(rt, clock, one, ends.next(), writers.next())?;
+        all.push(met)?;
+    }
+    Ok(all)
+}
+
+// Puts together what was left of the next connection, where its application's end and its writer's are there.
+fn meet_next<'t, R: Wait + 't, C: Clock, L: Link + Drop>(
+    rt: &R,
+    clock: &C,
+    closed: Closed<'t>,
+    end: Option<AppEnd>,
+    writer: Option<WriterEnd<L>>,
+) -> Result<Met<'t, L>, Memory>
+    requires left { (e : TheEnd) (w : TheWriterEnd L L.Link) → end ≡ Some e → writer ≡ Some w → (o : Opening C L)
+        × IsLeft C.Clock ⟦<Seats as Tickets>⟧ ⟦<QueueLink<'t, R> as Link>⟧ o closed e w }
+    ensures there { OnOk result ((e : TheEnd) × (w : TheWriterEnd L L.Link) × (end ≡ Some e) × (writer ≡ Some w)) }
+    ensures served { (o : Opening C L) (e : TheEnd) (w : TheWriterEnd L L.Link) → end ≡ Some e → writer ≡ Some w
+        → IsLeft C.Clock ⟦<Seats as Tickets>⟧ ⟦<QueueLink<'t, R> as Link>⟧ o closed.entry e w
+        → IfOk result (λ met. HasServed C.Clock L.Link o met.bound met.seats met.link) }
+{
+    let Some(end) = end else {
+        return Err(Memory);
+    };
+    let Some(writer) = writer else {
+        return Err(Memory);
+    };
+    meet(rt, clock, closed, end, writer)
+}
+
+/// Puts together what was left of one connection behind the joins of its threads: the rings are met by what their
+/// senders left, the heap's reader by the application's last note, and the writer of the link by the queue's link. The
+/// connection ends where only its writer learnt that the link failed. `Memory` where memory was wanting in one of the
+/// threads.
+pub fn meet<'t, R: Wait + 't, C: Clock, L: Link + Drop>(
+    _rt: &R,
+    _clock: &C,
+    closed: Closed<'t>,
+    end: AppEnd,
+    writer: WriterEnd<L>,
+) -> Result<Met<'t, L>, Memory>
+    requires left { (o : Opening C L)
+        × IsLeft C.Clock ⟦<Seats as Tickets>⟧ ⟦<QueueLink<'t, R> as Link>⟧ o closed end writer }
+    ensures served { (o : Opening C L)
+        → IsLeft C.Clock ⟦<Seats as Tickets>⟧ ⟦<QueueLink<'t, R> as Link>⟧ o closed.entry end writer
+        → IfOk result (λ met. HasServed C.Clock L.Link o met.bound met.seats met.link) }
+{
+    let Closed {
+        mut submissions,
+        deliveries,
+        seats,
+        passed,
+        memory,
+    } = closed;
+    let AppEnd {
+        mut note,
+        reader,
+        mut notices,
+        mut blocks,
+        memory: _,
+        sent,
+    } = end;
+    let (failed, link) = meet_link(writer, passed)?;
+    let Some(sent) = sent else {
+        return Err(Memory);
+    };
+    if memory {
+        return Err(Memory);
+    }
+    let Deliveries {
+        arrivals,
+        notices: told,
+        mut reclaims,
+    } = deliveries;
+    let AppSent {
+        calls,
+        reclaims: returned,
+    } = sent;
+    fail_with(failed, &mut submissions);
+    meet_calls(&mut submissions, &mut note, calls);
+    meet_notices(&mut notices, &mut blocks, told);
+    meet_reclaims(&mut reclaims, returned);
+    Ok(Met {
+        bound: BoundConn {
+            submissions,
+            arrivals,
+            reclaims,
+            note,
+            reader,
+            notices,
+            blocks,
+        },
+        seats,
+        link,
+    })
+}
+
+// Has the writer of a link meet what is left of the link of its queue, and answers whether the inner link failed.
+fn meet_link<L: Link + Drop>(mut writer: WriterEnd<L>, passed: Passed) -> Result<(bool, L), Memory>
+    requires forward { passed.forward ≡ end_forward writer }
+    requires backward { passed.backward ≡ end_backward writer }
+    ensures { IfOk result (λ met. HasPassed L.Link (start_of writer) passed met.0 met.1) }
+{
+    writer.meet(passed);
+    if writer.memory() {
+        return Err(Memory);
+    }
+    let failed = writer.failed();
+    Ok((failed, writer.into_link()))
+}
+
+// Ends a connection whose link failed.
+fn fail_with(failed: bool, submissions: &mut Submissions)
+    requires { IsServed submissions.old }
+    ensures { FailsWith failed submissions.old submissions.new }
+{
+    if failed {
+        submissions.fail();
+    }
+}
+
+// Has the service know all stores of the application's heap, and meet what was left of the ring of its calls.
+fn meet_calls(submissions: &mut Submissions, note: &mut Note, sent: Sent)
+    requires served { IsServed submissions.old }
+    requires heap { note.old.heap ≡ submissions.old.reader.heap }
+    requires last { note.old.last ≡ true }
+    requires ring { sent.ring ≡ submissions.old.calls.ring }
+    requires closed { submissions.old.calls.closed ≡ true }
+    ensures knows { KnowsAll note.old sent submissions.old submissions.new }
+    ensures note { note.new ≡ note.old }
+{
+    calls_are_fresh();
+    submissions.reader.hear(note);
+    submissions.calls.meet(sent);
+}
+
+// Has an application's ends of the rings of its notices meet what was left of them.
+fn meet_notices(notices: &mut Receiver, blocks: &mut NumberReceiver, told: Notices)
+    requires none { (told.notices ≡ None) × (told.blocks ≡ None) }
+    requires notices_ring { ring_of told.notices told.noticed ≡ Some notices.old.ring }
+    requires blocks_ring { number_ring_of told.blocks told.numbered ≡ Some blocks.old.ring }
+    requires notices_closed { IsTrue notices.old.closed }
+    requires blocks_closed { IsTrue blocks.old.closed }
+    ensures notices { notices.old.taken ≡ notices_of told }
+    ensures blocks { blocks.old.taken ≡ numbers_of told }
+    ensures same_notices { notices.new.taken ≡ notices.old.taken }
+    ensures same_blocks { blocks.new.taken ≡ blocks.old.taken }
+{
+    let Notices {
+        noticed,
+        numbered,
+        ..
+    } = told;
+    let (Some(noticed), Some(numbered)) = (noticed, numbered) else {
+        unreachable!()
+    };
+    notices.meet(noticed);
+    blocks.meet(numbered);
+}
+
+// Has the ring on which blocks come back meet what was left of it.
+fn meet_reclaims(reclaims: &mut Reclaims, returned: NumbersSent)
+    requires ring { returned.ring ≡ reclaims.old.numbers.ring }
+    requires closed { reclaims.old.numbers.closed ≡ true }
+    ensures taken { reclaims.new.numbers.taken ≡ returned.items }
+    ensures reclaiming { (numbers back : List ℕ) → IsReclaiming numbers back reclaims.old
+        → IsReclaiming numbers back reclaims.new }
+{
+    reclaims.numbers.meet(returned);
+}
