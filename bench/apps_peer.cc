@@ -12,48 +12,15 @@
 #include <thread>
 #include <vector>
 
+#include "peer_ring.h"
+
 namespace {
 
-constexpr uint64_t kCapacity = 64;
 constexpr uint64_t kMessages = 256;
 constexpr uint64_t kWords = 1024;
 constexpr uint64_t kNodeWords = 2;
 constexpr uint64_t kSlices = kCapacity + 2;
 constexpr uint64_t kSliceWords = (kWords - 2) / kSlices;
-
-struct Descriptor {
-  uint8_t kind;
-  uint16_t method;
-  uint32_t number;
-  uint64_t addr;
-  uint64_t stores;
-};
-
-class Ring {
- public:
-  bool Send(const Descriptor& descriptor) {
-    uint64_t tail = tail_.load();
-    if (tail - head_.load() == kCapacity) return false;
-    slots_[tail % kCapacity] = descriptor;
-    tail_.store(tail + 1);
-    return true;
-  }
-
-  bool Take(Descriptor* descriptor) {
-    uint64_t head = head_.load();
-    if (head == tail_.load()) return false;
-    *descriptor = slots_[head % kCapacity];
-    head_.store(head + 1);
-    return true;
-  }
-
- private:
-  alignas(128) std::atomic<uint64_t> tail_{0};
-  alignas(128) std::atomic<uint64_t> head_{0};
-  alignas(128) Descriptor slots_[kCapacity];
-};
-
-const Descriptor kClosing{0, 0, 0, 0, 0};
 
 void SendWaiting(Ring* ring, const Descriptor& descriptor) {
   while (!ring->Send(descriptor)) std::this_thread::yield();

@@ -10,48 +10,13 @@
 #include <thread>
 #include <vector>
 
+#include "peer_ring.h"
+
 namespace {
 
-constexpr uint64_t kCapacity = 64;
 constexpr uint64_t kMessages = 128;
 constexpr uint64_t kWords = 258;
 constexpr uint64_t kNodeWords = 2;
-
-struct Descriptor {
-  uint8_t kind;
-  uint16_t method;
-  uint32_t number;
-  uint64_t addr;
-  uint64_t stores;
-};
-
-class Ring {
- public:
-  bool Send(const Descriptor& descriptor) {
-    uint64_t tail = tail_.load();
-    if (tail - head_.load() == kCapacity) return false;
-    slots_[tail % kCapacity] = descriptor;
-    tail_.store(tail + 1);
-    return true;
-  }
-
-  bool Close() {
-    return Send(Descriptor{0, 0, 0, 0, 0});
-  }
-
-  bool Take(Descriptor* descriptor) {
-    uint64_t head = head_.load();
-    if (head == tail_.load()) return false;
-    *descriptor = slots_[head % kCapacity];
-    head_.store(head + 1);
-    return true;
-  }
-
- private:
-  alignas(128) std::atomic<uint64_t> tail_{0};
-  alignas(128) std::atomic<uint64_t> head_{0};
-  alignas(128) Descriptor slots_[kCapacity];
-};
 
 struct Field {
   uint32_t number;
@@ -88,7 +53,7 @@ void WriteAll(uint64_t count, std::atomic<uint64_t>* words, Ring* ring) {
     Descriptor descriptor{1, 0, 0, place, number};
     while (!ring->Send(descriptor)) std::this_thread::yield();
   }
-  while (!ring->Close()) std::this_thread::yield();
+  while (!ring->Send(kClosing)) std::this_thread::yield();
 }
 
 Passed ReadAll(std::atomic<uint64_t>* words, Ring* ring) {
