@@ -22,19 +22,24 @@ IsPlain bytes = list_all is_plain bytes ≡ true
 -- a text that is pointed into: all of the input, or a file of the set that it spells
 pub data IsTextOf (input text : List ℕ) : Type 0 where
   whole : text ≡ input → IsTextOf input text
-  file : (path : List ℕ) (files : List (List ℕ × List ℕ)) → Spells input files → Contains files (path, text) → IsTextOf input text
+  file : (path : List ℕ) (files : List (List ℕ × List ℕ)) → Spells input files → Contains files (path, text)
+      → IsTextOf input text
 
 -- what is pointed at, from its first byte up to the one behind its last: the token at fault of a proto file, a name or a
 -- number that something stands against, or a part of a line
 pub data IsAtFault (text : List ℕ) (start end : ℕ) : Type 0 where
-  token : (reason : ProtoReason) (first line : ℕ) → proto.IsFaultOf text (proto_fault.At reason first end line) → start ≡ min first (length text) → IsAtFault text start end
-  offence : (F : File) → proto.IsTextOf text F → (reason : ResolveReason) (first line : ℕ) → resolve.IsFaultOf F (resolve_fault.At reason first end line) → start ≡ min first (length text) → IsAtFault text start end
+  token : (reason : ProtoReason) (first line : ℕ) → proto.IsFaultOf text (proto_fault.At reason first end line)
+      → start ≡ min first (length text) → IsAtFault text start end
+  offence : (F : File) → proto.IsTextOf text F → (reason : ResolveReason) (first line : ℕ)
+      → resolve.IsFaultOf F (resolve_fault.At reason first end line) → start ≡ min first (length text)
+      → IsAtFault text start end
   in_line : start ≤ length text → IsAtFault text start end
 
 -- what is said: a sentence, or a place at fault with the sentence
 pub data Says (input : List ℕ) (width : ℕ) (shown : List ℕ) : Type 0 where
   alone : (sentence : List ℕ) → IsPlain sentence → shown ≡ sentence ++ codes "\n" → Says input width shown
-  pointing : (text : List ℕ) → IsTextOf input text → (start end : ℕ) → IsAtFault text start end → (sentence : List ℕ) → IsPlain sentence → IsPointed text start end width sentence shown → Says input width shown
+  pointing : (text : List ℕ) → IsTextOf input text → (start end : ℕ) → IsAtFault text start end → (sentence : List ℕ)
+      → IsPlain sentence → IsPointed text start end width sentence shown → Says input width shown
 
 -- in front of it stand notes, or the path of a file
 pub record Explains (input : List ℕ) (width : ℕ) (lines : List ℕ) : Type 0 where
