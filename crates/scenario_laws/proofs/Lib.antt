@@ -1,0 +1,16 @@
+mod Lists
+mod Free
+mod Numbers
+mod Programs
+mod Pairs
+mod Operators
+mod Sorts
+mod Alike
+mod Placed
+mod Chains
+mod Applications
+mod Sound
+mod OneLine
+mod Bounded
+mod OneOwn
+mod OnePlan

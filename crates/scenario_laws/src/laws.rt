@@ -1,0 +1,43 @@
+//! What a scenario says is a plan that a run may rely on, and it says one at most.
+
+ghost use Rattle.std.specs.Prelude.{◌≡◌, ℕ, List};
+ghost use Rattle.run_plan.specs.Plans.{IsPlan};
+ghost use Rattle.run_plan.specs.declared.plan.Plan.{Plan};
+ghost use Rattle.toml.specs.Data.{Members};
+ghost use Rattle.scenario.specs.Scenarios.{HasFault, IsTextOf, Says};
+ghost use Rattle.scenario.specs.declared.fault.Entry.{Entry};
+ghost use Rattle.scenario.specs.declared.fault.ScenarioReason.{ScenarioReason};
+
+use engine_core::{change_is_changed, one_change, stays_chain};
+use scenario_entries::{not_both, one_fault};
+use scenario_policies::{declared_is_sound, one_declaration, one_table, own_is_sound};
+use script_words::one_judgement;
+
+/// What a scenario says is a sound plan: nothing of what a plan promises to those who run it is asked again.
+pub fn a_said_plan_is_sound()
+    ensures said { (all : Members) (plan : Plan) → Says all plan → IsPlan plan }
+    ensures sound { (text : List ℕ) (plan : Plan) → IsTextOf text plan → IsPlan plan }
+{
+    declared_is_sound();
+    own_is_sound();
+    one_change();
+    stays_chain();
+    change_is_changed();
+}
+
+/// A text says one plan at most, has one first fault at most, and never both.
+pub fn one_scenario()
+    ensures one_plan { (text : List ℕ) (plan other : Plan) → IsTextOf text plan → IsTextOf text other → plan ≡ other }
+    ensures one_fault { (text : List ℕ) (a b : Entry) (q r : ScenarioReason) → HasFault text a q → HasFault text b r
+        → (a ≡ b) × (q ≡ r) }
+    ensures never_both { (text : List ℕ) (plan : Plan) (at : Entry) (reason : ScenarioReason) → IsTextOf text plan
+        → HasFault text at reason → ⊥ }
+{
+    a_said_plan_is_sound();
+    one_table();
+    one_declaration();
+    one_judgement();
+    stays_chain();
+    one_fault();
+    not_both();
+}
