@@ -1,3 +1,7 @@
+pub mod Above
+pub mod Joining
+pub mod Operating
+pub mod Owning
 pub mod Stepping
 pub mod Walking
 pub mod Whole

@@ -1,19 +1,21 @@
-//! The parts of a whole scenario, as they are read: the text as TOML and the keys of the whole, the lines of operators
-//! and the steps that they tell, on a chain and as a plan has them, and the chain with which a connection begins.
+//! Whole scenarios: the plan that a TOML text says, or its first fault.
 //!
-//! Of what stands against an operator's lines the first reason counts. Steps are taken one after another, as the chain
-//! of an engine takes them, up to the first one that is refused. The crate stands on `scenario`, whose definitions its
-//! contracts cite, on `scenario_lines` for single lines, and on the chains of `scenario_entries`.
+//! [`read_scenario`] reads the keys of the whole, then tenants, policies, applications, links and operators, each list
+//! from its first entry on. It gives the plan where nothing stands against any entry, and else the first entry at fault
+//! with its first reason. A plan is a sound one, `run_plan`'s `IsPlan`: the law of that is that of `scenario_laws`. The crate stands on
+//! `scenario`, whose definitions its contract cites, and on the readers of single lists in `scenario_entries` and
+//! `scenario_policies`.
 #![tactic(auto)]
 
+mod above;
+mod application;
 mod attaching;
 mod names;
+mod operator;
+mod own;
+mod reader;
 mod steps;
 mod top;
 mod walk;
 
-pub use attaching::attach_all;
-pub use names::{inbound_in, names_in, places_in};
-pub use steps::{Steps, add_names, count_in, read_steps};
-pub use top::{document_in, ends_of, read_top};
-pub use walk::{named_in, plan_steps, take_all};
+pub use reader::read_scenario;

@@ -1,0 +1,107 @@
+-- What is read below the declarations, list by list, and the first fault there.
+use Rattle.std.proofs.Common.{◌≡◌, ℕ, List, subst, refl}
+use Rattle.mrpc_table.specs.Valid.{AreDistinct}
+use Rattle.mrpc_table.specs.declared.table.Table.{Table}
+use Rattle.policy_blocks.specs.Declarations.{Declared, policy_names, policy_place}
+use Rattle.policy_blocks.specs.declared.item.NamedPolicy.{NamedPolicy}
+use Rattle.run_plan.specs.declared.application.Application.{Application}
+use Rattle.run_plan.specs.declared.operator.Operator.{Operator}
+use Rattle.run_plan.specs.declared.plan.Pair.{Pair}
+use Rattle.toml.specs.Data.{Members}
+use Rattle.scenario.specs.Applications.{AppAgainst, HasTable, LinkAgainst, app_tables, conn_of, conns_of, link_tables, operator_tables, policy_tables, tenant_tables}
+use Rattle.scenario.specs.Applications as apps
+use Rattle.scenario.specs.Operators.{OperatorAgainst}
+use Rattle.scenario.specs.Policies.{PolicyAgainst, PolicySays, TenantAgainst, name_of, names_of}
+use Rattle.scenario.specs.Policies as policies
+use Rattle.scenario.specs.Scenarios.{AreDeclared, LinkSays, OperatorSays, place_of, schema_of}
+use Rattle.scenario.specs.declared.fault.Entry.TheVariants as entry
+use Rattle.scenario.specs.declared.fault.ScenarioFault.{ScenarioFault}
+use Rattle.scenario.specs.declared.fault.ScenarioReason.TheVariants.{Known}
+use Rattle.scenario_lines.specs.Programs.{Each}
+use Rattle.scenario_entries.specs.Entries.{AreFree, IsFaultIn}
+use Rattle.scenario_entries.specs.Ports.{IsPortOf}
+use Rattle.scenario_entries.specs.declared.link.Port.{Port}
+use Rattle.scenario_reader.specs.Joining.{IsApp}
+use Rattle.scenario_reader.specs.Whole.{FreeBelow, IsFirstOf, SaysBelow}
+use Rattle.scenario_reader.proofs.Assembling.{apps_say}
+use Rattle.scenario_reader.proofs.Distinct.{distinct_of}
+use Rattle.scenario_reader.proofs.Whole.{apps_fault, apps_free, links_fault, links_free, operators_fault, operators_free, policys_fault, tenants_fault}
+
+-- what entries declare against which nothing stands has distinct names
+pub names_distinct : (T : Table) (tenants entries : List Members) → AreFree (PolicyAgainst T tenants) entries → AreDistinct (names_of entries)
+names_distinct T tenants entries free =
+    distinct_of name_of (PolicyAgainst T tenants) (λ before ms h. (Known, policies.is_known h refl)) entries free
+
+pub conns_distinct : (all : Members) (declared : List NamedPolicy) (entries : List Members) → AreFree (AppAgainst all declared) entries
+    → AreDistinct (conns_of entries)
+conns_distinct all declared entries free =
+    distinct_of conn_of (AppAgainst all declared) (λ before ms h. (Known, apps.is_known h refl)) entries free
+
+pub tenant_fault : (all : Members) → FreeBelow all 1 → (entries : List Members) → entries ≡ tenant_tables all → (f : ScenarioFault)
+    → IsFaultIn (λ n. entry.Tenant n) TenantAgainst entries f → IsFirstOf all f
+tenant_fault all below entries is f h =
+    tenants_fault all below f (subst (λ (es : List Members). IsFaultIn (λ n. entry.Tenant n) TenantAgainst es f) is h)
+
+-- the laws of tables and of declarations that a reader calls
+abbrev pub OneTable : Type 0
+OneTable = (text : List ℕ) (T U : Table) → HasTable text T → HasTable text U → T ≡ U
+
+abbrev pub OneDeclaration : Type 0
+OneDeclaration = (T : Table) (tenants entries : List Members) (declared others : List NamedPolicy)
+    → Each (PolicySays T tenants) entries declared → Each (PolicySays T tenants) entries others → declared ≡ others
+
+pub policy_fault : OneTable → (all : Members) (T : Table) → HasTable (schema_of all) T → FreeBelow all 2 → (entries : List Members)
+    → entries ≡ policy_tables all → (f : ScenarioFault)
+    → IsFaultIn (λ n. entry.Policy n) (PolicyAgainst T (tenant_tables all)) entries f → IsFirstOf all f
+policy_fault one_table all T has below entries is f h =
+    policys_fault all T has (λ U other. one_table (schema_of all) U T other has) below f
+    (subst (λ (es : List Members). IsFaultIn (λ n. entry.Policy n) (PolicyAgainst T (tenant_tables all)) es f) is h)
+
+module _ (one_table : OneTable) (one_declaration : OneDeclaration) (all : Members) (T : Table) (d : Declared)
+    (has : HasTable (schema_of all) T) (says : Each (PolicySays T (tenant_tables all)) (policy_tables all) d.policies) where
+  are : AreDeclared all d.policies
+  are = record { table = T; of_schema = has; policies = says }
+
+  one : (others : List NamedPolicy) → AreDeclared all others → others ≡ d.policies
+  one others h =
+      let same = one_table (schema_of all) h.table T h.of_schema has in
+      let here = subst (λ (U : Table). Each (PolicySays U (tenant_tables all)) (policy_tables all) others) same h.policies in
+      one_declaration T (tenant_tables all) (policy_tables all) others d.policies here says
+
+  module _ (below : FreeBelow all 3) where
+    pub app_fault : (entries : List Members) → entries ≡ app_tables all → (f : ScenarioFault)
+        → IsFaultIn (λ n. entry.App n) (AppAgainst all d.policies) entries f → IsFirstOf all f
+    app_fault entries is f h =
+        apps_fault all d.policies are one below f (subst (λ (es : List Members). IsFaultIn (λ n. entry.App n) (AppAgainst all d.policies) es f) is h)
+
+    module _ (of_apps : AreFree (AppAgainst all d.policies) (app_tables all)) where
+      below_links : FreeBelow all 4
+      below_links = apps_free all d.policies are one below of_apps
+
+      pub link_fault : (entries : List Members) → entries ≡ link_tables all → (f : ScenarioFault)
+          → IsFaultIn (λ n. entry.Link n) (LinkAgainst all) entries f → IsFirstOf all f
+      link_fault entries is f h =
+          links_fault all below_links f (subst (λ (es : List Members). IsFaultIn (λ n. entry.Link n) (LinkAgainst all) es f) is h)
+
+      module _ (of_links : AreFree (LinkAgainst all) (link_tables all)) where
+        below_operators : FreeBelow all 5
+        below_operators = links_free all below_links of_links
+
+        pub operator_fault : (entries : List Members) → entries ≡ operator_tables all → (f : ScenarioFault)
+            → IsFaultIn (λ n. entry.Operator n) (OperatorAgainst all d.policies) entries f → IsFirstOf all f
+        operator_fault entries is f h =
+            operators_fault all d.policies are one below_operators f
+            (subst (λ (es : List Members). IsFaultIn (λ n. entry.Operator n) (OperatorAgainst all d.policies) es f) is h)
+
+        module _ (of_operators : AreFree (OperatorAgainst all d.policies) (operator_tables all))
+            (same : policy_names d ≡ names_of (policy_tables all)) (places : (name : List ℕ) → policy_place d name ≡ place_of all name) where
+          pub says_below : (ports : List Port) (applications : List Application) (links : List Pair) (operators : List Operator)
+              → Each IsPortOf (app_tables all) ports → Each (IsApp all d) (app_tables all) applications
+              → Each LinkSays (link_tables all) links → Each (OperatorSays all) (operator_tables all) operators
+              → SaysBelow all (record { applications = applications; links = links; operators = operators })
+          says_below ports applications links operators of_ports are_apps are_links are_operators = record {
+            free = operators_free all d.policies are one below_operators of_operators;
+            applications = apps_say all d same places of_apps of_operators ports applications of_ports are_apps;
+            links = are_links;
+            operators = are_operators;
+          }

@@ -1,0 +1,22 @@
+-- The entries so far are operators, against which nothing stands.
+use Rattle.std.proofs.Common.{◌≡◌, take}
+use Rattle.mrpc_table.specs.Valid.{AreDistinct}
+use Rattle.mrpc_table.specs.declared.table.Table.{Table}
+use Rattle.toml.specs.Data.{Members}
+use Rattle.scenario.specs.Applications.{app_tables, conns_of}
+use Rattle.scenario.specs.Operators.{OperatorAgainst}
+use Rattle.scenario.specs.Scenarios.{OperatorSays}
+use Rattle.scenario_lines.specs.Programs.{Each}
+use Rattle.scenario_entries.specs.Entries.{AreFree, views}
+use Rattle.scenario_reader.specs.Above.{IsAbove}
+use Rattle.scenario_reader.specs.Joining.{AreJoined}
+use Rattle.scenario_reader.proofs.operator.read_operators.Given as goal
+
+abbrev pub invariant-loop-entry : goal.invariant-loop-entry
+invariant-loop-entry l = record {
+  numbered : l.number ≡ l.entry-index;
+  read : (all : Members) (T : Table) → IsAbove all T l.above → AreJoined all l.above.declared.now (app_tables all) l.apps
+      → AreDistinct (conns_of (app_tables all))
+      → AreFree (OperatorAgainst all l.above.declared.now.policies) (views (take l.entry-index l.entries))
+      × Each (OperatorSays all) (views (take l.entry-index l.entries)) l.operators;
+}

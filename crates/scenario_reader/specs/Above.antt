@@ -1,0 +1,30 @@
+-- The code's own: what stands above the applications of a scenario, and how a part of an entry is read.
+use Rattle.std.specs.Prelude.{◌≡◌, Result, Ok, Err}
+use Rattle.mrpc_table.specs.Valid.{AreDistinct}
+use Rattle.mrpc_table.specs.declared.table.Table.{Table}
+use Rattle.toml.specs.Data.{Members}
+use Rattle.scenario.specs.Applications.{HasTable, all_ends, link_tables, operator_tables, policy_tables, tenant_tables}
+use Rattle.scenario.specs.Keys.{loads}
+use Rattle.scenario.specs.Policies.{PolicyAgainst, PolicySays, names_of}
+use Rattle.scenario.specs.Reasons.{IsFirstReason}
+use Rattle.scenario.specs.Scenarios.{schema_of}
+use Rattle.scenario.specs.declared.fault.ScenarioReason.{ScenarioReason}
+use Rattle.scenario_lines.specs.Programs.{Each}
+use Rattle.scenario_values.specs.Values.{number_in}
+use Rattle.scenario_entries.specs.Entries.{AreFree, views}
+use Rattle.scenario_reader.specs.declared.above.Above.{Above}
+
+pub record IsAbove (all : Members) (T : Table) (above : Above) : Type 0 where
+  pub table : HasTable (schema_of all) T
+  pub free : AreFree (PolicyAgainst T (tenant_tables all)) (policy_tables all)
+  pub policies : Each (PolicySays T (tenant_tables all)) (policy_tables all) above.declared.now.policies
+  pub distinct : AreDistinct (names_of (policy_tables all))
+  pub entries : views above.policies.now ≡ policy_tables all
+  pub operators : views above.operators.now ≡ operator_tables all
+  pub ends : above.ends.now ≡ all_ends (link_tables all)
+  pub loads : above.loads ≡ number_in loads all
+
+-- nothing stands against a part, and it says this; or this is the first reason against it
+abbrev pub IsPart : {X : Type 0} → (ScenarioReason → Type 0) → (X → Type 0) → Result X ScenarioReason → Type 0
+IsPart Fails Says (Ok x) = ((q : ScenarioReason) → Fails q → ⊥) × Says x
+IsPart Fails Says (Err q) = IsFirstReason Fails q

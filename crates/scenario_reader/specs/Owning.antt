@@ -1,0 +1,57 @@
+-- The code's own: the schemas of applications, and the policies that are read under them.
+use Rattle.std.specs.Prelude.{◌≡◌, ◌⊎◌, ◌↔◌, ℕ, List, codes, Contains, Option, Some, None, IfSome, Result}
+use Rattle.mrpc_table.specs.Valid.{IsValid}
+use Rattle.mrpc_table.specs.declared.table.Table.{Table}
+use Rattle.run_plan.specs.declared.application.Application.{Application}
+use Rattle.run_plan.specs.declared.application.OwnSchema.{OwnSchema}
+use Rattle.toml.specs.Data.{Members}
+use Rattle.scenario.specs.Applications.{HasTable, conn_of, names_in, operator_tables}
+use Rattle.scenario.specs.Operators.{NamesPolicy, steps_of}
+use Rattle.scenario.specs.Scenarios.{OwnSchemaSays}
+use Rattle.scenario.specs.declared.fault.ScenarioReason.{ScenarioReason}
+use Rattle.scenario.specs.declared.fault.ScenarioReason.TheVariants.{Schema}
+use Rattle.scenario_values.specs.Values.{text_at}
+use Rattle.scenario_policies.specs.Owning.{NamedFails}
+use Rattle.scenario_reader.specs.Above.{IsPart}
+
+-- the names are those of the policies that the steps name
+abbrev pub AreStepNames : Members → List (List ℕ) → Type 0
+AreStepNames ms names = (name : List ℕ) → Contains names name ↔ NamesPolicy (steps_of ms) name
+
+-- an application, or a step of one of these operators on its connection, names a policy
+abbrev pub IsUsedIn : List Members → Members → List ℕ → Type 0
+IsUsedIn operators ms name =
+    Contains (names_in ms) name
+    ⊎ ((operator : Members) × Contains operators operator × (conn_of operator ≡ conn_of ms) × NamesPolicy (steps_of operator) name)
+
+-- the application's own schema has no table
+pub record HasNoTable (ms : Members) (q : ScenarioReason) : Type 0 where
+  pub text : List ℕ
+  pub there : text_at (codes "schema") ms ≡ Some text
+  pub none : (T : Table) → HasTable text T → ⊥
+  pub is : q ≡ Schema
+
+abbrev pub OwnFails : Members → Members → ScenarioReason → Type 0
+OwnFails all ms q = HasNoTable ms q ⊎ NamedFails all ms (Contains (names_in ms)) q
+
+-- the own schema, whose policies are those that are used, where none of them fails under it
+pub record IsOwn (all ms : Members) (own : OwnSchema) : Type 0 where
+  pub text : List ℕ
+  pub there : text_at (codes "schema") ms ≡ Some text
+  pub table : HasTable text own.table
+  pub valid : IsValid own.table
+  pub says : ((q : ScenarioReason) → NamedFails all ms (IsUsedIn (operator_tables all) ms) q → ⊥) → OwnSchemaSays all ms text own
+
+abbrev pub IsOwnOf : Members → Members → Option OwnSchema → Type 0
+IsOwnOf all ms None = text_at (codes "schema") ms ≡ None
+IsOwnOf all ms (Some own) = IsOwn all ms own
+
+abbrev pub IsOwnRead : Members → Members → Result (Option OwnSchema) ScenarioReason → Type 0
+IsOwnRead all ms = IsPart (OwnFails all ms) (IsOwnOf all ms)
+
+-- the own schema of an application has a valid table
+abbrev pub IsValidOwn : Option OwnSchema → Type 0
+IsValidOwn own = IfSome own (λ o. IsValid o.table)
+
+abbrev pub HasValidOwn : Application → Type 0
+HasValidOwn app = IsValidOwn app.own

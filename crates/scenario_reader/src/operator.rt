@@ -1,0 +1,257 @@
+//! Operators.
+
+ghost use Rattle.std.specs.Prelude.{◌≡◌, ◌==◌, List, All, IfOk, MatchResult, false, true, is_none, length, map, position};
+ghost use Rattle.std.specs.List.{list_any};
+ghost use Rattle.mrpc_table.specs.Valid.{AreDistinct};
+ghost use Rattle.mrpc_table.specs.declared.table.Table.{Table as TheTable};
+ghost use Rattle.policy_blocks.specs.Declarations.{policy_names, policy_place};
+ghost use Rattle.toml.specs.Data.{Members};
+ghost use Rattle.toml.specs.View.{table_view};
+ghost use Rattle.scenario.specs.Applications.{app_tables, conn_of, conns_of, policy_tables};
+ghost use Rattle.scenario.specs.Keys as keys;
+ghost use Rattle.scenario.specs.Keys.{operator_keys};
+ghost use Rattle.scenario.specs.Operators.{OperatorAgainst, steps_of};
+ghost use Rattle.scenario.specs.Policies.{names_of};
+ghost use Rattle.scenario.specs.Reasons.{IsSoFar};
+ghost use Rattle.scenario.specs.Scenarios.{OperatorSays};
+ghost use Rattle.scenario.specs.declared.fault.Entry.TheVariants as place;
+ghost use Rattle.scenario_lines.specs.Programs.{Each};
+ghost use Rattle.scenario_values.specs.Values.{has_keys, is_out};
+ghost use Rattle.scenario_entries.specs.Entries.{AreFree, IsEntryRead, IsFaultIn, views};
+ghost use Rattle.scenario_reader.specs.Above.{IsAbove};
+ghost use Rattle.scenario_reader.specs.Joining.{AreJoined, IsApp};
+ghost use Rattle.scenario_reader.specs.Operating.{HeadFails, IsOperatorOf, OwnFails, is_operated};
+ghost use Rattle.scenario_reader.specs.Owning.{AreStepNames, HasValidOwn};
+ghost use Rattle.scenario_reader.specs.Stepping.{HasTold};
+
+use crate::above::{Above, Apps};
+use crate::application::earliest;
+use crate::own::step_names;
+use crate::steps::{Steps, read_steps};
+use crate::walk::{plan_steps, take_all};
+use engine_core::{one_change, stays_chain};
+use mrpc_table::{Memory, Sequence};
+use policy_blocks::Declarations;
+use run_plan::{Application, MAX_STEPS, Operator};
+use scenario::keys::{conn, has_operator_keys};
+use scenario::{Entry, ScenarioFault, ScenarioReason, earlier, reason_if};
+use scenario_entries::Chain;
+use scenario_lines::StepText;
+use scenario_policies::{read_own_policies, same_names};
+use scenario_values::texts_at;
+use script_words::one_judgement;
+use std::alloc::Global;
+use toml::Table;
+
+/// Whether one of the names is that of no policy.
+fn lacks_policy(declared: &Declarations, names: &[&[u8]]) -> bool
+    ensures { result ≡ list_any (λ n. is_none (policy_place declared.now n.now)) names.now }
+{
+    names.iter().any(|name| declared.policy(name).is_none())
+}
+
+/// Whether one of the operators is on the connection.
+fn has_operator(before: &[Operator], conn: u64) -> bool
+    ensures { result ≡ is_operated before.now conn }
+{
+    before
+        .iter()
+        .any(|operator| u64::from(operator.conn) == conn)
+}
+
+/// The first reason against the lines of an operator, its connection behind others, and the policies that it names,
+/// apart from schemas.
+fn head_reason(
+    declared: &Declarations,
+    before: &[Operator],
+    conn: u64,
+    lines: u64,
+    steps: &Steps<'_>,
+    names: &[&[u8]],
+) -> Option<ScenarioReason>
+    ensures { (all ms : Members) (tables : List Members) → policy_names declared.now ≡ names_of (policy_tables all)
+        → Each (OperatorSays all) tables before.now → conn ≡ conn_of ms → lines ≡ length (steps_of ms)
+        → HasTold (steps_of ms) steps.now.told.items steps.now.most steps.now.first
+        → AreStepNames ms (map (λ n. n.now) names.now) → IsSoFar (HeadFails all tables ms) result }
+{
+    let counted = earlier(
+        steps.first,
+        reason_if(lines > MAX_STEPS, ScenarioReason::Number),
+    );
+    let known = earlier(
+        counted,
+        reason_if(has_operator(before, conn), ScenarioReason::Known),
+    );
+    earlier(
+        known,
+        reason_if(lacks_policy(declared, names), ScenarioReason::Unknown),
+    )
+}
+
+/// Where the application on a connection stands.
+fn place_on(applications: &[Application], conn: u64) -> Option<usize>
+    ensures { result ≡ position (λ app. app.conn == conn) applications.now }
+{
+    applications
+        .iter()
+        .position(|app| u64::from(app.conn) == conn)
+}
+
+/// The first reason against the policies that are named, under the schema of an application; none where it has no schema.
+fn own_reason(
+    alloc: Global,
+    above: Above<'_, '_, '_>,
+    app: &Application,
+    names: &[&[u8]],
+) -> Result<Option<ScenarioReason>, Memory>
+    requires long { length above.policies.now ≡ length above.declared.now.policies }
+    requires valid { HasValidOwn app.now }
+    ensures { (all ams ms : Members) (T : TheTable) → IsAbove all T above.entry → IsApp all above.entry.declared.now ams app.now
+        → AreStepNames ms (map (λ n. n.now) names.now) → IfOk result (IsSoFar (OwnFails all ams ms)) }
+{
+    match &app.own {
+        None => Ok(None),
+        Some(own) => {
+            let read = read_own_policies(alloc, &own.table, above.declared, above.policies, names)?;
+            Ok(read.err())
+        }
+    }
+}
+
+/// The operator whose steps are these, on a chain, or why the first of them that is refused is.
+fn take_steps<'a>(
+    alloc: Global,
+    declared: &'a Declarations,
+    chain: &Chain<'a>,
+    conn: u32,
+    told: &[StepText<'a>],
+) -> Result<Result<Operator, ScenarioReason>, Memory>
+    ensures { IfOk result (IsOperatorOf declared.now chain.now.entries.items conn told.now) }
+{
+    let mut chain = chain.copied(alloc)?;
+    match take_all(&mut chain, declared, told)? {
+        Some(reason) => Ok(Err(reason)),
+        None => Ok(Ok(Operator {
+            conn,
+            steps: plan_steps(alloc, declared, told)?,
+        })),
+    }
+}
+
+/// The number of the connection of an operator, which is in its range.
+fn conn_in(entry: &Table) -> u32
+    requires { is_out (table_view entry.now) keys.conn ≡ false }
+    ensures { result ≡ conn_of (table_view entry.now) }
+{
+    conn().number(entry) as u32
+}
+
+/// The operator of an entry with its keys and its connection behind others, or the first reason against it.
+fn judge_operator<'a>(
+    alloc: Global,
+    above: Above<'a, '_, '_>,
+    apps: &Apps<'a>,
+    before: &[Operator],
+    entry: &'a Table,
+) -> Result<Result<Operator, ScenarioReason>, Memory>
+    requires range { is_out (table_view entry.now) keys.conn ≡ false }
+    requires long { length above.policies.now ≡ length above.declared.now.policies }
+    requires valid { All HasValidOwn apps.now.applications }
+    requires chained { length apps.now.chains.items ≡ length apps.now.applications }
+    ensures { (all : Members) (T : TheTable) (tables : List Members) → IsAbove all T above.entry
+        → AreJoined all above.entry.declared.now (app_tables all) apps.now → AreDistinct (conns_of (app_tables all))
+        → Each (OperatorSays all) tables before.now → has_keys operator_keys (table_view entry.now) ≡ true
+        → IfOk result (IsEntryRead (OperatorAgainst all above.entry.declared.now.policies tables (table_view entry.now))
+        (OperatorSays all (table_view entry.now))) }
+{
+    one_change();
+    stays_chain();
+    one_judgement();
+    same_names();
+    let number = conn_in(entry);
+    let lines = texts_at(alloc, entry, "steps")?;
+    let steps = read_steps(alloc, lines.as_slice())?;
+    let names = step_names(alloc, entry)?;
+    let head = head_reason(
+        above.declared,
+        before,
+        u64::from(number),
+        lines.len() as u64,
+        &steps,
+        names.as_slice(),
+    );
+    let applications = apps.applications.as_slice();
+    let Some(place) = place_on(applications, u64::from(number)) else {
+        return Ok(Err(earliest(head, ScenarioReason::Unknown)));
+    };
+    let own = own_reason(alloc, above, &applications[place], names.as_slice())?;
+    if let Some(reason) = earlier(head, own) {
+        return Ok(Err(reason));
+    }
+    take_steps(
+        alloc,
+        above.declared,
+        &apps.chains[place],
+        number,
+        steps.told.as_slice(),
+    )
+}
+
+/// The operator of an entry behind others, or the first reason against it.
+fn read_operator<'a>(
+    alloc: Global,
+    above: Above<'a, '_, '_>,
+    apps: &Apps<'a>,
+    before: &[Operator],
+    entry: &'a Table,
+) -> Result<Result<Operator, ScenarioReason>, Memory>
+    requires long { length above.policies.now ≡ length above.declared.now.policies }
+    requires valid { All HasValidOwn apps.now.applications }
+    requires chained { length apps.now.chains.items ≡ length apps.now.applications }
+    ensures { (all : Members) (T : TheTable) (tables : List Members) → IsAbove all T above.entry
+        → AreJoined all above.entry.declared.now (app_tables all) apps.now → AreDistinct (conns_of (app_tables all))
+        → Each (OperatorSays all) tables before.now
+        → IfOk result (IsEntryRead (OperatorAgainst all above.entry.declared.now.policies tables (table_view entry.now))
+        (OperatorSays all (table_view entry.now))) }
+{
+    if !has_operator_keys(entry) {
+        return Ok(Err(ScenarioReason::Key));
+    }
+    if conn().is_out(entry) {
+        return Ok(Err(ScenarioReason::Number));
+    }
+    judge_operator(alloc, above, apps, before, entry)
+}
+
+/// The operators of these entries.
+pub(crate) fn read_operators<'a>(
+    alloc: Global,
+    above: Above<'a, '_, '_>,
+    apps: &Apps<'a>,
+    entries: &[&'a Table],
+) -> Result<Sequence<Operator>, ScenarioFault>
+    requires long { length above.policies.now ≡ length above.declared.now.policies }
+    requires valid { All HasValidOwn apps.now.applications }
+    requires chained { length apps.now.chains.items ≡ length apps.now.applications }
+    ensures { (all : Members) (T : TheTable) → IsAbove all T above.entry
+        → AreJoined all above.entry.declared.now (app_tables all) apps.now → AreDistinct (conns_of (app_tables all))
+        → MatchResult result (λ operators. AreFree (OperatorAgainst all above.entry.declared.now.policies) (views entries.now)
+        × Each (OperatorSays all) (views entries.now) operators)
+        (IsFaultIn place.Operator (OperatorAgainst all above.entry.declared.now.policies) (views entries.now)) }
+{
+    let mut operators = Sequence::new(alloc);
+    let mut number = 0;
+    for entry in entries {
+        number += 1;
+        match read_operator(alloc, above, apps, operators.as_slice(), entry)? {
+            Ok(operator) => operators.push(operator)?,
+            Err(reason) => {
+                return Err(ScenarioFault::At {
+                    entry: Entry::Operator(number),
+                    reason,
+                });
+            }
+        }
+    }
+    Ok(operators)
+}

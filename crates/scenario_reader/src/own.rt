@@ -1,0 +1,96 @@
+//! The schemas of applications, and the policies that are read under them.
+
+ghost use Rattle.std.specs.Prelude.{◌≡◌, ◌↔◌, ℕ, List, Contains, IfOk, length, map};
+ghost use Rattle.mrpc_table.specs.declared.table.Table.{Table as TheTable};
+ghost use Rattle.toml.specs.Data.{Members};
+ghost use Rattle.toml.specs.View.{table_view};
+ghost use Rattle.scenario_entries.specs.Entries.{views};
+ghost use Rattle.scenario_reader.specs.Above.{IsAbove};
+ghost use Rattle.scenario_reader.specs.Owning.{AreStepNames, IsOwnRead, IsUsedIn, IsValidOwn};
+
+use crate::above::Above;
+use crate::names::names_in;
+use crate::steps::{add_names, read_steps};
+use mrpc_table::Memory;
+use run_plan::OwnSchema;
+use scenario::keys::conn;
+use scenario::{ScenarioReason, table_in};
+use scenario_policies::read_own_policies;
+use scenario_values::{text_at, texts_at};
+use script_words::one_judgement;
+use std::alloc::Global;
+use toml::Table;
+
+/// The policies that the steps of an operator name.
+pub(crate) fn step_names<'a>(alloc: Global, entry: &'a Table) -> Result<Vec<&'a [u8]>, Memory>
+    ensures { IfOk result (λ names. AreStepNames (table_view entry.now) (map (λ n. n.now) names.items)) }
+{
+    one_judgement();
+    let lines = texts_at(alloc, entry, "steps")?;
+    let steps = read_steps(alloc, lines.as_slice())?;
+    let mut names = Vec::new(alloc);
+    add_names(&mut names, steps.told.as_slice())?;
+    Ok(names)
+}
+
+/// The policies that an application names, and those that the steps on its connection name.
+fn used_names<'a>(
+    alloc: Global,
+    entry: &'a Table,
+    operators: &[&'a Table],
+) -> Result<Vec<&'a [u8]>, Memory>
+    ensures { IfOk result (λ names. (name : List ℕ) → Contains (map (λ n. n.now) names.items) name
+        ↔ IsUsedIn (views operators.now) (table_view entry.now) name) }
+{
+    let mut names = names_in(alloc, entry)?;
+    let number = conn().number(entry);
+    for operator in operators {
+        if conn().number(operator) == number {
+            let more = step_names(alloc, operator)?;
+            names.extend_from_slice(more.as_slice())?;
+        }
+    }
+    Ok(names)
+}
+
+/// Its own schema with the policies that are used, or the first reason against it and the policies that the application
+/// names; none where it has no schema. Policies that steps alone name are no matter of the application: where one of
+/// them fails, its operator is at fault.
+pub(crate) fn own_in(
+    alloc: Global,
+    above: Above<'_, '_, '_>,
+    entry: &Table,
+) -> Result<Result<Option<OwnSchema>, ScenarioReason>, Memory>
+    requires { length above.policies.now ≡ length above.declared.now.policies }
+    ensures read { (all : Members) (T : TheTable) → IsAbove all T above.entry → IfOk result (IsOwnRead all (table_view entry.now)) }
+    ensures valid { IfOk result (λ r. IfOk r IsValidOwn) }
+{
+    let Some(text) = text_at(entry, "schema") else {
+        return Ok(Ok(None));
+    };
+    let Some(table) = table_in(alloc, text.as_bytes())? else {
+        return Ok(Err(ScenarioReason::Schema));
+    };
+    let names = names_in(alloc, entry)?;
+    let first = read_own_policies(
+        alloc,
+        &table,
+        above.declared,
+        above.policies,
+        names.as_slice(),
+    )?;
+    let named = match first {
+        Ok(named) => named,
+        Err(reason) => return Ok(Err(reason)),
+    };
+    let used = used_names(alloc, entry, above.operators)?;
+    let read = read_own_policies(
+        alloc,
+        &table,
+        above.declared,
+        above.policies,
+        used.as_slice(),
+    )?;
+    let policies = read.unwrap_or(named);
+    Ok(Ok(Some(OwnSchema { table, policies })))
+}

@@ -1,0 +1,123 @@
+//! A scenario as a plan.
+
+ghost use Rattle.std.specs.Prelude.{◌≡◌, ◌≤◌, IfOk, MatchResult, length, true};
+ghost use Rattle.std.specs.List.{list_all};
+ghost use Rattle.mrpc_table.specs.Valid.{IsValid};
+ghost use Rattle.mrpc_table.specs.declared.table.Table.{Table as TheTable};
+ghost use Rattle.run_plan.specs.Plans.{IsPlan};
+ghost use Rattle.toml.specs.View.{table_view};
+ghost use Rattle.scenario.specs.Applications.{HasTable, policy_tables, tenant_tables};
+ghost use Rattle.scenario.specs.Keys.{top_ranges};
+ghost use Rattle.scenario.specs.Policies.{PolicyAgainst, PolicySays};
+ghost use Rattle.scenario.specs.Scenarios.{IsFaultOf, IsTextOf, Says, schema_of};
+ghost use Rattle.scenario_lines.specs.Programs.{Each};
+ghost use Rattle.scenario_values.specs.Values.{is_within_at};
+ghost use Rattle.scenario_entries.specs.Entries.{AreFree, views};
+ghost use Rattle.scenario_reader.specs.Whole.{FreeBelow, IsFirstOf, SaysBelow};
+
+use crate::above::Above;
+use crate::application::read_apps;
+use crate::operator::read_operators;
+use crate::top::{document_in, ends_of, read_top};
+use mrpc_table::{Name, Sequence, Table as Schema};
+use policy_blocks::Declarations;
+use run_plan::{Application, Operator, Pair, Plan};
+use scenario::ScenarioFault;
+use scenario::keys::{loads, workers};
+use scenario_entries::read_links;
+use scenario_laws::a_said_plan_is_sound;
+use scenario_policies::{one_declaration, one_table, read_policies, read_tenants, same_names};
+use scenario_values::{flag_at, tables_at, word_at};
+use std::alloc::Global;
+use toml::Table;
+
+/// What is read below the declarations.
+#[derive(Drop)]
+struct Below {
+    applications: Sequence<Application>,
+    links: Sequence<Pair>,
+    operators: Sequence<Operator>,
+}
+
+/// The applications, the links and the operators.
+fn read_below<'x>(
+    alloc: Global,
+    all: &'x Table,
+    declared: &'x Declarations,
+    policies: &'x [&'x Table],
+) -> Result<Below, ScenarioFault>
+    requires ranges { list_all (is_within_at (table_view all.now)) top_ranges ≡ true }
+    requires long { length policies.now ≡ length declared.now.policies }
+    ensures { (T : TheTable) → let ms = table_view all.now in FreeBelow ms 3 → HasTable (schema_of ms) T
+        → AreFree (PolicyAgainst T (tenant_tables ms)) (policy_tables ms)
+        → Each (PolicySays T (tenant_tables ms)) (policy_tables ms) declared.now.policies
+        → views policies.now ≡ policy_tables ms → MatchResult result (SaysBelow ms) (IsFirstOf ms) }
+{
+    one_table();
+    one_declaration();
+    same_names();
+    let link_entries = tables_at(alloc, all, "link")?;
+    let operator_entries = tables_at(alloc, all, "operator")?;
+    let ends = ends_of(alloc, link_entries.as_slice())?;
+    let above = Above {
+        declared,
+        policies,
+        operators: operator_entries.as_slice(),
+        ends: ends.as_slice(),
+        loads: loads().number(all),
+    };
+    let app_entries = tables_at(alloc, all, "app")?;
+    let apps = read_apps(alloc, above, app_entries.as_slice())?;
+    let links = read_links(alloc, apps.ports.as_slice(), link_entries.as_slice())?;
+    let operators = read_operators(alloc, above, &apps, operator_entries.as_slice())?;
+    Ok(Below {
+        applications: apps.applications,
+        links,
+        operators,
+    })
+}
+
+/// The plan of a whole without a fault in its own keys.
+fn read_whole(alloc: Global, all: &Table, table: Schema) -> Result<Plan, ScenarioFault>
+    requires valid { IsValid table }
+    requires ranges { list_all (is_within_at (table_view all.now)) top_ranges ≡ true }
+    requires schema { HasTable (schema_of (table_view all.now)) table }
+    requires free { FreeBelow (table_view all.now) 1 }
+    ensures { MatchResult result (Says (table_view all.now)) (IsFirstOf (table_view all.now)) }
+{
+    one_table();
+    let tenant_entries = tables_at(alloc, all, "tenant")?;
+    let tenants = read_tenants(alloc, tenant_entries.as_slice())?;
+    let policy_entries = tables_at(alloc, all, "policy")?;
+    let declared = read_policies(alloc, &table, tenants, policy_entries.as_slice())?;
+    let below = read_below(alloc, all, &declared, policy_entries.as_slice())?;
+    Ok(Plan {
+        service: Name::from_slice(alloc, word_at(all, "service"))?,
+        loads: loads().number(all),
+        workers: workers().number(all),
+        weighted: flag_at(all, "weighted"),
+        table,
+        declared,
+        applications: below.applications,
+        links: below.links,
+        operators: below.operators,
+    })
+}
+
+/// The plan that a scenario says.
+///
+/// # Errors
+///
+/// [`ScenarioFault::At`] has the first entry at fault with its first reason; [`ScenarioFault::Memory`] comes where no
+/// memory was found.
+pub fn read_scenario(alloc: Global, text: &[u8]) -> Result<Plan, ScenarioFault>
+    // What is read is what the text says, or its first fault.
+    ensures read { MatchResult result (IsTextOf text.now) (IsFaultOf text.now) }
+    // A plan keeps what plans promise to those who run them.
+    ensures sound { IfOk result IsPlan }
+{
+    a_said_plan_is_sound();
+    let all = document_in(alloc, text)?;
+    let table = read_top(alloc, &all)?;
+    read_whole(alloc, &all, table)
+}
