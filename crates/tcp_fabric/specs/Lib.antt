@@ -1,0 +1,3 @@
+pub mod Fabric
+pub mod Link
+pub mod Sockets

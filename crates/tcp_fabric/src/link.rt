@@ -1,0 +1,298 @@
+//! One end of a connection, as a link.
+ghost use Rattle.std.specs.Prelude.{◌≡◌, ◌≢◌, ◌<◌, ◌≤◌, ◌⊎◌, [], ◌∷◌, ◌++◌, IsTrue, length, take, false};
+ghost use Rattle.std.specs.Io.KnownBytes.{append_known};
+ghost use Rattle.mrpc_base.specs.Faults.{HasCause, raised};
+ghost use Rattle.mrpc_base.specs.Linking.{OnCame, OnNoneCame, TellsNone};
+ghost use Rattle.tcp_fabric.specs.Link.{SendsInOrder, GivesInOrder, Receives};
+
+use crate::Socket;
+use crate::pieces::Pieces;
+use crate::wire::{Incoming, Trouble, Wire};
+use mrpc_base::{Came, Handed, Link};
+use std::alloc::Global;
+use std::marker::Model;
+use std::sync::Wait;
+use std::time::Clock;
+
+/// How the sending side of a link does.
+#[derive(Clone, Copy, PartialEq, Eq)]
+pub enum Outgoing {
+    /// It can send.
+    Open,
+    /// It was ended.
+    Finished,
+    /// The socket failed, or a frame went out in part, and the sending side was ended behind that part.
+    Cut,
+}
+
+/// One end of a connection. Contracts see it as a `LinkEnd`.
+///
+/// A frame that doesn't fit into the socket waits for room, and what comes meanwhile is read ahead. Once a part of a
+/// frame went out and the rest couldn't, the sending side is ended, so that the peer finds a stream that is cut, and
+/// never another frame in place of the rest.
+#[derive(Drop)]
+pub struct SocketLink<'r, R, S: Socket + Drop> {
+    rt: &'r R,
+    wire: Wire<S>,
+    handed: Pieces,
+    given: Pieces,
+    outgoing: Outgoing,
+    ended: bool,
+    // Of sends and receives.
+    faults: u64,
+    local: u16,
+    peer: u16,
+}
+
+impl<'r, R, S: Socket + Drop> Model for SocketLink<'r, R, S> {
+    ghost use Rattle.std.specs.Prelude.{◌≡◌, ◌≢◌, ◌++◌, IfSome};
+    ghost use Rattle.std.specs.List.{concat};
+    ghost use mathlib.Core.List.{IsPrefix};
+    ghost use Rattle.tcp_fabric.specs.declared.link.Outgoing.TheVariants.{Cut};
+    ghost use Rattle.tcp_fabric.specs.Link.{LinkEnd};
+
+    ghost Value = { LinkEnd };
+
+    ghost view = { λ l. record {
+      sent = S.taken l.wire.socket;
+      came = S.given l.wire.socket;
+      handed = l.handed.pieces;
+      outgoing = l.outgoing;
+      given = concat l.given.pieces;
+      waiting = l.wire.ahead;
+      incoming = l.wire.incoming;
+      ended = l.ended;
+      faults = l.faults;
+      local = l.local;
+      peer = l.peer;
+    } };
+
+    ghost invariant = { λ l. IfSome (S.taken l.wire.socket) (λ bytes. IsPrefix (concat l.handed.pieces) bytes)
+        × (l.outgoing ≢ Cut → IfSome (S.taken l.wire.socket) (λ bytes. bytes ≡ concat l.handed.pieces))
+        × IfSome (S.given l.wire.socket) (λ bytes. bytes ≡ concat l.given.pieces ++ l.wire.ahead) };
+}
+
+impl<'r, R, S: Socket + Drop> SocketLink<'r, R, S> {
+    /// The end of a new connection from the port `local` to the port `peer`.
+    pub fn new(rt: &'r R, alloc: Global, socket: S, local: u16, peer: u16) -> SocketLink<'r, R, S>
+        requires sent { TellsNone (S.taken socket) }
+        requires came { TellsNone (S.given socket) }
+        ensures sent { result.sent ≡ S.taken socket }
+        ensures came { result.came ≡ S.given socket }
+        ensures handed { result.handed ≡ [] }
+        ensures outgoing { result.outgoing ≡ Outgoing.Open }
+        ensures given { result.given ≡ [] }
+        ensures waiting { result.waiting ≡ [] }
+        ensures incoming { result.incoming ≡ Incoming.Open }
+        ensures ended { result.ended ≡ false }
+        ensures faults { result.faults ≡ 0 }
+        ensures local { result.local ≡ local }
+        ensures peer { result.peer ≡ peer }
+    {
+        SocketLink {
+            rt,
+            wire: Wire::new(alloc, socket),
+            handed: Pieces::new(),
+            given: Pieces::new(),
+            outgoing: Outgoing::Open,
+            ended: false,
+            faults: 0,
+            local,
+            peer,
+        }
+    }
+
+    /// How many sends and receives failed; it stands still at 2^64 - 1.
+    pub fn faults(&self) -> u64
+        ensures { result ≡ self.now.faults }
+    {
+        self.faults
+    }
+
+    /// Its socket.
+    pub fn socket(&self) -> &S
+        ensures sent { S.taken result.now ≡ self.now.sent }
+        ensures came { S.given result.now ≡ self.now.came }
+    {
+        &self.wire.socket
+    }
+
+    /// A law, of each moment: what the socket took are the frames that were handed over, and what it gave was received
+    /// or waits, both in order and once.
+    pub fn is_in_order(&self)
+        ensures sends { SendsInOrder self.now }
+        ensures gives { GivesInOrder self.now }
+    {
+        let _local = self.local;
+    }
+
+    // Counts a send or a receive that failed.
+    fn fault(&mut self)
+        ensures faults { self.new ≡ record self.old { faults = raised self.old.faults } }
+        ensures never_falls { self.old.faults ≤ self.new.faults }
+    {
+        self.faults = self.faults.saturating_add(1);
+    }
+}
+
+impl<'r, R: Wait + Clock, S: Socket + Drop> SocketLink<'r, R, S> {
+    // Writes the frame, whole where it can.
+    fn put(&mut self, frame: &[u8]) -> Handed
+        requires { self.old.outgoing ≡ Outgoing.Open }
+        ensures whole { result ≡ Handed.Done → self.new.sent ≡ append_known self.old.sent frame.now }
+        ensures untouched { self.new.outgoing ≢ Outgoing.Cut → result ≢ Handed.Done
+            → self.new.sent ≡ self.old.sent }
+        ensures appended { result ≡ Handed.Done → self.new.handed ≡ self.old.handed ++ frame.now ∷ [] }
+        ensures kept { result ≢ Handed.Done → self.new.handed ≡ self.old.handed }
+        ensures came { Receives [] self.old.came self.old.waiting self.new.came self.new.waiting }
+        ensures cut { result ≡ Handed.Failed → self.new.outgoing ≡ Outgoing.Cut }
+        ensures open { result ≡ Handed.Done → self.new.outgoing ≡ Outgoing.Open }
+        ensures stays { self.old.incoming ≢ Incoming.Open → self.new.incoming ≡ self.old.incoming }
+        ensures lost { result ≡ Handed.Failed → self.new.incoming ≢ Incoming.Open }
+        ensures same { self.new ≡ record self.old {
+          sent = self.new.sent;
+          came = self.new.came;
+          handed = self.new.handed;
+          outgoing = self.new.outgoing;
+          waiting = self.new.waiting;
+          incoming = self.new.incoming;
+        } }
+    {
+        match self.wire.write_all(self.rt, frame) {
+            Ok(()) => {
+                self.handed = Pieces::with(&self.handed, frame);
+                Handed::Done
+            }
+            Err(cut) => {
+                if cut.done > 0 || cut.trouble == Trouble::Failed {
+                    self.wire.shutdown();
+                    self.outgoing = Outgoing::Cut;
+                }
+                match cut.trouble {
+                    Trouble::Failed => Handed::Failed,
+                    Trouble::Memory => Handed::Memory,
+                }
+            }
+        }
+    }
+}
+
+impl<'r, R: Wait + Clock, S: Socket + Drop> Link for SocketLink<'r, R, S> {
+    ghost use Rattle.std.specs.Prelude.{◌≡◌, Some, ⊤, []};
+
+    ghost handed = { λ l. l.handed };
+
+    ghost given = { λ l. Some l.given };
+
+    ghost ended = { λ l. l.ended };
+
+    // Nothing that was read ahead waits, and the socket gave nothing.
+    ghost nothing_ready = { λ old new. (old.waiting ≡ []) × (new.came ≡ old.came) };
+
+    // All that the socket gave was received.
+    ghost peer_finished = { λ _ new. new.waiting ≡ [] };
+
+    ghost faults = { λ l. l.faults };
+
+    // It is between the same ports.
+    ghost since = { λ old new. (new.local ≡ old.local) × (new.peer ≡ old.peer) };
+
+    // A refusal tells no more.
+    ghost refused = { λ _ _ _. ⊤ };
+
+    fn send(&mut self, frame: &[u8]) -> Handed
+        // The socket took the frame whole where it was handed over. Where it wasn't, either the sending side is cut,
+        // or nothing of it went out.
+        ensures whole { result ≡ Handed.Done → self.new.sent ≡ append_known self.old.sent frame.now }
+        ensures untouched { self.new.outgoing ≢ Outgoing.Cut → result ≢ Handed.Done
+            → self.new.sent ≡ self.old.sent }
+        // Once the sending side was ended or cut, each send fails.
+        ensures over { self.old.outgoing ≢ Outgoing.Open → result ≡ Handed.Failed }
+
+        ensures appended { result ≡ Handed.Done → self.new.handed ≡ self.old.handed ++ frame.now ∷ [] }
+        ensures kept { result ≢ Handed.Done → self.new.handed ≡ self.old.handed }
+
+        // What came meanwhile waits, and none of it is lost. Where the socket failed, no end is told from then on that
+        // it hadn't told before.
+        ensures came { Receives [] self.old.came self.old.waiting self.new.came self.new.waiting }
+        ensures stays { self.old.incoming ≢ Incoming.Open → self.new.incoming ≡ self.old.incoming }
+        ensures lost { result ≡ Handed.Failed → self.old.outgoing ≡ Outgoing.Open
+            → self.new.incoming ≢ Incoming.Open }
+
+        // What is counted, and what stays.
+        ensures faults { result ≡ Handed.Failed → self.new.faults ≡ raised self.old.faults }
+        ensures cause { HasCause (result ≡ Handed.Failed) self.old.faults self.new.faults }
+        ensures same { self.new ≡ record self.old {
+          sent = self.new.sent;
+          came = self.new.came;
+          handed = self.new.handed;
+          outgoing = self.new.outgoing;
+          waiting = self.new.waiting;
+          incoming = self.new.incoming;
+          faults = self.new.faults;
+        } }
+    {
+        if self.outgoing != Outgoing::Open {
+            self.fault();
+            return Handed::Failed;
+        }
+        let handed = self.put(frame);
+        if handed == Handed::Failed {
+            self.fault();
+        }
+        handed
+    }
+
+    fn receive(&mut self, buf: &mut [u8]) -> Came
+        requires room { 0 < length buf.old }
+
+        ensures count { OnCame result (λ n. (0 < n) × (n ≤ length buf.old)) }
+        ensures memory { result ≢ Came.Memory }
+        // The bytes that come are those that waited, and then those that the socket gave.
+        ensures next { OnCame result (λ n.
+            Receives (take n buf.new) self.old.came self.old.waiting self.new.came self.new.waiting) }
+        ensures appended { OnCame result (λ n. self.new.given ≡ self.old.given ++ take n buf.new) }
+        // No other answer comes while bytes wait, and none takes bytes.
+        ensures empty { OnNoneCame result (self.old.waiting ≡ []) }
+        ensures still_empty { OnNoneCame result (self.new.waiting ≡ []) }
+        ensures kept { OnNoneCame result ((self.new.given ≡ self.old.given) × (self.new.came ≡ self.old.came)) }
+        ensures ends { result ≡ Came.End → IsTrue self.new.ended }
+        ensures same_ended { result ≢ Came.End → self.new.ended ≡ self.old.ended }
+        // The end is told only where the socket told it, and a link that is broken stays so.
+        ensures closed { result ≡ Came.End → self.new.incoming ≡ Incoming.Closed }
+        ensures broken { result ≡ Came.Failed → self.new.incoming ≡ Incoming.Broken }
+        ensures stays { self.old.incoming ≢ Incoming.Open → self.new.incoming ≡ self.old.incoming }
+
+        // What is counted, and what stays.
+        ensures faults { result ≡ Came.Failed → self.new.faults ≡ raised self.old.faults }
+        ensures cause { HasCause (result ≡ Came.Failed) self.old.faults self.new.faults }
+        ensures same { self.new ≡ record self.old {
+          came = self.new.came;
+          given = self.new.given;
+          waiting = self.new.waiting;
+          incoming = self.new.incoming;
+          ended = self.new.ended;
+          faults = self.new.faults;
+        } }
+    {
+        let came = self.wire.read(buf);
+        match came {
+            Came::Bytes(count) => self.given = Pieces::with(&self.given, &buf[..count]),
+            Came::End => self.ended = true,
+            Came::Failed => self.fault(),
+            Came::Idle | Came::Memory => {}
+        }
+        came
+    }
+
+    fn finish(&mut self)
+        ensures finished { self.old.outgoing ≡ Outgoing.Open → self.new.outgoing ≡ Outgoing.Finished }
+        ensures over { self.new.outgoing ≢ Outgoing.Open }
+        ensures same { self.new ≡ record self.old { outgoing = self.new.outgoing } }
+    {
+        if self.outgoing == Outgoing::Open {
+            self.wire.shutdown();
+            self.outgoing = Outgoing::Finished;
+        }
+    }
+}

@@ -1,0 +1,28 @@
+//! What opens connections.
+ghost use Rattle.mrpc_base.specs.Linking.{TellsNone};
+ghost use Rattle.std.specs.Prelude.{IfOk};
+
+use crate::Socket;
+use std::io;
+
+/// Both ends of a new connection, and the port of each.
+#[derive(Drop)]
+pub struct Ends<S: Socket + Drop> {
+    pub first: S,
+    pub second: S,
+    pub first_port: u16,
+    pub second_port: u16,
+}
+
+/// What opens connections between two sockets of this process.
+pub trait Network {
+    /// One end of a connection.
+    type S: Socket + Send + Drop;
+
+    /// Opens a connection, of which neither end took or gave a byte.
+    fn open(&self) -> io::Result<Ends<Self::S>>
+        ensures first { IfOk result (λ ends.
+            TellsNone (Self.S.taken ends.first) × TellsNone (Self.S.given ends.first)) }
+        ensures second { IfOk result (λ ends.
+            TellsNone (Self.S.taken ends.second) × TellsNone (Self.S.given ends.second)) };
+}

@@ -1,0 +1,32 @@
+// The pieces that went one way, one behind another. Only contracts read the list, and it takes no memory.
+ghost use Rattle.std.specs.Prelude.{◌≡◌, List, [], ◌∷◌, ◌++◌, ℕ};
+ghost use Rattle.std.specs.Borrow.{ftrue};
+
+use std::marker::Model;
+
+#[derive(Drop)]
+pub(crate) struct Pieces {
+    ghost pieces: { List (List ℕ) },
+}
+
+impl Model for Pieces {
+    ghost also_owns = { λ _. ftrue };
+}
+
+// It owns nothing.
+unsafe impl Send for Pieces {}
+
+impl Pieces {
+    pub(crate) fn new() -> Pieces
+        ensures { result.pieces ≡ [] }
+    {
+        Pieces {}
+    }
+
+    // The pieces with one more behind them.
+    pub(crate) fn with(_before: &Pieces, _piece: &[u8]) -> Pieces
+        ensures { result.pieces ≡ _before.now.pieces ++ _piece.now ∷ [] }
+    {
+        Pieces {}
+    }
+}

@@ -1,0 +1,104 @@
+// Bytes that were read from a socket before they were asked for.
+ghost use Rattle.std.specs.Prelude.{◌≡◌, ◌≢◌, ◌<◌, ◌≤◌, ◌+◌, [], ◌++◌, ◌==◌, length, min, take, drop};
+ghost use Rattle.mrpc_base.specs.Linking.{OnCame, OnNoneCame};
+ghost use Rattle.tcp_fabric.specs.Link.{Receives};
+
+use crate::Socket;
+use mrpc_base::Came;
+use std::alloc::Global;
+use std::marker::Model;
+
+// How many bytes are read ahead at a time.
+pub(crate) const READ_SIZE: usize = 65536;
+
+// Contracts see the bytes that wait.
+#[derive(Drop)]
+pub(crate) struct ReadAhead {
+    room: Vec<u8>,
+    // Where the bytes that wait begin and end.
+    start: usize,
+    end: usize,
+}
+
+impl Model for ReadAhead {
+    ghost use Rattle.std.specs.Prelude.{◌≤◌, List, ℕ, drop, take, length};
+
+    ghost Value = { List ℕ };
+
+    ghost view = { λ r. drop r.start (take r.end r.room.items) };
+
+    ghost invariant = { λ r. (r.start ≤ r.end) × (r.end ≤ length r.room.items) };
+}
+
+impl ReadAhead {
+    pub(crate) fn new(alloc: Global) -> ReadAhead
+        ensures { result ≡ [] }
+    {
+        ReadAhead {
+            room: Vec::new(alloc),
+            start: 0,
+            end: 0,
+        }
+    }
+
+    pub(crate) fn is_empty(&self) -> bool
+        ensures { result ≡ (length self.now == 0) }
+    {
+        self.start == self.end
+    }
+
+    // Gives the next bytes, as many as fit, and answers how many.
+    pub(crate) fn give(&mut self, buf: &mut [u8]) -> usize
+        ensures count { result ≡ min (length buf.old) (length self.old) }
+        ensures next { self.old ≡ take result buf.new ++ self.new }
+    {
+        let count = buf.len().min(self.end - self.start);
+        let after = self.start + count;
+        buf[..count].copy_from_slice(&self.room[self.start..after]);
+        self.start = after;
+        count
+    }
+
+    // Reads from the socket once. The room is found first, so that no byte is lost where there is none.
+    pub(crate) fn read_from<S: Socket>(&mut self, socket: &mut S) -> Came
+        ensures kept { OnNoneCame result (self.new ≡ self.old) }
+        ensures came { Receives [] (S.given socket.old) self.old (S.given socket.new) self.new }
+        ensures same_taken { S.taken socket.new ≡ S.taken socket.old }
+    {
+        self.make_room();
+        let after = self.end + READ_SIZE;
+        if self.room.len() < after {
+            return Came::Memory;
+        }
+        let came = socket.read(&mut self.room[self.end..after]);
+        if let Came::Bytes(count) = came {
+            self.end += count;
+        }
+        came
+    }
+
+    // Makes the room for a read behind the bytes that wait, where memory is found.
+    fn make_room(&mut self)
+        ensures { self.new ≡ self.old }
+    {
+        self.move_down();
+        let after = self.end + READ_SIZE;
+        if self.room.len() < after {
+            let _ = self.room.resize(after, 0);
+        }
+    }
+
+    // Moves the bytes that wait to the start, once they are no more than those that were given, so that moving costs
+    // no more than giving did.
+    fn move_down(&mut self)
+        ensures { self.new ≡ self.old }
+    {
+        let waiting = self.end - self.start;
+        if self.start > 0 && waiting <= self.start {
+            self.room.truncate(self.end);
+            self.room.rotate_left(self.start);
+            self.start = 0;
+            self.end = waiting;
+        }
+    }
+}

@@ -1,0 +1,50 @@
+//! A socket, as a link uses it.
+ghost use Rattle.std.specs.Prelude.{◌≡◌, ◌≢◌, ◌<◌, ◌≤◌, ℕ, List, Option, length, take};
+ghost use Rattle.std.specs.Io.KnownBytes.{append_known};
+ghost use Rattle.mrpc_base.specs.Linking.{OnCame, OnNoneCame};
+ghost use Rattle.tcp_fabric.specs.Sockets.{OnWrote, OnNoneWrote};
+
+use mrpc_base::Came;
+
+/// What a write to a socket answers.
+#[derive(Clone, Copy, PartialEq, Eq)]
+pub enum Wrote {
+    /// So many bytes of the piece's start were taken, from 1 to all.
+    Took(usize),
+    /// The socket has no room now.
+    Full,
+    /// The socket failed, and took nothing.
+    Failed,
+}
+
+/// One end of a connection, whose calls don't wait.
+pub trait Socket {
+    /// The bytes that it took, where it tells them.
+    ghost taken: { Self → Option (List ℕ) };
+
+    /// The bytes that it gave, where it tells them.
+    ghost given: { Self → Option (List ℕ) };
+
+    /// Writes as much of the piece as there is room for.
+    fn write(&mut self, piece: &[u8]) -> Wrote
+        requires some { 0 < length piece.now }
+        ensures count { OnWrote result (λ n. (0 < n) × (n ≤ length piece.now)) }
+        ensures appended { OnWrote result (λ n.
+            taken self.new ≡ append_known (taken self.old) (take n piece.now)) }
+        ensures kept { OnNoneWrote result (taken self.new ≡ taken self.old) }
+        ensures same_given { given self.new ≡ given self.old };
+
+    /// Reads the next bytes into the start of `buf`. What it leaves behind them is open. It takes no memory.
+    fn read(&mut self, buf: &mut [u8]) -> Came
+        requires room { 0 < length buf.old }
+        ensures count { OnCame result (λ n. (0 < n) × (n ≤ length buf.old)) }
+        ensures appended { OnCame result (λ n. given self.new ≡ append_known (given self.old) (take n buf.new)) }
+        ensures kept { OnNoneCame result (given self.new ≡ given self.old) }
+        ensures memory { result ≢ Came.Memory }
+        ensures same_taken { taken self.new ≡ taken self.old };
+
+    /// Ends the sending side. The peer is told behind the bytes that were taken.
+    fn shutdown(&mut self)
+        ensures same_taken { taken self.new ≡ taken self.old }
+        ensures same_given { given self.new ≡ given self.old };
+}

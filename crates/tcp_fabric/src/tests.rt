@@ -1,0 +1,5 @@
+//! Tests of real links.
+
+mod listed;
+mod listed_socket;
+mod over_tcp;

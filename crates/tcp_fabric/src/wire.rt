@@ -1,0 +1,208 @@
+// A socket that is read ahead while it takes no bytes.
+ghost use Rattle.std.specs.Prelude.{◌≡◌, ◌≢◌, ◌<◌, ◌≤◌, [], ◌++◌, length, take, OnOk, IfErr};
+ghost use Rattle.std.specs.Io.KnownBytes.{append_known};
+ghost use Rattle.mrpc_base.specs.Linking.{OnCame, OnNoneCame};
+ghost use Rattle.tcp_fabric.specs.Link.{Receives};
+
+use crate::read_ahead::ReadAhead;
+use crate::{Socket, Wrote};
+use mrpc_base::Came;
+use std::alloc::Global;
+use std::sync::Wait;
+use std::thread;
+use std::time::{Clock, Duration};
+
+/// What a socket told of the receiving side.
+#[derive(Clone, Copy, PartialEq, Eq)]
+pub enum Incoming {
+    /// More may come.
+    Open,
+    /// The other side has finished, and all has come.
+    Closed,
+    /// The socket failed, and nothing more comes.
+    Broken,
+}
+
+#[derive(Drop)]
+pub(crate) struct Wire<S: Socket + Drop> {
+    pub socket: S,
+    pub ahead: ReadAhead,
+    pub incoming: Incoming,
+}
+
+// Why a piece wasn't taken whole.
+#[derive(Clone, Copy, PartialEq, Eq)]
+pub(crate) enum Trouble {
+    Failed,
+    Memory,
+}
+
+// What went out of a piece that wasn't taken whole.
+#[derive(Clone, Copy)]
+pub(crate) struct CutAt {
+    pub done: usize,
+    pub trouble: Trouble,
+}
+
+// How often a link that can neither write nor read lets other threads run before it sleeps.
+const TURNS_AWAKE: u32 = 64;
+
+// How long it sleeps then.
+const SLEEP_MICROS: u64 = 50;
+
+impl<S: Socket + Drop> Wire<S> {
+    pub(crate) fn new(alloc: Global, socket: S) -> Wire<S>
+        ensures socket { result.socket ≡ socket }
+        ensures ahead { result.ahead ≡ [] }
+        ensures incoming { result.incoming ≡ Incoming.Open }
+    {
+        Wire {
+            socket,
+            ahead: ReadAhead::new(alloc),
+            incoming: Incoming::Open,
+        }
+    }
+
+    // Writes the piece whole, and reads ahead while the socket takes nothing.
+    pub(crate) fn write_all<R: Wait + Clock>(&mut self, rt: &R, piece: &[u8]) -> Result<(), CutAt>
+        ensures whole { OnOk result
+            (S.taken self.new.socket ≡ append_known (S.taken self.old.socket) piece.now) }
+        ensures part { IfErr result (λ cut. (cut.done < length piece.now)
+            × (S.taken self.new.socket ≡ append_known (S.taken self.old.socket) (take cut.done piece.now))) }
+        ensures came { Receives [] (S.given self.old.socket) self.old.ahead (S.given self.new.socket) self.new.ahead }
+        ensures stays { self.old.incoming ≢ Incoming.Open → self.new.incoming ≡ self.old.incoming }
+        ensures lost { IfErr result (λ cut. cut.trouble ≡ Trouble.Failed → self.new.incoming ≢ Incoming.Open) }
+    {
+        let mut done = 0;
+        let mut turns = 0;
+        for _ in rt.forever() {
+            if done == piece.len() {
+                return Ok(());
+            }
+            match self.socket.write(&piece[done..]) {
+                Wrote::Took(count) => done += count,
+                Wrote::Full => match self.read_ahead() {
+                    Came::Bytes(_) => turns = 0,
+                    Came::Idle | Came::End => turns = pause(rt, turns),
+                    Came::Failed => return Err(CutAt {
+                        done,
+                        trouble: Trouble::Failed,
+                    }),
+                    Came::Memory => return Err(CutAt {
+                        done,
+                        trouble: Trouble::Memory,
+                    }),
+                },
+                Wrote::Failed => {
+                    self.incoming = after_failure(self.incoming);
+                    return Err(CutAt {
+                        done,
+                        trouble: Trouble::Failed,
+                    });
+                }
+            }
+        }
+        unreachable!()
+    }
+
+    // Reads once what may come, behind what waits.
+    fn read_ahead(&mut self) -> Came
+        ensures came { Receives [] (S.given self.old.socket) self.old.ahead (S.given self.new.socket) self.new.ahead }
+        ensures same_taken { S.taken self.new.socket ≡ S.taken self.old.socket }
+        ensures stays { self.old.incoming ≢ Incoming.Open → self.new.incoming ≡ self.old.incoming }
+        ensures lost { result ≡ Came.Failed → self.new.incoming ≢ Incoming.Open }
+    {
+        if self.incoming != Incoming::Open {
+            return Came::Idle;
+        }
+        let came = self.ahead.read_from(&mut self.socket);
+        self.incoming = told_by(came);
+        came
+    }
+
+    // Gives what waits first, and reads from the socket where nothing does.
+    pub(crate) fn read(&mut self, buf: &mut [u8]) -> Came
+        requires room { 0 < length buf.old }
+        ensures count { OnCame result (λ n. (0 < n) × (n ≤ length buf.old)) }
+        ensures came { OnCame result (λ n. Receives (take n buf.new)
+            (S.given self.old.socket) self.old.ahead (S.given self.new.socket) self.new.ahead) }
+        ensures kept { OnNoneCame result (S.given self.new.socket ≡ S.given self.old.socket) }
+        ensures empty { OnNoneCame result (self.old.ahead ≡ []) }
+        ensures still_empty { OnNoneCame result (self.new.ahead ≡ []) }
+        ensures memory { result ≢ Came.Memory }
+        ensures same_taken { S.taken self.new.socket ≡ S.taken self.old.socket }
+        ensures closed { result ≡ Came.End → self.new.incoming ≡ Incoming.Closed }
+        ensures broken { result ≡ Came.Failed → self.new.incoming ≡ Incoming.Broken }
+        ensures stays { self.old.incoming ≢ Incoming.Open → self.new.incoming ≡ self.old.incoming }
+    {
+        if !self.ahead.is_empty() {
+            return Came::Bytes(self.ahead.give(buf));
+        }
+        match self.incoming {
+            Incoming::Open => self.read_socket(buf),
+            Incoming::Closed => Came::End,
+            Incoming::Broken => Came::Failed,
+        }
+    }
+
+    fn read_socket(&mut self, buf: &mut [u8]) -> Came
+        requires room { 0 < length buf.old }
+        ensures count { OnCame result (λ n. (0 < n) × (n ≤ length buf.old)) }
+        ensures appended { OnCame result (λ n.
+            S.given self.new.socket ≡ append_known (S.given self.old.socket) (take n buf.new)) }
+        ensures kept { OnNoneCame result (S.given self.new.socket ≡ S.given self.old.socket) }
+        ensures same_ahead { self.new.ahead ≡ self.old.ahead }
+        ensures memory { result ≢ Came.Memory }
+        ensures same_taken { S.taken self.new.socket ≡ S.taken self.old.socket }
+        ensures closed { result ≡ Came.End → self.new.incoming ≡ Incoming.Closed }
+        ensures broken { result ≡ Came.Failed → self.new.incoming ≡ Incoming.Broken }
+    {
+        let came = self.socket.read(buf);
+        self.incoming = told_by(came);
+        came
+    }
+
+    // Ends the sending side.
+    pub(crate) fn shutdown(&mut self)
+        ensures same_taken { S.taken self.new.socket ≡ S.taken self.old.socket }
+        ensures same_given { S.given self.new.socket ≡ S.given self.old.socket }
+        ensures same_ahead { self.new.ahead ≡ self.old.ahead }
+        ensures same_incoming { self.new.incoming ≡ self.old.incoming }
+    {
+        self.socket.shutdown();
+    }
+}
+
+// What an answer to a read tells of the receiving side, which was open.
+fn told_by(came: Came) -> Incoming
+    ensures closed { came ≡ Came.End → result ≡ Incoming.Closed }
+    ensures broken { came ≡ Came.Failed → result ≡ Incoming.Broken }
+{
+    match came {
+        Came::Bytes(_) | Came::Idle | Came::Memory => Incoming::Open,
+        Came::End => Incoming::Closed,
+        Came::Failed => Incoming::Broken,
+    }
+}
+
+// The receiving side after a write that failed: it is broken, unless all had come.
+fn after_failure(incoming: Incoming) -> Incoming
+    ensures stays { incoming ≢ Incoming.Open → result ≡ incoming }
+    ensures lost { result ≢ Incoming.Open }
+{
+    match incoming {
+        Incoming::Open => Incoming::Broken,
+        Incoming::Closed => Incoming::Closed,
+        Incoming::Broken => Incoming::Broken,
+    }
+}
+
+// Lets other threads run, and sleeps after some turns. It answers how many turns there were.
+fn pause<R: Clock>(rt: &R, turns: u32) -> u32 {
+    if turns < TURNS_AWAKE {
+        thread::yield_now();
+        return turns + 1;
+    }
+    thread::sleep(rt, Duration::from_micros(SLEEP_MICROS));
+    turns
+}
