@@ -1,0 +1,4 @@
+mod Growing
+mod Policies
+mod Programs
+mod Promises
