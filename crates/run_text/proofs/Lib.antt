@@ -1,3 +1,6 @@
+mod Calls
+mod Counted
 mod Keeping
 mod Lines
 mod Rows
+mod Telling

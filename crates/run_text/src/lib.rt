@@ -1,15 +1,23 @@
-//! What a run tells of each of its connections (this project's own format).
+//! What a run tells (this project's own format).
 //!
-//! Of a connection that was bound it tells what happened, what arrived, which false reclaims there were, what is left of
-//! its stream, and which calls stand, in this order. `specs/Telling.antt` has the texts. It stands on connections, on
-//! what was delivered on them, and on the lines of `audit_text`, `arrival_text` and `connection_text`. The layers above
-//! use one contract: what is appended is the text of what was left.
+//! [`run_text`] gives the whole text of a run's connections, and the counts of its lines. Of a connection that was bound it tells what happened, what
+//! arrived, which false reclaims there were, what is left of its stream, and which calls stand, in this order; of
+//! another one why it wasn't bound. Behind all connections it tells accounts of visits, and the counts of all lines.
+//! `specs/Told.antt` has the whole text, `specs/Telling.antt` the parts of a connection's, and `specs/Counting.antt` as
+//! what each line counts. It stands on connections, on what was delivered on them, on `telemetry`, and on the lines of
+//! `audit_text`, `arrival_text` and `connection_text`. The layers above use one contract: the text is that of what was
+//! left.
 #![tactic(auto)]
 
 mod arrived;
 mod connection;
+mod counting;
 mod left;
+mod shown;
+mod told;
 
 pub use arrived::{append_arrivals, append_false_reclaims};
 pub use connection::{append_history, append_standing_calls};
 pub use left::append_left;
+pub use shown::{Rounds, Shown, ShownConn};
+pub use told::{RunText, run_text};

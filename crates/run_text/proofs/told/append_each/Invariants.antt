@@ -1,0 +1,8 @@
+use Rattle.std.proofs.Common.{◌≡◌, ◌++◌, ℕ, List, take}
+use Rattle.std.specs.List.{AllZip, concat}
+use Rattle.run_text.specs.Told.{IsShownText}
+use Rattle.run_text.proofs.told.append_each.Given as goal
+
+abbrev pub invariant-loop-one : goal.invariant-loop-one
+invariant-loop-one l = (each : List (List ℕ)) × AllZip IsShownText (take l.one-index l.shown) each
+    × (l.out ≡ l.fn.out ++ concat each)

@@ -1,0 +1,71 @@
+-- The whole text of what a run tells (this project's own format).
+use Rattle.std.specs.Prelude.{◌≡◌, ℕ, List, [], ◌∷◌, ◌++◌, codes, option_map, Option}
+use Rattle.std.specs.List.{AllZip, concat, flat_map}
+use Rattle.std.specs.Option.{option_copied, option_map_or}
+use Rattle.mrpc_table.specs.Text.{line}
+use Rattle.receive_core.specs.Life.{Life}
+use Rattle.deliveries.specs.Arriving.{AreArriving, HaveLived}
+use Rattle.link_greeting.specs.Greeting.{SaysWhy}
+use Rattle.arrival_text.specs.Lines.{judging_of, unbound_words}
+use Rattle.telemetry.specs.Totals.{IsTextOf, word}
+use Rattle.run_text.specs.Counting.{counted_in}
+use Rattle.run_text.specs.Telling.{IsLeft, arrivals_text, history_lines, not_held_text, standing_lines}
+use Rattle.run_text.specs.declared.shown.Rounds.{Rounds}
+use Rattle.run_text.specs.declared.shown.ShownConn.{ShownConn}
+use Rattle.run_text.specs.declared.shown.Shown.{Shown}
+use Rattle.run_text.specs.declared.shown.Shown.TheVariants.{Served, Unbound}
+
+-- ---- what can be told
+
+-- What arrived on a connection was judged by its own table, and by the policy that is named.
+pub record IsTellableConn (s : ShownConn) : Type 0 where
+  pub arriving : AreArriving s.arrivals.now
+  pub table : s.calls.now.table ≡ s.arrivals.now.table.now
+  pub judged : option_map (λ policy. policy.1) (judging_of s.judge) ≡ option_copied s.arrivals.now.policy
+
+abbrev pub IsTellable : Shown → Type 0
+IsTellable (Unbound conn why) = SaysWhy why.now
+IsTellable (Served served) = IsTellableConn served
+
+-- ---- the text of a connection
+
+-- Of a connection that was bound its history is told, what arrived, which numbers named no held block, what is left of
+-- its stream, and which calls stand. A stream that was received in some way leaves the same, in whichever it was.
+pub record IsServedText (s : ShownConn) (text : List ℕ) : Type 0 where
+  pub left : List ℕ
+  pub is_left : (life : Life) → HaveLived life s.arrivals.now → IsLeft s.calls.now.conn s.calls.now.ended life left
+  pub lines : text ≡ history_lines s.calls.now
+      ++ arrivals_text s.arrivals.now.table.now (judging_of s.judge) s.calls.now.conn s.arrivals.now.lines.items
+      ++ not_held_text s.calls.now.conn s.not_held.now ++ left ++ standing_lines s.calls.now
+
+-- of another one, why it wasn't
+abbrev pub IsShownText : Shown → List ℕ → Type 0
+IsShownText (Unbound conn why) text = text ≡ line (unbound_words conn why.now)
+IsShownText (Served served) text = IsServedText served text
+
+-- ---- accounts
+
+-- what the visits of a connection came to: its weight, the visits, the rounds that were given, kept and dropped
+abbrev pub rounds_words : Rounds → List ℕ
+rounds_words r = word r.weight ++ word r.account.visits ++ word r.account.rounds ++ word r.account.kept
+    ++ word r.account.dropped
+
+abbrev pub rounds_line : ℕ → Rounds → List ℕ
+rounds_line conn r = codes "rounds" ++ word conn ++ rounds_words r ++ 10 ∷ []
+
+abbrev pub account_line : ℕ → Option Rounds → List ℕ
+account_line conn rounds = option_map_or (rounds_line conn) rounds []
+
+abbrev pub rounds_of : Shown → List ℕ
+rounds_of (Unbound conn why) = []
+rounds_of (Served served) = account_line served.calls.now.conn served.rounds
+
+-- ---- the whole text
+
+-- what a run tells of some connections, in this order, then the accounts, and behind them the counts of all lines
+pub record IsRunText (shown : List Shown) (text : List ℕ) : Type 0 where
+  pub each : List (List ℕ)
+  pub texts : AllZip IsShownText shown each
+  pub totals : List ℕ
+  pub counts : IsTextOf (flat_map counted_in shown) totals
+  pub whole : text ≡ concat each ++ flat_map rounds_of shown ++ totals

@@ -1,0 +1,177 @@
+// How often each happened that the lines of a run tell.
+
+ghost use Rattle.std.specs.Prelude.{◌≡◌, ◌≤◌, ◌<◌, ◌^◌, ◌++◌, ◌∷◌, [], ℕ, List, Some, IfOk, OnOk, length, map, slice_get};
+ghost use Rattle.std.specs.List.{flat_map};
+ghost use Rattle.call_history.specs.Behind.{taken};
+ghost use Rattle.call_history.specs.Records.{told_by};
+ghost use Rattle.call_history.specs.declared.happening.Taken.{Taken as TheTaken};
+ghost use Rattle.conn_core.specs.Connections.{behind};
+ghost use Rattle.telemetry.specs.Counts.{Happened as Counted};
+ghost use Rattle.engine_core.specs.declared.op.Op.{Op as TheStep};
+ghost use Rattle.run_text.specs.Counting.{counted, counted_in, counted_on, method_of, standing_counted};
+ghost use Rattle.run_text.specs.Counts.{AreNumbered, CanCount, HaveCounted, methods_by, methods_of, told_count};
+
+use crate::shown::Shown;
+use call_history::Record;
+use conn_core::Conn;
+use mrpc_table::{Bytes, Memory};
+use std::alloc::Global;
+use telemetry::{Totals, What, counts_add_up};
+
+// The counts of the lines of all connections, of which there are no more than bytes of a text.
+pub(crate) fn count_all(
+    alloc: Global,
+    shown: &[Shown<'_, '_>],
+    text: &Bytes,
+) -> Result<Totals, Memory>
+    requires { length (flat_map counted_in shown.now) ≤ length text.now }
+    ensures { IfOk result (HaveCounted (flat_map counted_in shown.now)) }
+{
+    let _most = text.len();
+    let mut totals = Totals::new(alloc);
+    for one in shown {
+        count(alloc, &mut totals, one)?;
+    }
+    Ok(totals)
+}
+
+// Counts the lines of a connection.
+fn count(alloc: Global, totals: &mut Totals, shown: &Shown<'_, '_>) -> Result<(), Memory>
+    requires few { CanCount (counted_in shown.now) totals.old }
+    ensures { (happened : List Counted) → HaveCounted happened totals.old
+        → OnOk result (HaveCounted (happened ++ counted_in shown.now) totals.new) }
+{
+    match shown {
+        Shown::Unbound { .. } => Ok(()),
+        Shown::Served(served) => count_connection(alloc, totals, served.calls),
+    }
+}
+
+// Counts the lines of a connection that was bound.
+fn count_connection(alloc: Global, totals: &mut Totals, calls: &Conn<'_>) -> Result<(), Memory>
+    requires few { CanCount (counted_on calls.now) totals.old }
+    ensures { (happened : List Counted) → HaveCounted happened totals.old
+        → OnOk result (HaveCounted (happened ++ counted_on calls.now) totals.new) }
+{
+    calls.is_connection();
+    let methods = methods(alloc, calls)?;
+    count_history(totals, calls, &methods)?;
+    count_standing(totals, calls, &methods)
+}
+
+// The methods of the calls that were accepted, in order.
+fn methods(alloc: Global, calls: &Conn<'_>) -> Result<Vec<u16>, Memory>
+    ensures { IfOk result (λ methods. methods.items ≡ methods_of (taken (behind calls.now))) }
+{
+    let mut methods = Vec::new(alloc);
+    for place in 0..calls.history().len() {
+        push_method(&mut methods, calls.history().at(place))?;
+    }
+    Ok(methods)
+}
+
+// Adds the method of a call that was accepted.
+fn push_method(methods: &mut Vec<u16>, kept: &Record) -> Result<(), Memory>
+    ensures { (steps : List TheStep) → OnOk result (methods.new.items
+        ≡ methods.old.items ++ methods_by (told_by steps kept.now)) }
+{
+    if let Record::Took(call) = kept {
+        methods.push(call.method)?;
+    }
+    Ok(())
+}
+
+// Counts the lines of a history.
+fn count_history(totals: &mut Totals, calls: &Conn<'_>, methods: &[u16]) -> Result<(), Memory>
+    requires numbered { AreNumbered (taken (behind calls.now)) }
+    requires methods { methods.now ≡ methods_of (taken (behind calls.now)) }
+    requires few { CanCount (flat_map (counted (taken (behind calls.now))) calls.now.happenings) totals.old }
+    ensures { (happened : List Counted) → HaveCounted happened totals.old
+        → OnOk result (HaveCounted
+        (happened ++ flat_map (counted (taken (behind calls.now))) calls.now.happenings) totals.new) }
+{
+    for place in 0..calls.history().len() {
+        count_some(totals, counted_by(calls.history().at(place), methods))?;
+    }
+    Ok(())
+}
+
+// As what the line of a happening counts, if it does.
+fn counted_by(kept: &Record, methods: &[u16]) -> Option<(u16, What)>
+    ensures { (calls : List TheTaken) (steps : List TheStep) → AreNumbered calls → methods.now ≡ methods_of calls
+        → told_count result ≡ counted calls (told_by steps kept.now) }
+{
+    match kept {
+        Record::Took(call) => Some((call.method, What::Took)),
+        Record::Sent { seq, .. } => Some((method_of(methods, *seq), What::Sent)),
+        Record::Refused { seq, .. } => Some((method_of(methods, *seq), What::Refused)),
+        _ => None,
+    }
+}
+
+// Counts the calls that stand.
+fn count_standing(totals: &mut Totals, calls: &Conn<'_>, methods: &[u16]) -> Result<(), Memory>
+    requires numbered { AreNumbered (taken (behind calls.now)) }
+    requires methods { methods.now ≡ methods_of (taken (behind calls.now)) }
+    requires few { CanCount (map (standing_counted (taken (behind calls.now))) calls.now.chain.row) totals.old }
+    ensures { (happened : List Counted) → HaveCounted happened totals.old
+        → OnOk result (HaveCounted
+        (happened ++ map (standing_counted (taken (behind calls.now))) calls.now.chain.row) totals.new) }
+{
+    calls.is_connection();
+    for place in 0..calls.chain().calls().len() as u32 {
+        count_some(totals, standing_at(calls, methods, place))?;
+    }
+    Ok(())
+}
+
+// As what the line of the call at a place counts, of those that stand.
+fn standing_at(calls: &Conn<'_>, methods: &[u16], place: u32) -> Option<(u16, What)>
+    requires numbered { AreNumbered (taken (behind calls.now)) }
+    requires methods { methods.now ≡ methods_of (taken (behind calls.now)) }
+    requires there { place < length calls.now.chain.row }
+    ensures { (call : ℕ × ℕ) → slice_get calls.now.chain.row place ≡ Some call
+        → told_count result ≡ standing_counted (taken (behind calls.now)) call ∷ [] }
+{
+    let Some((seq, _)) = calls.chain().standing(place) else {
+        unreachable!()
+    };
+    Some((method_of(methods, seq), What::Standing))
+}
+
+// The method of the call of a number. Calls are numbered from 1.
+fn method_of(methods: &[u16], seq: u32) -> u16
+    ensures { (calls : List TheTaken) → AreNumbered calls → methods.now ≡ methods_of calls
+        → result ≡ method_of calls seq }
+{
+    if seq == 0 {
+        return 0;
+    }
+    match methods.get(seq as usize - 1) {
+        Some(method) => *method,
+        None => 0,
+    }
+}
+
+// Counts one more, if there is one.
+fn count_some(totals: &mut Totals, counted: Option<(u16, What)>) -> Result<(), Memory>
+    requires few { CanCount (told_count counted) totals.old }
+    ensures { (happened : List Counted) → HaveCounted happened totals.old
+        → OnOk result (HaveCounted (happened ++ told_count counted) totals.new) }
+{
+    match counted {
+        Some((method, what)) => count_one(totals, method, what),
+        None => Ok(()),
+    }
+}
+
+// Counts one more.
+fn count_one(totals: &mut Totals, method: u16, what: What) -> Result<(), Memory>
+    requires few { CanCount (record { method = method; what = what } ∷ []) totals.old }
+    ensures { (happened : List Counted) → HaveCounted happened totals.old
+        → OnOk result (HaveCounted (happened ++ record { method = method; what = what } ∷ []) totals.new) }
+{
+    counts_add_up();
+    totals.add(method, what)?;
+    Ok(())
+}

@@ -1,0 +1,37 @@
+//! What is told of a connection.
+
+use arrival_text::Judge;
+use conn_core::Conn;
+use deliveries::Arrivals;
+use link_greeting::Unbound;
+use qos_order::Account;
+
+/// A connection behind a run: why it wasn't bound, or what it served.
+#[derive(Clone, Copy)]
+pub enum Shown<'a, 't> {
+    Unbound { conn: u32, why: &'a Unbound },
+    Served(ShownConn<'a, 't>),
+}
+
+/// What a connection that was bound has served.
+#[derive(Clone, Copy)]
+pub struct ShownConn<'a, 't> {
+    /// Its calls, with their history.
+    pub calls: &'a Conn<'t>,
+    /// What arrived.
+    pub arrivals: &'a Arrivals<'t>,
+    /// The policy that judged what arrived, with the name under which it is declared.
+    pub judge: Option<Judge<'a>>,
+    /// The numbers that were given back, and named no held block.
+    pub not_held: &'a [u64],
+    /// What its visits came to, where connections got rounds by their weights.
+    pub rounds: Option<Rounds>,
+}
+
+/// The account of a connection's visits.
+#[derive(Clone, Copy)]
+pub struct Rounds {
+    /// How much the connection counts among others, 1 to 100.
+    pub weight: u64,
+    pub account: Account,
+}
