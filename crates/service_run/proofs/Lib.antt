@@ -1,8 +1,10 @@
+mod BeforeMeeting
 mod Closed
 mod Each
 mod Knowing
-mod Left
 mod Members
+mod Sending
 mod Splits
 mod Together
+mod Wirings
 mod Zips

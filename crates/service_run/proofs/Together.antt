@@ -16,7 +16,7 @@ use Rattle.call_history.specs.Tickets.{tickets_behind}
 use Rattle.conn_core.specs.Connections.{Connection, behind, frames}
 use Rattle.conn_core.specs.Steps.{Draws}
 use Rattle.tenant_quota.specs.Drawing.{AreLater, Drawing, drawn_by}
-use Rattle.deliveries.specs.Arriving.{HasAll, HaveLived}
+use Rattle.deliveries.specs.Arriving.{AreSame, HasAll, HaveLived}
 use Rattle.deliveries.specs.Telling.{IsReclaiming, IsTelling, TellsOf, notices_of, numbers_of}
 use Rattle.deliveries.specs.declared.arrivals.Stream.TheVariants.{Ended}
 use Rattle.shared_heap.specs.Fresh.{HeapId}
@@ -43,7 +43,7 @@ use Rattle.service_run.specs.Closings.{IsLeft, Opening}
 use Rattle.service_run.specs.Parts.{FailsWith, HasPassed, KnowsAll}
 use Rattle.service_run.specs.Served.{Arrived, DidAs, HasServed, WasDelivered, WasHanded, echo_on}
 use Rattle.service_run.specs.declared.served.BoundConn.{BoundConn}
-use Rattle.service_run.proofs.Left.{goes-on, on-some, over-is, whole-is}
+use Rattle.service_run.proofs.BeforeMeeting.{goes-on, on-some, over-is, whole-is}
 use Rattle.service_run.proofs.Members.{AreSeats, IsQueue, told-later}
 
 -- what the parts are, once they were put together
@@ -248,6 +248,18 @@ module _ {C L : Type 0} {of_clock : ClockMembers C} {of_quotas : TicketMembers (
   arrivals-same : b.arrivals ≡ left.closed_of.last.deliveries.arrivals
   arrivals-same = met.arrivals ∙ ap (λ d. d.arrivals) left.closed_of.parts.deliveries
 
+  same-arrivals : AreSame o.begun.arrivals b.arrivals
+  same-arrivals =
+      let first = left.conn.same in
+      let last = left.closed_of.turned.same.deliveries.arrivals in
+      subst (λ a. AreSame o.begun.arrivals a) (sym arrivals-same) (record {
+        table = last.table ∙ first.table;
+        policy = last.policy ∙ first.policy;
+        conn = last.conn ∙ first.conn;
+        words = last.words ∙ first.words;
+        heap = last.heap ∙ first.heap;
+      })
+
   was-delivered : WasDelivered o.begun.life gone.piece b
   was-delivered =
       let last = left.closed_of.last in
@@ -348,6 +360,7 @@ module _ {C L : Type 0} {of_clock : ClockMembers C} {of_quotas : TicketMembers (
             (subst (λ x. All (λ ms. of_clock.least x ≤ ms) (moments_at_calls (behind c.last.submissions.conn)))
             clock-same whole.least);
         arrived = arrived;
+        same_arrivals = same-arrivals;
         handed = was-handed;
         rose = λ ended. subst (λ l. Rose (g.faults l) (g.faults now)) left.start (passed.rose (failed-when ended));
         stays = λ works. passed.stays (working-when works) ∙ ap g.faults left.start;

@@ -16,7 +16,7 @@ use Rattle.service_loop.specs.declared.endpoint.Endpoint.{Endpoint}
 use Rattle.service_wiring.specs.Applications.{IsEndOf}
 use Rattle.service_wiring.specs.Turning.{HasTurned, IsDone}
 use Rattle.service_wiring.specs.Closing.{IsLeftOf}
-use Rattle.service_wiring.specs.Wired.{Beginning, IsWiredConn, IsWiredJob}
+use Rattle.service_wiring.specs.Wired.{Beginning, IsWired, IsWiredConn, IsWiredJob}
 use Rattle.service_wiring.specs.declared.applications.Job.{Job}
 use Rattle.service_wiring.specs.declared.closed.Closed.{Closed}
 
@@ -29,6 +29,15 @@ pub record Opening (C L : Type 0) : Type 0 where
   pub plan : Plan
   pub app : Application
   pub begun : Beginning C L
+
+-- connections, the jobs of their applications and the writers of their links were wired as some openings say, in their
+-- order
+abbrev pub AreWired : {C R L : Type 0} {g : LinkMembers L} → List (Opening C L) → List (Item C) → List Job
+    → List (QueueWriter R L g) → Type 0
+AreWired [] [] [] [] = Unit {0}
+AreWired (o ∷ openings) (item ∷ items) (job ∷ jobs) (writer ∷ writers) =
+    IsWired o.plan o.app o.begun item job writer × AreWired openings items jobs writers
+AreWired _ _ _ _ = ⊥
 
 -- what a writer left: the inner link is the one that the writer was made with, and its queues are the same
 pub record IsWrittenBy {R L : Type 0} {g : LinkMembers L} (writer : QueueWriter R L g) (end : WriterEnd L g) : Type 0

@@ -10,7 +10,7 @@ use Rattle.call_history.specs.Tickets.{tickets_behind}
 use Rattle.conn_core.specs.Connections.{behind, frames}
 use Rattle.receive_core.specs.Life.{Life}
 use Rattle.tenant_quota.specs.Drawing.{AreLater, Drawing, drawn_by}
-use Rattle.deliveries.specs.Arriving.{HasAll, HaveLived}
+use Rattle.deliveries.specs.Arriving.{AreSame, HasAll, HaveLived}
 use Rattle.deliveries.specs.Telling.{IsReclaiming, TellsOf}
 use Rattle.deliveries.specs.declared.arrivals.Stream.TheVariants.{Ended, Failed}
 use Rattle.app_program.specs.Programs.{Submission, reclaims_of, stores_of, submits_of}
@@ -110,6 +110,8 @@ module _ {C L : Type 0} (of_clock : ClockMembers C) (of_link : LinkMembers L) wh
     pub moments : All (of_clock.gives opening.begun.clock) (moments_in (behind b.submissions.conn))
     pub least : All (λ ms. of_clock.least opening.begun.clock ≤ ms) (moments_at_calls (behind b.submissions.conn))
     pub arrived : Arrived of_link opening now b
+    -- by the table, the policy and the heap that it began with
+    pub same_arrivals : AreSame opening.begun.arrivals b.arrivals
     pub handed : WasHanded of_link opening now b
     -- the connection has ended where the count of its link's faults rose, and only there
     pub rose : b.submissions.conn.ended ≡ true → Rose (of_link.faults opening.begun.link) (of_link.faults now)

@@ -1,20 +1,23 @@
 //! The threads of a run.
 
-ghost use Rattle.std.specs.Prelude.{All, IfOk};
+ghost use Rattle.std.specs.Prelude.{◌≤◌, All, IfOk, length};
 ghost use Rattle.std.specs.List.{AllZip};
-ghost use Rattle.service_run.specs.Closings.{IsWrittenBy};
+ghost use Rattle.service_run.specs.Closings.{IsClosedOf, IsWrittenBy};
 ghost use Rattle.service_wiring.specs.Applications.{IsEndOf, IsJob};
+ghost use Rattle.worker_pool.specs.declared.limits.TheConstants.{MOST_ITEMS, MOST_WORKERS};
 
+use crate::workers::{Connections, run_workers};
 use app_stub::AppEnd;
-use link_queue::{QueueWriter, WriterEnd};
-use mrpc_base::Link;
+use link_queue::{QueueLink, QueueWriter, WriterEnd};
+use mrpc_base::{Clock, Gate, Link, ReadyOrder, Tickets};
 use mrpc_table::Memory;
-use service_wiring::{Job, run_application};
+use service_wiring::{Closed, Common, Job, Turned, run_application};
 use std::alloc::Global;
 use std::sync::Wait;
 use std::thread;
 use std::thread::Threads;
 use stop_flag::StopFlag;
+use tenant_quota::Seats;
 
 /// Runs applications beside each other, up to the end of each, and gives what they leave in their order. Where no
 /// memory is found for a thread, the flag is set.
@@ -67,4 +70,100 @@ pub fn run_writers<'t, R: Threads + Wait + Sync, L: Link + Send + Drop, S: StopF
             Err(Memory)
         }
     }
+}
+
+/// What the threads of a run left, each in the order in which it was handed in.
+#[derive(Drop)]
+pub struct Left<'t, L: Link> {
+    pub ends: Vec<AppEnd>,
+    pub closed: Vec<Closed<'t>>,
+    pub writers: Vec<WriterEnd<L>>,
+}
+
+/// Runs applications, the writers of links and so many workers beside each other, up to the end of each, and gives what
+/// they leave. One that finds no memory sets the stop flag, so that all end. `Memory` where the workers saw the flag, or
+/// where no memory was found for a thread or for what is left; what an application left tells of its own.
+pub fn run_threads<
+    't,
+    R: Threads + Wait + Sync + 't,
+    L: Link + Send + Drop,
+    C: Clock,
+    G: Gate,
+    O: ReadyOrder,
+>(
+    common: &Common<'t, R, C, G, O>,
+    workers: usize,
+    items: Vec<Turned<'t, R, C, Seats, QueueLink<'t, R>, G, O>>,
+    jobs: Vec<Job<'t>>,
+    writers: Vec<QueueWriter<'t, R, L>>,
+) -> Result<Left<'t, L>, Memory>
+    requires jobs { All IsJob jobs.items }
+    requires few_items { length items.items ≤ MOST_ITEMS }
+    requires some_worker { 1 ≤ workers }
+    requires few_workers { workers ≤ MOST_WORKERS }
+    ensures ends { IfOk result (λ left. AllZip IsEndOf jobs.entry.items left.ends.items) }
+    ensures closed { IfOk result (λ left. AllZip
+        (IsClosedOf C.Clock ⟦<Seats as Tickets>⟧ ⟦<QueueLink<'t, R> as Link>⟧) items.entry.items left.closed.items) }
+    ensures writers { IfOk result (λ left. AllZip IsWrittenBy writers.entry.items left.writers.items) }
+{
+    let rt = common.rt;
+    let alloc = common.alloc;
+    let stop = common.stop;
+    let connections = Connections { items };
+    let (ends, (writers, closed)) = thread::join(
+        rt,
+        move ||
+            requires { All IsJob jobs.items }
+        { run_applications(rt, alloc, stop, jobs) },
+        move ||
+            requires few_items { length connections.items.items ≤ MOST_ITEMS }
+            requires some_worker { 1 ≤ workers }
+            requires few_workers { workers ≤ MOST_WORKERS }
+        { serve_beside(rt, alloc, stop, workers, connections, writers) },
+    );
+    Ok(Left {
+        ends: ends?,
+        closed: closed?,
+        writers: writers?,
+    })
+}
+
+// Runs the writers of links and workers beside each other.
+fn serve_beside<
+    't,
+    'w,
+    R: Threads + Wait + Sync + 'w,
+    L: Link + Send + Drop,
+    C: Clock,
+    G: Gate,
+    O: ReadyOrder,
+    S: StopFlag,
+>(
+    rt: &'w R,
+    alloc: Global,
+    stop: &S,
+    workers: usize,
+    connections: Connections<'t, R, C, G, O>,
+    writers: Vec<QueueWriter<'w, R, L>>,
+) -> (
+    Result<Vec<WriterEnd<L>>, Memory>,
+    Result<Vec<Closed<'t>>, Memory>,
+)
+    requires few_items { length connections.items.items ≤ MOST_ITEMS }
+    requires some_worker { 1 ≤ workers }
+    requires few_workers { workers ≤ MOST_WORKERS }
+    ensures writers { IfOk result.0 (λ ends. AllZip IsWrittenBy writers.entry.items ends.items) }
+    ensures closed { IfOk result.1 (λ all. AllZip
+        (IsClosedOf C.Clock ⟦<Seats as Tickets>⟧ ⟦<QueueLink<'t, R> as Link>⟧) connections.entry.items.items
+        all.items) }
+{
+    thread::join(
+        rt,
+        move || run_writers(rt, stop, writers),
+        move ||
+            requires few_items { length connections.items.items ≤ MOST_ITEMS }
+            requires some_worker { 1 ≤ workers }
+            requires few_workers { workers ≤ MOST_WORKERS }
+        { run_workers(rt, alloc, stop, workers, connections) },
+    )
 }

@@ -1,17 +1,135 @@
 //! The workers of a run.
 
-ghost use Rattle.std.specs.Prelude.{All, IfOk, List};
+ghost use Rattle.std.specs.Prelude.{◌≡◌, ◌≤◌, All, IfOk, List, length};
 ghost use Rattle.std.specs.List.{AllZip};
 ghost use Rattle.service_run.specs.Closings.{IsClosedOf, Item};
 ghost use Rattle.service_wiring.specs.Turning.{HasTurned, IsDone};
+ghost use Rattle.worker_pool.specs.Visits.{Leaves};
+ghost use Rattle.worker_pool.specs.declared.limits.TheConstants.{MOST_ITEMS, MOST_WORKERS};
 
 use link_queue::QueueLink;
-use mrpc_base::{Clock, Link, Tickets};
+use mrpc_base::{Clock, Gate, Link, ReadyOrder, Tickets};
 use mrpc_table::Memory;
-use service_wiring::{Closed, Turned};
+use service_wiring::{Closed, Turned, connections_go_on};
 use std::alloc::Global;
 use std::sync::Wait;
+use std::thread::Threads;
+use stop_flag::StopFlag;
 use tenant_quota::Seats;
+use worker_pool::Visit;
+
+// The connections that workers visit, as one value: a closure that captures it keeps what it borrows for one lifetime.
+pub(crate) struct Connections<'t, R: Wait, C: Clock, G, O> {
+    pub items: Vec<Turned<'t, R, C, Seats, QueueLink<'t, R>, G, O>>,
+}
+
+// By hand, since what is only shared needn't be dropped.
+impl<'t, R: Wait, C: Clock, G, O> Drop for Connections<'t, R, C, G, O> {
+    fn drop(self) {
+        let Connections { items: _items } = self;
+    }
+}
+
+impl<'t, R: Wait, C: Clock, G, O> Connections<'t, R, C, G, O> {
+    fn into_items(self) -> Vec<Turned<'t, R, C, Seats, QueueLink<'t, R>, G, O>>
+        ensures { result ≡ self.entry.items }
+    {
+        let Connections { items } = self;
+        items
+    }
+}
+
+// Has so many workers visit connections, until each is over, and then closes each, and gives what they leave in their
+// order. Where the stop flag was seen, or no memory is found, the connections are dropped, which closes their links, and
+// the flag is set for the other threads.
+pub(crate) fn run_workers<
+    't,
+    R: Threads + Wait + Sync,
+    C: Clock,
+    G: Gate,
+    O: ReadyOrder,
+    S: StopFlag,
+>(
+    rt: &R,
+    alloc: Global,
+    stop: &S,
+    workers: usize,
+    connections: Connections<'t, R, C, G, O>,
+) -> Result<Vec<Closed<'t>>, Memory>
+    requires few_items { length connections.items.items ≤ MOST_ITEMS }
+    requires some_worker { 1 ≤ workers }
+    requires few_workers { workers ≤ MOST_WORKERS }
+    ensures { IfOk result (λ all. AllZip
+        (IsClosedOf C.Clock ⟦<Seats as Tickets>⟧ ⟦<QueueLink<'t, R> as Link>⟧) connections.entry.items.items
+        all.items) }
+{
+    match visit_and_close(rt, alloc, stop, workers, connections.into_items()) {
+        Ok(all) => Ok(all),
+        Err(Memory) => {
+            stop.set();
+            Err(Memory)
+        }
+    }
+}
+
+// Visits connections until each is over, and then closes each.
+fn visit_and_close<'t, R: Threads + Wait + Sync, C: Clock, G: Gate, O: ReadyOrder, S: StopFlag>(
+    rt: &R,
+    alloc: Global,
+    stop: &S,
+    workers: usize,
+    items: Vec<Turned<'t, R, C, Seats, QueueLink<'t, R>, G, O>>,
+) -> Result<Vec<Closed<'t>>, Memory>
+    requires few_items { length items.items ≤ MOST_ITEMS }
+    requires some_worker { 1 ≤ workers }
+    requires few_workers { workers ≤ MOST_WORKERS }
+    ensures { IfOk result (λ all. AllZip
+        (IsClosedOf C.Clock ⟦<Seats as Tickets>⟧ ⟦<QueueLink<'t, R> as Link>⟧) items.entry.items all.items) }
+{
+    let over = visit_all(rt, alloc, stop, workers, items)?;
+    close_all(alloc, over)
+}
+
+// Visits connections until each is over.
+fn visit_all<
+    't,
+    R: Threads + Wait + Sync,
+    C: Clock,
+    Q: Tickets + Send + Drop,
+    L: Link + Send + Drop,
+    G: Gate,
+    O: ReadyOrder,
+    S: StopFlag,
+>(
+    rt: &R,
+    alloc: Global,
+    stop: &S,
+    workers: usize,
+    items: Vec<Turned<'t, R, C, Q, L, G, O>>,
+) -> Result<Vec<Turned<'t, R, C, Q, L, G, O>>, Memory>
+    requires few_items { length items.items ≤ MOST_ITEMS }
+    requires some_worker { 1 ≤ workers }
+    requires few_workers { workers ≤ MOST_WORKERS }
+    ensures turned { IfOk result (λ over. AllZip (HasTurned C.Clock Q.Tickets L.Link) items.entry.items over.items) }
+    ensures done { IfOk result (λ over. All (IsDone C.Clock Q.Tickets L.Link) over.items) }
+{
+    connections_go_on::<C, Q, L>();
+    let ran = worker_pool::run(
+        rt,
+        alloc,
+        items,
+        workers,
+        stop,
+        &|item: &mut Turned<R, C, Q, L, G, O>| -> Visit
+            ensures { Leaves (HasTurned C.Clock Q.Tickets L.Link) (IsDone C.Clock Q.Tickets L.Link)
+                item.old result item.new }
+        { item.visit() },
+    )?;
+    if ran.stopped {
+        return Err(Memory);
+    }
+    Ok(ran.items)
+}
 
 /// Closes connections that get no further visit, and gives what they leave in their order. Of the connections that they
 /// were first, later on, these are what is left.

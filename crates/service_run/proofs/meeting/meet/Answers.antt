@@ -1,5 +1,5 @@
 use Rattle.std.proofs.Common.{refl}
-use Rattle.service_run.proofs.Left.{backward-is, forward-is}
+use Rattle.service_run.proofs.BeforeMeeting.{backward-is, forward-is}
 use Rattle.service_run.proofs.Members.{seats-stay}
 use Rattle.service_run.proofs.Together.{has-served}
 use Rattle.service_run.proofs.meeting.meet.Goals as goal
