@@ -1,0 +1,9 @@
+mod Apps
+mod Ending
+mod Finding
+mod Hellos
+mod Opens
+mod Stands
+mod Told
+mod TwoByTwo
+mod Zips

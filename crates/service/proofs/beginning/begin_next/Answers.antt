@@ -1,0 +1,64 @@
+use Rattle.std.proofs.Common.{◌<◌, ◌∙◌, List, arith, length, map, refl, subst, sym}
+use Rattle.std.proofs.lemmas.List.{length-map}
+use Rattle.tenant_quota.specs.Drawing.{new_half}
+use Rattle.service_loop.specs.Steps.{AreSteps, KnowTenants}
+use Rattle.service_loop.specs.declared.due_step.DueStep.{DueStep}
+use Rattle.service.specs.Prepared.{HasSteps}
+use Rattle.service.proofs.Apps.{app-there}
+use Rattle.service.proofs.Hellos.{on-ok-map}
+use Rattle.service.proofs.Stands.{bound-next, first-of, is-begun, is-out, not-drawn-new, out-next, steps-at, steps-within, when-heard}
+use Rattle.service.proofs.beginning.begin_next.Goals as goal
+
+pub bounds-steps-len : goal.bounds-steps-len
+bounds-steps-len g c =
+    let n = c.requires.next in
+    steps-within c.args.common.now.plan.now n.1 n.2 n.3 c.args.steps.now c.len.result n.5
+    (omega (arith, c.len.ensures, c.args.begun.now.standings.ok.0, n.6.as_many))
+
+pub take_up-requires-clause-app : goal.take_up-requires-clause-app
+take_up-requires-clause-app g c κs within =
+    let n = c.requires.next in
+    app-there c.args.common.now.plan.now n.3.conn c.args.end.app.now n.4.its_app
+
+pub take_up-requires-clause-steps : goal.take_up-requires-clause-steps
+take_up-requires-clause-steps g c κs within =
+    let n = c.requires.next in
+    let has = steps-at c.args.common.now.plan.now n.1 n.2 n.3 c.args.steps.now c.len.result c.index-steps-len.result n.5
+    (omega (arith, c.len.ensures, c.args.begun.now.standings.ok.0, n.6.as_many)) c.index-steps-len.is in
+    subst (λ (xs : List DueStep). AreSteps xs) (sym c.as_slice.ensures.value) has.sound
+
+pub take_up-requires-clause-known : goal.take_up-requires-clause-known
+take_up-requires-clause-known g c κs within =
+    let n = c.requires.next in
+    let has = steps-at c.args.common.now.plan.now n.1 n.2 n.3 c.args.steps.now c.len.result c.index-steps-len.result n.5
+    (omega (arith, c.len.ensures, c.args.begun.now.standings.ok.0, n.6.as_many)) c.index-steps-len.is in
+    subst (λ (xs : List DueStep). KnowTenants (λ tenant. tenant < length c.args.begun.now.seats) xs)
+    (sym c.as_slice.ensures.value)
+    (subst (λ m. KnowTenants (λ tenant. tenant < m) c.index-steps-len.result.items) (sym n.6.tenants) has.known)
+
+pub returns-in-Some : goal.returns-in-Some
+returns-in-Some g c = λ whole ends later e greeted steps begun.
+    let plan = c.args.common.now.plan.now in
+    let clock = c.args.common.now.clock.now in
+    on-ok-map _ _ c.leave_out.result (λ stands. out-next g.L.Link plan clock whole ends c.args.begun.now.standings.items
+    c.args.begun.now.items.items c.args.begun.now.jobs.items c.args.begun.now.writers.items c.args.begun.now.seats begun
+    _ _ _ _ _ e c.args.end.app.now.conn c.args.end.link c.in-Some.why
+    (is-out g.L.Link plan e c.args.end greeted clock c.in-Some.why c.in-Some.is) stands c.leave_out.ensures.items
+    c.leave_out.ensures.jobs c.leave_out.ensures.writers c.leave_out.ensures.seats) c.leave_out.ensures.added
+
+pub returns-in-None : goal.returns-in-None
+returns-in-None g c = λ whole ends later e greeted steps begun.
+    let plan = c.args.common.now.plan.now in
+    let clock = c.args.common.now.clock.now in
+    let heard = when-heard g.L.Link plan e c.args.end greeted c.in-None.is in
+    let has = subst (λ (xs : List DueStep). HasSteps plan e.conn xs) (sym c.as_slice.ensures.value)
+    (steps-at plan ends later e c.args.steps.now c.len.result c.index-steps-len.result steps
+    (omega (arith, c.len.ensures, c.args.begun.now.standings.ok.0, begun.as_many)) c.index-steps-len.is) in
+    let seats = map new_half c.args.begun.now.seats in
+    let first = first-of g.L.Link plan e c.args.end greeted clock heard c.as_slice.result.now seats in
+    on-ok-map _ _ c.take_up.result (λ took. bound-next g.L.Link plan clock whole ends
+    c.args.begun.now.standings.items c.args.begun.now.items.items c.args.begun.now.jobs.items
+    c.args.begun.now.writers.items c.args.begun.now.seats begun _ _ _ _ _ e c.args.end.app.now first
+    (is-begun g.L.Link plan e c.args.end greeted clock heard c.as_slice.result.now has seats
+    (length-map c.args.begun.now.seats new_half ∙ begun.tenants) (not-drawn-new c.args.begun.now.seats)) took refl
+    c.shares_suffice.ensures.seats_once_more) (c.take_up.ensures first.life heard.lived refl)

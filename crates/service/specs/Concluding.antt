@@ -1,0 +1,52 @@
+-- The code's own: what became of connections, from where they stood and what was done on those that were bound.
+use Rattle.std.specs.Prelude.{◌≡◌, List, [], ◌∷◌, All, length, map}
+use Rattle.std.specs.List.{AllZip}
+use Rattle.mrpc_base.specs.declared.clock.Clock.{Ghosts as ClockMembers}
+use Rattle.mrpc_base.specs.declared.link.Link.{Ghosts as LinkMembers}
+use Rattle.tenant_quota.specs.Drawing.{Drawing, all_shares}
+use Rattle.run_plan.specs.declared.plan.Plan.{Plan}
+use Rattle.service_run.specs.Closings.{Opening}
+use Rattle.service_run.specs.Joining.{SplitInto}
+use Rattle.service_run.specs.Served.{HasServed}
+use Rattle.service_run.specs.declared.meeting.Met.{Met}
+use Rattle.service.specs.Ends.{Opened}
+use Rattle.service.specs.Served.{WasServed}
+use Rattle.service.specs.Standing.{AreStanding}
+use Rattle.service.specs.declared.beginning.Standing.{Standing}
+use Rattle.service.specs.declared.beginning.Standing.TheVariants as standing
+use Rattle.service.specs.declared.concluding.Done.{Done}
+use Rattle.service.specs.declared.served.Outcome.TheVariants as outcome
+use Rattle.service.specs.declared.served.ServedConn.{ServedConn}
+
+-- each connection that was bound, with the next of what was done
+abbrev pub outcomes_of : {L : Type 0} → List (Standing L) → List (Done L) → List (ServedConn L)
+outcomes_of [] done = []
+outcomes_of (standing.Unbound conn link why ∷ standings) done =
+    record { conn = conn; link = link; outcome = outcome.Unbound why } ∷ outcomes_of standings done
+outcomes_of (standing.Bound conn ∷ standings) [] = []
+outcomes_of (standing.Bound conn ∷ standings) (d ∷ done) =
+    record { conn = conn; link = d.link; outcome = outcome.Bound d.bound } ∷ outcomes_of standings done
+
+-- what was done, without the seats
+pub record AreDone {L : Type 0} (met : Met L) (done : Done L) : Type 0 where
+  pub bound : done.bound ≡ met.bound
+  pub link : done.link ≡ met.link
+
+module _ {C L : Type 0} (of_clock : ClockMembers C) (of_link : LinkMembers L) (plan : Plan) (clock : C) where
+  -- what a run did on the connection of an end that was opened, whose link is that end's, later on
+  pub record WasServedAt (e : Opened L) (s : ServedConn L) : Type 0 where
+    pub served : WasServed of_clock of_link plan clock e.conn s
+    pub same_link : (first : L) → of_link.since first e.link → of_link.since first s.link
+
+  -- A run is over: the connections stood so when it began, those that were bound were served, and their seats were taken
+  -- of the whole, which has all shares.
+  pub record HaveRun (ends : List (Opened L)) (standings : List (Standing L)) (met : List (Met L))
+      (seats : List Drawing) : Type 0 where
+    pub openings : List (Opening C L)
+    pub standing : AreStanding of_link plan clock ends standings openings
+    pub served : AllZip (λ o m. HasServed of_clock of_link o m.bound m.seats m.link) openings met
+    pub whole : List Drawing
+    pub shares : All (λ seat. seat.share ≡ all_shares) whole
+    pub split : SplitInto whole (map (λ o. o.begun.seats) openings) seats
+    pub tenants : length seats ≡ length plan.declared.tenants
+    pub not_drawn : All (λ seat. seat.draws ≡ []) seats

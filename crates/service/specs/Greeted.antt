@@ -1,0 +1,100 @@
+-- The code's own: ends of links that were greeted.
+use Rattle.std.specs.Prelude.{◌≡◌, ◌≢◌, ℕ, List, [], ◌∷◌, ◌++◌, Bool, Option, Some, None, true, false}
+use Rattle.std.specs.List.{AllZip}
+use Rattle.std.specs.Io.KnownBytes.{Appends}
+use Rattle.std.specs.Option.{option_copied}
+use Rattle.mrpc_base.specs.Faults.{HasCause, Rose}
+use Rattle.mrpc_base.specs.declared.link.Link.{Ghosts as LinkMembers}
+use Rattle.mrpc_table.specs.declared.table.Table.{Table}
+use Rattle.frame_transport.specs.declared.fault.FeedFault.{FeedFault}
+use Rattle.frame_transport.specs.declared.format.Frame.{Frame}
+use Rattle.receive_core.specs.Life.{fed, greeted, no_life}
+use Rattle.deliveries.specs.Arriving.{HaveLived}
+use Rattle.deliveries.specs.declared.arrivals.Arrivals.{Arrivals}
+use Rattle.deliveries.specs.declared.arrivals.Stream.{Stream}
+use Rattle.deliveries.specs.declared.arrivals.Stream.TheVariants.{Failed}
+use Rattle.link_greeting.specs.Greeting.{IsBound, IsUnbound, SaysWhy}
+use Rattle.link_greeting.specs.declared.unbound.Unbound.{Unbound}
+use Rattle.run_plan.specs.Chains.{inbound_of, table_of}
+use Rattle.run_plan.specs.Ports.{application_in}
+use Rattle.run_plan.specs.declared.application.Application.{Application}
+use Rattle.run_plan.specs.declared.plan.Plan.{Plan}
+use Rattle.shared_heap.specs.Fresh.{Reading}
+use Rattle.service.specs.Ends.{Opened, conns_of}
+use Rattle.service.specs.Served.{ArePairs, IsNewLink, WasRefused, hello_in}
+use Rattle.service.specs.declared.greeting.Greeted.{Greeted}
+use Rattle.service.specs.declared.greeting.Introduced.{Introduced}
+
+-- What leaves a connection unbound, by what its link gave and by its faults: what came shows why, unless its own hello
+-- wasn't said, since its link failed at it.
+pub record WasLeft (service : List ℕ) (T : Table) (given given' : Option (List ℕ)) (faults faults' : ℕ) (said : Bool)
+    (why : Unbound) : Type 0 where
+  pub stream : List ℕ
+  pub fault : Option FeedFault
+  pub state : Stream
+  pub came : Appends given given' stream
+  pub unbound : IsUnbound T service stream fault state why
+  pub says : SaysWhy why
+  pub cause : said ≡ true → HasCause (state ≡ Failed) faults faults'
+  pub failed : said ≡ false → state ≡ Failed
+  pub stays : said ≡ false → faults' ≡ faults
+
+module _ {L : Type 0} (of_link : LinkMembers L) (plan : Plan) where
+  -- Nothing came of a link yet. It was handed its hello where this was said, and else nothing, since it failed.
+  pub record WasSaid (app : Application) (start now : L) (said : Bool) : Type 0 where
+    pub given : of_link.given now ≡ of_link.given start
+    pub handed : said ≡ true → of_link.handed now ≡ hello_in plan app ∷ []
+    pub not_handed : said ≡ false → of_link.handed now ≡ []
+    pub stays : said ≡ true → of_link.faults now ≡ of_link.faults start
+    pub rose : said ≡ false → Rose (of_link.faults start) (of_link.faults now)
+    pub same_link : (first : L) → of_link.since first start → of_link.since first now
+
+  -- an end of a link of a connection of the plan, which said its hello or failed at it
+  pub record WasIntroduced (e : Opened L) (i : Introduced L) : Type 0 where
+    pub its_app : application_in plan.applications e.conn ≡ Some i.app.now
+    pub is_new : IsNewLink of_link e.link
+    pub said : WasSaid i.app.now e.link i.link i.said
+
+  -- a link gave a hello by which a connection is bound, behind which its arrivals live on
+  pub record WasHeard (app : Application) (start now : L) (a : Arrivals) (reader : Reading) : Type 0 where
+    pub stream : List ℕ
+    pub fault : Option FeedFault
+    pub hello : Frame
+    pub came : Appends (of_link.given start) (of_link.given now) stream
+    pub bound : IsBound (table_of plan app) plan.service stream fault hello
+    pub lived : HaveLived (greeted (fed no_life stream fault) hello) a
+    pub handed : of_link.handed now ≡ hello_in plan app ∷ []
+    pub faults : of_link.faults now ≡ 0
+    pub working : a.stream ≢ Failed
+    pub none_held : a.inbound.heap.held ≡ []
+    pub policy : option_copied a.policy ≡ inbound_of plan app
+    pub one_heap : reader.heap ≡ a.writer.heap
+    pub not_loaded : reader.loads ≡ []
+    pub words : reader.heap.words ≡ app.receive
+
+  -- what an end heard: the hello of the other side, or what leaves the connection unbound
+  abbrev pub Heard : Application → L → L → Arrivals → Reading → Option Unbound → Type 0
+  Heard app start now a reader None = WasHeard app start now a reader
+  Heard app start now a reader (Some why) = WasRefused of_link plan app start now why
+
+  -- an end of a link of a connection of the plan, which was greeted
+  pub record WasGreeted (e : Opened L) (g : Greeted L) : Type 0 where
+    pub its_app : application_in plan.applications e.conn ≡ Some g.app.now
+    pub is_new : IsNewLink of_link e.link
+    pub same_link : (first : L) → of_link.since first e.link → of_link.since first g.link
+    pub heard : Heard g.app.now e.link g.link g.arrivals g.reader g.unbound
+
+  -- both ends of a link were greeted, and stand behind others
+  pub record BothGreeted (a b : Opened L) (greeted greeted' : List (Greeted L)) : Type 0 where
+    pub first : Greeted L
+    pub second : Greeted L
+    pub added : greeted' ≡ greeted ++ first ∷ second ∷ []
+    pub a_greeted : WasGreeted a first
+    pub b_greeted : WasGreeted b second
+
+  -- the ends of connections, two by two those of one link, were opened and greeted
+  pub record WereGreeted (pair : L → L → Type 0) (conns : List ℕ) (greeted : List (Greeted L)) : Type 0 where
+    pub ends : List (Opened L)
+    pub are : conns_of ends ≡ conns
+    pub pairs : ArePairs (λ e. e.link) pair ends
+    pub each : AllZip WasGreeted ends greeted

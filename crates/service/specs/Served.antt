@@ -1,0 +1,125 @@
+-- What a run did on the connections of its plan (this project's own).
+use Rattle.std.specs.Prelude.{◌≡◌, ◌⊎◌, ℕ, List, [], ◌∷◌, All, length, Option, Some, false}
+use Rattle.std.specs.List.{flat_map}
+use Rattle.std.specs.Io.KnownBytes.{Appends}
+use Rattle.std.specs.Option.{option_copied}
+use Rattle.mrpc_base.specs.Faults.{HasCause}
+use Rattle.mrpc_base.specs.Linking.{TellsNone}
+use Rattle.mrpc_base.specs.declared.clock.Clock.{Ghosts as ClockMembers}
+use Rattle.mrpc_base.specs.declared.link.Link.{Ghosts as LinkMembers}
+use Rattle.frame_transport.specs.declared.fault.FeedFault.{FeedFault}
+use Rattle.frame_transport.specs.declared.format.Frame.{Frame}
+use Rattle.tenant_quota.specs.Drawing.{Drawing}
+use Rattle.call_history.specs.Tickets.{tickets_behind}
+use Rattle.conn_core.specs.Connections.{behind}
+use Rattle.receive_core.specs.Life.{fed, greeted, no_life}
+use Rattle.deliveries.specs.declared.arrivals.Stream.{Stream}
+use Rattle.deliveries.specs.declared.arrivals.Stream.TheVariants.{Failed}
+use Rattle.link_greeting.specs.Greeting.{IsBound, IsUnbound, SaysWhy, hello_of}
+use Rattle.link_greeting.specs.declared.unbound.Unbound.{Unbound as Cause}
+use Rattle.run_plan.specs.Chains.{inbound_of, table_of}
+use Rattle.run_plan.specs.Ports.{application_in}
+use Rattle.run_plan.specs.declared.application.Application.{Application}
+use Rattle.run_plan.specs.declared.plan.Plan.{Plan}
+use Rattle.service_wiring.specs.Stepping.{IsStepsOf}
+use Rattle.service_run.specs.Closings.{Opening}
+use Rattle.service_run.specs.Served.{HasServed}
+use Rattle.service_run.specs.declared.served.BoundConn.{BoundConn}
+use Rattle.service.specs.declared.served.Outcome.{Outcome}
+use Rattle.service.specs.declared.served.Outcome.TheVariants.{Unbound, Bound}
+use Rattle.service.specs.declared.served.ServedConn.{ServedConn}
+
+-- the hello of the connection of an application: a frame that says the plan's service and the application's table
+abbrev pub hello_in : Plan → Application → List ℕ
+hello_in plan app = hello_of app.conn plan.service (table_of plan app)
+
+-- ---- links
+
+-- a link as it was opened: nothing was handed to it, nothing came of it, and it never failed
+pub record IsNewLink {L : Type 0} (of_link : LinkMembers L) (link : L) : Type 0 where
+  pub handed : of_link.handed link ≡ []
+  pub given : TellsNone (of_link.given link)
+  pub not_ended : of_link.ended link ≡ false
+  pub faults : of_link.faults link ≡ 0
+
+-- each two in turn have the ends of one link
+abbrev pub ArePairs : {A L : Type 0} → (A → L) → (L → L → Type 0) → List A → Type 0
+ArePairs link pair [] = Unit {0}
+ArePairs link pair (a ∷ []) = ⊥
+ArePairs link pair (a ∷ b ∷ more) = pair (link a) (link b) × ArePairs link pair more
+
+-- ---- what became of a connection
+
+-- A connection wasn't bound: what its link gave, up to the stream's state, leaves it unbound for this cause. Its link
+-- was handed its hello alone, or nothing where it failed at it; its count of faults rose where the stream failed, and
+-- only there.
+pub record WasRefused {L : Type 0} (of_link : LinkMembers L) (plan : Plan) (app : Application) (start now : L)
+    (why : Cause) : Type 0 where
+  pub stream : List ℕ
+  pub fault : Option FeedFault
+  pub state : Stream
+  pub came : Appends (of_link.given start) (of_link.given now) stream
+  pub unbound : IsUnbound (table_of plan app) plan.service stream fault state why
+  pub says : SaysWhy why
+  pub handed : (of_link.handed now ≡ hello_in plan app ∷ []) ⊎ ((of_link.handed now ≡ []) × (state ≡ Failed))
+  pub cause : HasCause (state ≡ Failed) (of_link.faults start) (of_link.faults now)
+
+-- A connection was bound, and began so: by the hello with which what its link gave begins, behind which its receiver
+-- lives on with what came after it; with its own hello handed over, and no fault of its link; with the steps of
+-- operators that the plan has for it, the policy by which its application's messages are judged, a new heap for these,
+-- and seats of all tenants, which drew nothing.
+pub record WasBound {C L : Type 0} (of_link : LinkMembers L) (plan : Plan) (clock : C) (app : Application) (start : L)
+    (opening : Opening C L) : Type 0 where
+  pub its_plan : opening.plan ≡ plan
+  pub its_app : opening.app ≡ app
+  pub its_clock : opening.begun.clock ≡ clock
+  pub stream : List ℕ
+  pub fault : Option FeedFault
+  pub hello : Frame
+  pub came : Appends (of_link.given start) (of_link.given opening.begun.link) stream
+  pub bound : IsBound (table_of plan app) plan.service stream fault hello
+  pub life : opening.begun.life ≡ greeted (fed no_life stream fault) hello
+  pub handed : of_link.handed opening.begun.link ≡ hello_in plan app ∷ []
+  pub faults : of_link.faults opening.begun.link ≡ 0
+  pub steps : IsStepsOf plan app opening.begun.steps
+  pub policy : option_copied opening.begun.arrivals.policy ≡ inbound_of plan app
+  pub words : opening.begun.reader.heap.words ≡ app.receive
+  pub not_loaded : opening.begun.reader.loads ≡ []
+  pub seats : length opening.begun.seats ≡ length plan.declared.tenants
+  pub not_drawn : All (λ seat. seat.draws ≡ []) opening.begun.seats
+
+-- what a run did on a connection that was bound, and what is left of its seats
+pub record WasServedBound {C L : Type 0} (of_clock : ClockMembers C) (of_link : LinkMembers L) (plan : Plan) (clock : C)
+    (app : Application) (start now : L) (b : BoundConn) : Type 0 where
+  pub opening : Opening C L
+  pub seats : List Drawing
+  pub bound : WasBound of_link plan clock app start opening
+  pub served : HasServed of_clock of_link opening b seats now
+
+module _ {C L : Type 0} (of_clock : ClockMembers C) (of_link : LinkMembers L) (plan : Plan) (clock : C) where
+  -- what became of an application's connection, whose link was first so, and is so now
+  abbrev pub Became : Application → L → L → Outcome → Type 0
+  Became app start now (Unbound why) = WasRefused of_link plan app start now why
+  Became app start now (Bound b) = WasServedBound of_clock of_link plan clock app start now b
+
+  -- what a run did on the connection of a number: it is that of the plan's application, and its link is one that was
+  -- opened for it, later on
+  pub record WasServed (conn : ℕ) (s : ServedConn L) : Type 0 where
+    pub app : Application
+    pub its_app : application_in plan.applications conn ≡ Some app
+    pub number : s.conn ≡ conn
+    pub start : L
+    pub is_new : IsNewLink of_link start
+    pub same_link : (first : L) → of_link.since first start → of_link.since first s.link
+    pub became : Became app start s.link s.outcome
+
+-- ---- tickets
+
+-- the tickets that the history of a connection tells, of a tenant's window
+abbrev pub tickets_on : ℕ → ℕ → Outcome → List ℕ
+tickets_on tenant window (Unbound why) = []
+tickets_on tenant window (Bound b) = tickets_behind tenant window (behind b.submissions.conn)
+
+-- those of all connections of a run
+abbrev pub all_tickets : {L : Type 0} → ℕ → ℕ → List (ServedConn L) → List ℕ
+all_tickets tenant window conns = flat_map (λ s. tickets_on tenant window s.outcome) conns

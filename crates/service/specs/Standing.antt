@@ -1,0 +1,90 @@
+-- The code's own: where the connections of a run stand when its threads begin.
+use Rattle.std.specs.Prelude.{◌≡◌, ◌≤◌, ℕ, List, [], ◌∷◌, ◌++◌, All, length, map, Some}
+use Rattle.std.specs.Global.{Vec}
+use Rattle.std.specs.List.{AllZip}
+use Rattle.mrpc_base.specs.declared.link.Link.{Ghosts as LinkMembers}
+use Rattle.tenant_quota.specs.Drawing.{Drawing, WasSplit, all_shares, kept_half}
+use Rattle.link_greeting.specs.declared.unbound.Unbound.{Unbound as Cause}
+use Rattle.link_queue.specs.declared.writer.QueueWriter.{QueueWriter}
+use Rattle.run_plan.specs.Ports.{application_in}
+use Rattle.run_plan.specs.declared.application.Application.{Application}
+use Rattle.run_plan.specs.declared.plan.Plan.{Plan}
+use Rattle.service_loop.specs.declared.due_step.DueStep.{DueStep}
+use Rattle.service_wiring.specs.Wired.{Beginning, IsWired}
+use Rattle.service_wiring.specs.declared.applications.Job.{Job}
+use Rattle.service_run.specs.Closings.{AreWired, Item, Opening}
+use Rattle.service_run.specs.Joining.{SplitInto}
+use Rattle.service.specs.Ends.{Opened}
+use Rattle.service.specs.Prepared.{HasSteps}
+use Rattle.service.specs.Served.{IsNewLink, WasBound, WasRefused}
+use Rattle.service.specs.declared.beginning.Standing.{Standing}
+use Rattle.service.specs.declared.beginning.Standing.TheVariants.{Bound, Unbound}
+
+module _ {C L : Type 0} (of_link : LinkMembers L) (plan : Plan) (clock : C) where
+  -- an end of a link whose connection isn't bound
+  pub record IsOut (e : Opened L) (conn : ℕ) (link : L) (why : Cause) : Type 0 where
+    pub app : Application
+    pub its_app : application_in plan.applications e.conn ≡ Some app
+    pub number : conn ≡ e.conn
+    pub is_new : IsNewLink of_link e.link
+    pub same_link : (first : L) → of_link.since first e.link → of_link.since first link
+    pub refused : WasRefused of_link plan app e.link link why
+
+  -- an end of a link whose connection began so
+  pub record IsBegun (e : Opened L) (conn : ℕ) (o : Opening C L) : Type 0 where
+    pub app : Application
+    pub its_app : application_in plan.applications e.conn ≡ Some app
+    pub number : conn ≡ e.conn
+    pub is_new : IsNewLink of_link e.link
+    pub same_link : (first : L) → of_link.since first e.link → of_link.since first o.begun.link
+    pub bound : WasBound of_link plan clock app e.link o
+
+  -- where each connection stands; those that are bound began so, in the same order
+  abbrev pub AreStanding : List (Opened L) → List (Standing L) → List (Opening C L) → Type 0
+  AreStanding [] [] openings = openings ≡ []
+  AreStanding (e ∷ ends) (Unbound conn link why ∷ standings) openings =
+      IsOut e conn link why × AreStanding ends standings openings
+  AreStanding (e ∷ ends) (Bound conn ∷ standings) openings = (o : Opening C L) × (more : List (Opening C L))
+      × (openings ≡ o ∷ more) × IsBegun e conn o × AreStanding ends standings more
+  AreStanding _ _ _ = ⊥
+
+-- Connections have begun at these ends, of which the bound ones took their seats of the whole.
+pub record HaveBegun {C R L : Type 0} (of_link : LinkMembers L) (plan : Plan) (clock : C) (whole : List Drawing)
+    (ends : List (Opened L)) (standings : List (Standing L)) (items : List (Item C)) (jobs : List Job)
+    (writers : List (QueueWriter R L of_link)) (seats : List Drawing) : Type 0 where
+  pub openings : List (Opening C L)
+  pub standing : AreStanding of_link plan clock ends standings openings
+  pub wired : AreWired openings items jobs writers
+  pub split : SplitInto whole (map (λ o. o.begun.seats) openings) seats
+  pub shares : All (λ seat. WasSplit (length items) seat.share) seats
+  pub tenants : length seats ≡ length plan.declared.tenants
+  pub not_drawn : All (λ seat. seat.draws ≡ []) seats
+  pub few : length items ≤ length ends
+  pub as_many : length standings ≡ length ends
+
+-- Connections have begun at all of these ends. The whole of the seats, which drew nothing, has all shares.
+pub record AllBegun {C R L : Type 0} (of_link : LinkMembers L) (plan : Plan) (clock : C) (ends : List (Opened L))
+    (standings : List (Standing L)) (items : List (Item C)) (jobs : List Job) (writers : List (QueueWriter R L of_link))
+    (seats : List Drawing) : Type 0 where
+  pub whole : List Drawing
+  pub shares : All (λ seat. seat.share ≡ all_shares) whole
+  pub begun : HaveBegun of_link plan clock whole ends standings items jobs writers seats
+
+-- these are the steps on the connection of each end
+abbrev pub HaveStepsAt : {L : Type 0} → Plan → List (Opened L) → List (Vec DueStep) → Type 0
+HaveStepsAt plan ends steps = AllZip (λ e due. HasSteps plan e.conn due.items) ends steps
+
+-- A bound connection of an application, which began so, was taken up behind the others: it stands among them, and
+-- what its threads get stands behind what theirs get. It took half of each share.
+pub record TookUp {C R L : Type 0} {g : LinkMembers L} (plan : Plan) (app : Application) (first : Beginning C L)
+    (standings standings' : List (Standing L)) (items items' : List (Item C)) (jobs jobs' : List Job)
+    (writers writers' : List (QueueWriter R L g)) (seats seats' : List Drawing) : Type 0 where
+  pub item : Item C
+  pub job : Job
+  pub writer : QueueWriter R L g
+  pub wired : IsWired plan app first item job writer
+  pub stands : standings' ≡ standings ++ Bound app.conn ∷ []
+  pub one_item : items' ≡ items ++ item ∷ []
+  pub one_job : jobs' ≡ jobs ++ job ∷ []
+  pub one_writer : writers' ≡ writers ++ writer ∷ []
+  pub halves : seats' ≡ map kept_half seats

@@ -1,0 +1,224 @@
+//! The links of a run, and how they begin.
+
+ghost use Rattle.std.specs.Prelude.{◌≡◌, ◌≢◌, ◌<◌, ◌≤◌, ◌+◌, ◌++◌, ◌^◌, [], ◌∷◌, Contains, IfOk, IfSome, IsErrOf, None, OnErr, OnOk, Some, false, length, true};
+ghost use Rattle.mrpc_base.specs.Faults.{HasCause};
+ghost use Rattle.receive_core.specs.Life.{no_life};
+ghost use Rattle.deliveries.specs.Arriving.{AreSame, HaveLived};
+ghost use Rattle.link_greeting.specs.Greeting.{HasBound};
+ghost use Rattle.run_plan.specs.Plans.{IsPlan};
+ghost use Rattle.run_plan.specs.Ports.{all_ends, connections_of};
+ghost use Rattle.service.specs.Ends.{Opened};
+ghost use Rattle.service.specs.Greeted.{BothGreeted, WasGreeted, WasIntroduced, WasLeft, WereGreeted};
+ghost use Rattle.service.specs.Served.{IsNewLink};
+
+use crate::fault::ServeFault;
+use crate::pairs::push_pair;
+use deliveries::{Arrivals, Stream};
+use link_greeting::{Unbound, hear_hello, no_arrivals, say_hello};
+use mrpc_base::{Fabric, Link, OpenFault};
+use mrpc_table::{Memory, Name};
+use receive_core::Inbound;
+use run_plan::{Application, Pair, Plan};
+use shared_heap::Reader;
+use std::alloc::Global;
+use std::sync::Wait;
+
+// How many bytes are received at once, at the most.
+const MOST_BYTES: usize = 65536;
+
+// An end of a link that said its hello, or whose link failed at it.
+#[derive(Drop)]
+pub(crate) struct Introduced<'t, L> {
+    pub app: &'t Application,
+    pub link: L,
+    pub said: bool,
+}
+
+// An end of a link that was greeted: the connection is bound, or it isn't, for a cause.
+#[derive(Drop)]
+pub(crate) struct Greeted<'t, L> {
+    pub app: &'t Application,
+    pub link: L,
+    pub arrivals: Arrivals<'t>,
+    pub reader: Reader,
+    pub unbound: Option<Unbound>,
+}
+
+// Opens the link of each pair of a plan, and greets both of its ends, pair by pair.
+pub(crate) fn greet_all<'t, R: Wait, F: Fabric>(
+    rt: &R,
+    alloc: Global,
+    plan: &'t Plan,
+    fabric: &mut F,
+) -> Result<Vec<Greeted<'t, F::L>>, ServeFault>
+    requires { IsPlan plan.now }
+    ensures greeted { IfOk result (λ ends.
+        WereGreeted F.L.Link plan.now F.pair (all_ends plan.now.links) ends.items) }
+    ensures away { IfOk result (λ ends. F.away fabric.new ≡ F.away fabric.old + length ends.items) }
+    ensures back { F.back fabric.new ≡ F.back fabric.old }
+    ensures cause { HasCause (IsErrOf result ServeFault.Fabric) (F.faults fabric.old) (F.faults fabric.new) }
+{
+    let mut ends = Vec::new(alloc);
+    let links = plan.links.as_slice();
+    'pairs: for pair in links {
+        let (a, b) = open_pair(fabric, pair)?;
+        greet_pair(rt, alloc, plan, pair, a, b, &mut ends)?;
+    }
+    Ok(ends)
+}
+
+// Opens the link of a pair.
+fn open_pair<F: Fabric>(fabric: &mut F, pair: &Pair) -> Result<(F::L, F::L), ServeFault>
+    ensures pair { IfOk result (λ ends. F.pair ends.0 ends.1) }
+    ensures first { IfOk result (λ ends. IsNewLink F.L.Link ends.0) }
+    ensures second { IfOk result (λ ends. IsNewLink F.L.Link ends.1) }
+    ensures away { IfOk result (λ ends. F.away fabric.new ≡ F.away fabric.old + 2) }
+    ensures back { F.back fabric.new ≡ F.back fabric.old }
+    ensures cause { HasCause (IsErrOf result ServeFault.Fabric) (F.faults fabric.old) (F.faults fabric.new) }
+{
+    match fabric.open_pair(pair.a, pair.b) {
+        Ok(ends) => Ok(ends),
+        Err(OpenFault::Failed) => Err(ServeFault::Fabric),
+        Err(OpenFault::Memory) => Err(ServeFault::Memory),
+    }
+}
+
+// Has both ends of a link say their hellos, and then each hear the other's.
+fn greet_pair<'t, R: Wait, L: Link + Drop>(
+    rt: &R,
+    alloc: Global,
+    plan: &'t Plan,
+    pair: &Pair,
+    a: L,
+    b: L,
+    ends: &mut Vec<Greeted<'t, L>>,
+) -> Result<(), Memory>
+    requires plan { IsPlan plan.now }
+    requires known_a { Contains (connections_of plan.now.applications) pair.now.a }
+    requires known_b { Contains (connections_of plan.now.applications) pair.now.b }
+    requires new_a { IsNewLink L.Link a }
+    requires new_b { IsNewLink L.Link b }
+    ensures { OnOk result (BothGreeted L.Link plan.now (record { conn = pair.now.a; link = a })
+        (record { conn = pair.now.b; link = b }) ends.old.items ends.new.items) }
+{
+    let one = introduce(alloc, plan, pair.a, a)?;
+    let other = introduce(alloc, plan, pair.b, b)?;
+    let first = greet(rt, alloc, plan, one)?;
+    let second = greet(rt, alloc, plan, other)?;
+    push_pair(ends, first, second)
+}
+
+// Says the hello of a connection. Where the link failed at it, it is finished, so that the other end waits no longer.
+fn introduce<'t, L: Link + Drop>(
+    alloc: Global,
+    plan: &'t Plan,
+    conn: u32,
+    mut link: L,
+) -> Result<Introduced<'t, L>, Memory>
+    requires plan { IsPlan plan.now }
+    requires known { Contains (connections_of plan.now.applications) conn }
+    requires is_new { IsNewLink L.Link link }
+    ensures { IfOk result (λ end. WasIntroduced L.Link plan.now (record { conn = conn; link = link }) end) }
+{
+    let Some(app) = plan.application(conn) else {
+        unreachable!()
+    };
+    let table = plan.table_of(app);
+    let said = say_hello(alloc, conn, table, &plan.service, &mut link)?;
+    finish_where(!said, &mut link);
+    Ok(Introduced { app, link, said })
+}
+
+// Hears the hello of the other end. Where the connection isn't bound, its link is finished.
+fn greet<'t, R: Wait, L: Link + Drop>(
+    rt: &R,
+    alloc: Global,
+    plan: &'t Plan,
+    end: Introduced<'t, L>,
+) -> Result<Greeted<'t, L>, Memory>
+    requires plan { IsPlan plan.now }
+    requires introduced { (e : Opened L) × WasIntroduced L.Link plan.now e end }
+    ensures { (e : Opened L) → WasIntroduced L.Link plan.now e end.entry
+        → IfOk result (λ greeted. WasGreeted L.Link plan.now e greeted) }
+{
+    let Introduced {
+        app,
+        mut link,
+        said,
+    } = end;
+    let (writer, reader) = shared_heap::open(alloc, app.receive)?;
+    let inbound = Inbound::open(alloc, app.conn, app.receive)?;
+    let table = plan.table_of(app);
+    let policy = plan.inbound_of(app);
+    let mut arrivals = no_arrivals(alloc, inbound, writer, table, policy);
+    let mut buffer = receive_buffer(alloc)?;
+    let unbound = hear(
+        rt,
+        alloc,
+        &plan.service,
+        said,
+        &mut link,
+        &mut arrivals,
+        buffer.as_mut_slice(),
+    )?;
+    finish_where(unbound.is_some(), &mut link);
+    Ok(Greeted {
+        app,
+        link,
+        arrivals,
+        reader,
+        unbound,
+    })
+}
+
+// Where bytes are received.
+fn receive_buffer(alloc: Global) -> Result<Vec<u8>, Memory>
+    ensures { IfOk result (λ buffer. length buffer.items ≡ MOST_BYTES) }
+{
+    Ok(vec![in alloc; 0; MOST_BYTES]?)
+}
+
+// Hears the other's hello, where its own was said.
+fn hear<R: Wait, L: Link>(
+    rt: &R,
+    alloc: Global,
+    service: &Name,
+    said: bool,
+    link: &mut L,
+    arrivals: &mut Arrivals,
+    buffer: &mut [u8],
+) -> Result<Option<Unbound>, Memory>
+    requires lived { HaveLived no_life arrivals.old }
+    requires open { arrivals.old.stream ≡ Stream.Open }
+    requires room { 0 < length buffer.old }
+    requires most { length buffer.old ≤ 2 ^ 32 }
+
+    ensures bound { result ≡ Ok None → HasBound service.now (L.given link.old) (L.given link.new) arrivals.new }
+    ensures said { result ≡ Ok None → said ≡ true }
+    ensures working { result ≡ Ok None → arrivals.new.stream ≢ Stream.Failed }
+    ensures no_fault { result ≡ Ok None → L.faults link.new ≡ L.faults link.old }
+    ensures left { IfOk result (λ unbound. IfSome unbound (λ why. WasLeft service.now arrivals.new.table.now
+        (L.given link.old) (L.given link.new) (L.faults link.old) (L.faults link.new) said why)) }
+
+    ensures same { AreSame arrivals.old arrivals.new }
+    ensures heap { arrivals.new.inbound.heap ≡ arrivals.old.inbound.heap }
+    ensures handed { L.handed link.new ≡ L.handed link.old }
+    ensures same_link { (first : L) → L.since first link.old → L.since first link.new }
+{
+    if !said {
+        return Ok(Some(Unbound::Transport));
+    }
+    hear_hello(rt, alloc, service, link, arrivals, buffer)
+}
+
+// Finishes a link, or leaves it.
+fn finish_where<L: Link>(over: bool, link: &mut L)
+    ensures handed { L.handed link.new ≡ L.handed link.old }
+    ensures given { L.given link.new ≡ L.given link.old }
+    ensures faults { L.faults link.new ≡ L.faults link.old }
+    ensures same_link { (first : L) → L.since first link.old → L.since first link.new }
+{
+    if over {
+        link.finish();
+    }
+}

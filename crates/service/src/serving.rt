@@ -1,0 +1,111 @@
+//! A run.
+
+ghost use Rattle.std.specs.Prelude.{◌≡◌, ◌<◌, ◌≤◌, ◌+◌, ◌^◌, ℕ, IfOk, IsErrOf, List, length};
+ghost use Rattle.std.specs.List.{AllZip};
+ghost use Rattle.mrpc_base.specs.Faults.{HasCause};
+ghost use Rattle.mrpc_base.specs.declared.tickets.TheConstants.{WINDOWS};
+ghost use Rattle.tenant_quota.specs.Drawing.{EachOnce};
+ghost use Rattle.run_plan.specs.Plans.{IsPlan};
+ghost use Rattle.run_plan.specs.Ports.{all_ends};
+ghost use Rattle.worker_pool.specs.declared.limits.TheConstants.{MOST_ITEMS};
+ghost use Rattle.service.specs.Concluding.{WasServedAt};
+ghost use Rattle.service.specs.Ends.{Opened};
+ghost use Rattle.service.specs.Greeted.{WasGreeted};
+ghost use Rattle.service.specs.Prepared.{IsPrepared};
+ghost use Rattle.service.specs.Served.{ArePairs, WasServed, all_tickets};
+ghost use Rattle.service.specs.Standing.{HaveStepsAt};
+
+use crate::beginning::{Begun, begin_all};
+use crate::concluding::conclude;
+use crate::fault::ServeFault;
+use crate::greeting::{Greeted, greet_all};
+use crate::prepared::Prepared;
+use crate::served::Served;
+use mrpc_base::{Clock, Fabric, Gate, Link, ReadyOrder};
+use mrpc_table::Memory;
+use run_plan::Plan;
+use service_loop::DueStep;
+use service_run::run_wired;
+use service_wiring::Common;
+use std::alloc::Global;
+use std::sync::Wait;
+use std::thread::Threads;
+
+/// Runs a plan over the links of a fabric, up to the end of each connection: it opens the link of each pair, has both
+/// ends greet each other, and serves each connection that is bound with its application. It waits for the connections.
+/// `Fabric` comes where the fabric failed to open a link, and `Memory` where no memory was found in any thread; links
+/// that were opened are then dropped.
+pub fn serve<'t, R: Threads + Wait + Sync, F: Fabric, C: Clock, G: Gate, O: ReadyOrder>(
+    rt: &'t R,
+    alloc: Global,
+    plan: &'t Plan,
+    prepared: &'t Prepared,
+    fabric: &mut F,
+    clock: &'t C,
+    gate: &'t G,
+    order: &'t O,
+) -> Result<Served<'t, F::L>, ServeFault>
+    requires plan { IsPlan plan.now }
+    requires prepared { IsPrepared plan.now prepared.now }
+
+    // What it did on each connection, in the order of the links.
+    ensures served { IfOk result (λ served. AllZip (WasServed C.Clock F.L.Link plan.now clock.now)
+        (all_ends plan.now.links) served.conns.items) }
+
+    // Each two in turn have the ends of one link, where a link is itself, later on.
+    ensures pairs { ((link : F.L) → F.L.since link link)
+        → IfOk result (λ served. ArePairs (λ s. s.link) F.pair served.conns.items) }
+
+    // The tickets of a tenant's window are 0, 1, 2 and so on, each once.
+    ensures tickets { IfOk result (λ served. (tenant window : ℕ) → tenant < length plan.now.declared.tenants
+        → window < WINDOWS → length (all_tickets tenant window served.conns.items) < 2 ^ 64
+        → EachOnce (all_tickets tenant window served.conns.items)) }
+
+    // The fabric has no link back, and those that it gave away are here.
+    ensures away { IfOk result (λ served. F.away fabric.new ≡ F.away fabric.old + length served.conns.items) }
+    ensures back { F.back fabric.new ≡ F.back fabric.old }
+    ensures cause { HasCause (IsErrOf result ServeFault.Fabric) (F.faults fabric.old) (F.faults fabric.new) }
+{
+    let common = Common {
+        rt,
+        alloc,
+        plan,
+        clock,
+        gate,
+        order,
+        stop: &prepared.stop,
+    };
+    let greeted = greet_all(rt, alloc, plan, fabric)?;
+    let served = run_all(&common, prepared.steps.as_slice(), greeted)?;
+    Ok(served)
+}
+
+// Serves the connections whose links were greeted.
+fn run_all<'t, R: Threads + Wait + Sync, L: Link + Send + Drop, C: Clock, G: Gate, O: ReadyOrder>(
+    common: &Common<'t, R, C, G, O>,
+    steps: &'t [Vec<DueStep>],
+    greeted: Vec<Greeted<'t, L>>,
+) -> Result<Served<'t, L>, Memory>
+    requires plan { IsPlan common.now.plan.now }
+    requires greeted { (ends : List (Opened L)) × AllZip (WasGreeted L.Link common.now.plan.now) ends greeted.items
+        × HaveStepsAt common.now.plan.now ends steps.now }
+    requires few { length greeted.items ≤ MOST_ITEMS }
+    ensures served { (ends : List (Opened L)) → AllZip (WasGreeted L.Link common.now.plan.now) ends greeted.entry.items
+        → HaveStepsAt common.now.plan.now ends steps.now
+        → IfOk result (λ served. AllZip (WasServedAt C.Clock L.Link common.now.plan.now common.now.clock.now) ends
+        served.conns.items) }
+    ensures tickets { IfOk result (λ served. (tenant window : ℕ) → tenant < length common.now.plan.now.declared.tenants
+        → window < WINDOWS → length (all_tickets tenant window served.conns.items) < 2 ^ 64
+        → EachOnce (all_tickets tenant window served.conns.items)) }
+{
+    let Begun {
+        standings,
+        items,
+        jobs,
+        writers,
+        seats,
+    } = begin_all(common, steps, greeted)?;
+    let workers = common.plan.workers as usize;
+    let met = run_wired(common, workers, items, jobs, writers)?;
+    conclude(common, standings, met, seats)
+}
