@@ -23,6 +23,8 @@ impl Link for NoFrames {
 
     ghost since = { λ _ _. ⊤ };
 
+    ghost itself = { λ _. tt };
+
     // It never fails.
     ghost refused = { λ _ _ _. ⊤ };
 

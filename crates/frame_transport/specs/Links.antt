@@ -1,11 +1,13 @@
 -- What contracts see of a link over a sink.
-use Rattle.std.specs.Prelude.{◌≡◌, ◌≤◌, ℕ, Bool, List, ◌++◌, Option}
+use Rattle.std.specs.Prelude.{◌≡◌, ◌≤◌, ℕ, Bool, List, [], ◌++◌, Option, Some, None}
 use Rattle.std.specs.List.{flat_map}
 use Rattle.std.specs.Borrow.{GName}
 use Rattle.std.specs.Io.KnownBytes.{Appends}
 use Rattle.mrpc_base.specs.Faults.{Rose}
 use Rattle.mrpc_base.specs.Writing.{AppendsFront}
 use Rattle.frame_transport.specs.declared.byte_link.ByteLink.{ByteLink}
+use mathlib.Core.Path.{refl, sym}
+use mathlib.Core.List.{append-nil}
 
 -- the sink, as the link leaves it
 abbrev pub sink_of : {W : Type 0} → ByteLink W → W
@@ -35,6 +37,21 @@ pub record IsLater {W : Type 0} (written : W → Option (List ℕ)) (faults : W 
   pub handed : frames_of new ≡ frames_of old ++ more
   pub gained : failures_of new ≡ 0 → Appends (written (sink_of old)) (written (sink_of new)) (flat_map (λ frame. frame) more)
   pub same_faults : failures_of new ≡ 0 → faults (sink_of new) ≡ faults (sink_of old)
+
+appends-nothing : (bytes : Option (List ℕ)) → Appends bytes bytes []
+appends-nothing None = tt
+appends-nothing (Some bytes) = sym (append-nil bytes)
+
+-- a link is itself, later on
+pub link-itself : {W : Type 0} (written : W → Option (List ℕ)) (faults : W → ℕ) (link : ByteLink W)
+    → IsLater written faults link link
+link-itself written faults link = record {
+  same_sink = refl;
+  more = [];
+  handed = sym (append-nil (frames_of link));
+  gained = λ none. appends-nothing (written (sink_of link));
+  same_faults = λ none. refl;
+}
 
 -- a frame was refused: a front of it was written, and not all of it, since a write failed
 pub record IsRefused {W : Type 0} (written : W → Option (List ℕ)) (faults : W → ℕ) (old : ByteLink W) (frame : List ℕ)

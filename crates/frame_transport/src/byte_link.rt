@@ -57,6 +57,10 @@ impl<W: Sink> Link for ByteLink<'_, W> {
     // It writes into the same sink, which gained the frames that were handed over since, as long as no send failed.
     ghost since = { IsLater W.written W.faults };
 
+    ghost use Rattle.frame_transport.specs.Links.{link-itself};
+
+    ghost itself = { link-itself W.written W.faults };
+
     // A front of the frame is out, since a write failed.
     ghost refused = { IsRefused W.written W.faults };
 

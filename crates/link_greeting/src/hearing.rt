@@ -51,6 +51,8 @@ pub fn hear_hello<R: Wait, L: Link>(
     ensures working { result ≡ Ok None → arrivals.new.stream ≢ Stream.Failed }
     ensures cause { HasCause (arrivals.new.stream ≡ Stream.Failed) (L.faults link.old) (L.faults link.new) }
     ensures ends { arrivals.new.stream ≡ Stream.Ended → IsTrue (L.ended link.new) }
+    ensures transport { arrivals.new.stream ≡ Stream.Failed
+        → IfOk result (λ answer. answer ≡ Some Unbound.Transport) }
 
     ensures same { AreSame arrivals.old arrivals.new }
     ensures writer { arrivals.new.writer ≡ arrivals.old.writer }

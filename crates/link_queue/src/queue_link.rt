@@ -215,6 +215,10 @@ impl<'r, R: Wait> Link for QueueLink<'r, R> {
     // It has the same two queues, of as many frames at most.
     ghost since = { λ old new. (new.forward ≡ old.forward) × (new.backward ≡ old.backward) × (new.most ≡ old.most) };
 
+    ghost use mathlib.Core.Path.{refl};
+
+    ghost itself = { λ _. (refl, refl, refl) };
+
     // A refusal tells no more.
     ghost refused = { λ _ _ _. ⊤ };
 

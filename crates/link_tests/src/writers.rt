@@ -32,6 +32,10 @@ impl Link for Wanting {
 
     ghost since = { λ old new. new.in_receives ≡ old.in_receives };
 
+    ghost use mathlib.Core.Path.{refl};
+
+    ghost itself = { λ _. refl };
+
     // A refusal tells no more.
     ghost refused = { λ _ _ _. ⊤ };
 

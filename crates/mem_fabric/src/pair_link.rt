@@ -203,6 +203,10 @@ impl<'r, R: Wait> Link for PairLink<'r, R> {
     ghost since = { λ old new. (new.outward ≡ old.outward) × (new.inward ≡ old.inward)
         × (new.failing_sends ≡ old.failing_sends) × (new.failing_receives ≡ old.failing_receives) };
 
+    ghost use mathlib.Core.Path.{refl};
+
+    ghost itself = { λ _. (refl, refl, refl, refl) };
+
     // A refusal tells no more.
     ghost refused = { λ _ _ _. ⊤ };
 

@@ -52,6 +52,9 @@ pub trait Link {
     /// That the second is the first, later on: whatever a link was once, each call leaves it so.
     ghost since: { Self → Self → Type 0 };
 
+    /// It is itself, later on.
+    ghost itself: { (link : Self) → since link link };
+
     /// What a failed send of a frame tells of the link before and after the call.
     ghost refused: { Self → List ℕ → Self → Type 0 };
 

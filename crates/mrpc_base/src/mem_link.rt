@@ -167,6 +167,10 @@ impl Link for MemLink {
     ghost since = { λ old new. (new.lengths ≡ old.lengths) × (new.failing_sends ≡ old.failing_sends)
         × (new.failing_receives ≡ old.failing_receives) };
 
+    ghost use mathlib.Core.Path.{refl};
+
+    ghost itself = { λ _. (refl, refl, refl) };
+
     // Its number is listed, or the sending side was ended.
     ghost refused = { λ old _ new. Contains old.failing_sends new.sends ⊎ IsTrue old.finished };
 

@@ -2,9 +2,9 @@
 //!
 //! `specs/Scenarios.antt` says what a table says as a plan, entry by entry, and what stands against each entry; of that
 //! the first counts. The crate has these definitions, the reasons of faults, the keys of entries, the table of a schema
-//! and tenants, and reads no whole text yet. It stands on the kit's `toml`, on `proto_schema` and `schema_resolve` for
-//! schemas, on `policy_access` and `policy_redact` for the lines of policies, on `scenario_values` for what stands at
-//! keys, on `scenario_lines` for the lines of programs and operators, and on `run_plan`.
+//! and tenants; `scenario_reader` reads whole texts. It stands on the kit's `toml`, on `proto_schema` and
+//! `schema_resolve` for schemas, on `policy_access` and `policy_redact` for the lines of policies, on `scenario_values`
+//! for what stands at keys, on `scenario_lines` for the lines of programs and operators, and on `run_plan`.
 #![tactic(auto)]
 
 mod fault;

@@ -26,10 +26,10 @@ use Rattle.scenario_lines.specs.Steps.{StepSays as LineTells}
 use Rattle.scenario_lines.specs.declared.step.StepText.{StepText}
 use Rattle.scenario_lines.specs.declared.step.StepText.TheVariants as text
 use Rattle.scenario_values.specs.Values.{text_at}
-use Rattle.scenario.specs.Applications.{AppAgainst, AreAttached, FirstRefused, app_tables, chain_of, conn_of, names_in, operator_tables}
+use Rattle.scenario.specs.Applications.{AppAgainst, AreAttached, app_tables, chain_of, conn_of, names_in, operator_tables}
 use Rattle.scenario.specs.Applications as against_app
 use Rattle.scenario.specs.Lines.{policy_in}
-use Rattle.scenario.specs.Operators.{IsAttach, IsDetach, IsUpgrade, NamesPolicy, OperatorAgainst, Steps, steps_of}
+use Rattle.scenario.specs.Operators.{IsAttach, IsUpgrade, OperatorAgainst, Steps, steps_of}
 use Rattle.scenario.specs.Operators as against
 use Rattle.scenario.specs.Reasons.{of_refusal}
 use Rattle.scenario.specs.Scenarios.{AppSays, IsUsed, OperatorSays, OwnPolicySays, Says, StepLineSays, StepSays, by_app, by_step, place_of}

@@ -19,7 +19,7 @@ use Rattle.run_plan.specs.declared.plan.Plan.{Plan}
 use Rattle.toml.specs.Data.{Members, no_members}
 use Rattle.scenario_lines.specs.Programs.{Each}
 use Rattle.scenario_values.specs.Values.{text_at}
-use Rattle.scenario.specs.Applications.{AppAgainst, chain_of, names_in, policy_tables, tenant_tables}
+use Rattle.scenario.specs.Applications.{AppAgainst, names_in, policy_tables, tenant_tables}
 use Rattle.scenario.specs.Applications as against
 use Rattle.scenario.specs.Keys.{kind_of}
 use Rattle.scenario.specs.Policies.{KindSays, PolicySays, name_of}

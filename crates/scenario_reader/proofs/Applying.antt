@@ -3,11 +3,11 @@ use Rattle.std.proofs.Common.{◌≡◌, ◌⊎◌, ℕ, ◌≤◌, true, false,
 use Rattle.std.specs.Prelude.{option_and_then}
 use Rattle.std.specs.List.{list_all}
 use Rattle.std.proofs.lemmas.Bool.{both_ways}
-use Rattle.engine_core.specs.Chains.{IsChain, Refusal}
+use Rattle.engine_core.specs.Chains.{Refusal}
 use Rattle.engine_core.specs.Chains as chains
 use Rattle.policy_blocks.specs.declared.item.NamedPolicy.{NamedPolicy}
 use Rattle.toml.specs.Data.{Members}
-use Rattle.scenario.specs.Applications.{AppAgainst, AreAttached, FirstRefused, all_ends, chain_of, conn_of, conns_of, link_tables, names_in, policy_tables, program_of, submissions, work}
+use Rattle.scenario.specs.Applications.{AppAgainst, program_of}
 use Rattle.scenario.specs.Applications as against
 use Rattle.scenario.specs.Keys.{app_ranges, has_app_keys, heap, role_of}
 use Rattle.scenario.specs.Lines.{program_role}

@@ -6,9 +6,9 @@ use Rattle.policy_blocks.specs.Declarations.{Declared, policy_names, policy_plac
 use Rattle.policy_blocks.specs.declared.item.NamedPolicy.{NamedPolicy}
 use Rattle.run_plan.specs.declared.application.Application.{Application}
 use Rattle.toml.specs.Data.{Members}
-use Rattle.scenario.specs.Applications.{AppAgainst, app_tables, chain_of, conn_of, names_in, operator_tables, policy_tables}
+use Rattle.scenario.specs.Applications.{AppAgainst, app_tables, chain_of, names_in, operator_tables, policy_tables}
 use Rattle.scenario.specs.Applications as against
-use Rattle.scenario.specs.Operators.{NamesPolicy, OperatorAgainst, steps_of}
+use Rattle.scenario.specs.Operators.{OperatorAgainst}
 use Rattle.scenario.specs.Operators as operators
 use Rattle.scenario.specs.Policies.{names_of}
 use Rattle.scenario.specs.Reasons.{of_rule}

@@ -2,9 +2,9 @@
 //!
 //! [`read_scenario`] reads the keys of the whole, then tenants, policies, applications, links and operators, each list
 //! from its first entry on. It gives the plan where nothing stands against any entry, and else the first entry at fault
-//! with its first reason. A plan is a sound one, `run_plan`'s `IsPlan`: the law of that is that of `scenario_laws`. The crate stands on
-//! `scenario`, whose definitions its contract cites, and on the readers of single lists in `scenario_entries` and
-//! `scenario_policies`.
+//! with its first reason. The plan is a sound one, which is `run_plan`'s `IsPlan`, by a law of `scenario_laws`. The crate
+//! stands on `scenario`, whose definitions its contract cites, and on the readers of single lists in `scenario_entries`
+//! and `scenario_policies`.
 #![tactic(auto)]
 
 mod above;

@@ -45,12 +45,13 @@ left-unsaid service T given faults said unsaid = record {
   cause = λ agreed. both said agreed unsaid;
   failed = λ _. refl;
   stays = λ _. refl;
+  transport = λ _. refl;
 }
 
 pub left-heard : (service : List ℕ) (given given' : Option (List ℕ)) (faults faults' : ℕ) (said : Bool) (a : Arrivals)
-    (why : Unbound) → said ≡ true → HasCause (a.stream ≡ Failed) faults faults'
+    (why : Unbound) → said ≡ true → HasCause (a.stream ≡ Failed) faults faults' → (a.stream ≡ Failed → why ≡ Transport)
     → HasRefused service given given' a why → WasLeft service a.table.now given given' faults faults' said why
-left-heard service given given' faults faults' said a why agreed cause h = record {
+left-heard service given given' faults faults' said a why agreed cause transport h = record {
   stream = h.stream;
   fault = h.fault;
   state = a.stream;
@@ -60,6 +61,7 @@ left-heard service given given' faults faults' said a why agreed cause h = recor
   cause = λ _. cause;
   failed = λ unsaid. both said agreed unsaid;
   stays = λ unsaid. both said agreed unsaid;
+  transport = transport;
 }
 
 -- ---- how it was greeted
@@ -107,6 +109,7 @@ module _ {L : Type 0} (of_link : LinkMembers L) (plan : Plan) (app : Application
     cause = subst (λ n. HasCause (h.state ≡ Failed) (of_link.faults start) n) (sym faults')
         (cause-by said h.state (of_link.faults start) (of_link.faults link) (of_link.faults heard) new.faults was.stays
         was.rose h.cause h.failed h.stays);
+    transport = h.transport;
   }
 
   pub heard-by : (a : Arrivals) (reader : Reading) → said ≡ true → of_link.faults heard ≡ of_link.faults link
@@ -126,6 +129,7 @@ module _ {L : Type 0} (of_link : LinkMembers L) (plan : Plan) (app : Application
     faults = faults' ∙ works ∙ was.stays agreed ∙ new.faults;
     working = working;
     none_held = held;
+    table = table;
     policy = policy;
     one_heap = heap;
     not_loaded = loads;

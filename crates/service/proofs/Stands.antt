@@ -258,6 +258,7 @@ module _ {L : Type 0} (of_link : LinkMembers L) (plan : Plan) (e : Opened L) (g 
         handed = heard.handed;
         faults = heard.faults;
         steps = its-steps steps has;
+        table = heard.table;
         policy = heard.policy;
         words = heard.words;
         not_loaded = heard.not_loaded;

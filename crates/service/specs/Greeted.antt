@@ -15,6 +15,7 @@ use Rattle.deliveries.specs.declared.arrivals.Stream.{Stream}
 use Rattle.deliveries.specs.declared.arrivals.Stream.TheVariants.{Failed}
 use Rattle.link_greeting.specs.Greeting.{IsBound, IsUnbound, SaysWhy}
 use Rattle.link_greeting.specs.declared.unbound.Unbound.{Unbound}
+use Rattle.link_greeting.specs.declared.unbound.Unbound.TheVariants.{Transport}
 use Rattle.run_plan.specs.Chains.{inbound_of, table_of}
 use Rattle.run_plan.specs.Ports.{application_in}
 use Rattle.run_plan.specs.declared.application.Application.{Application}
@@ -38,6 +39,7 @@ pub record WasLeft (service : List ℕ) (T : Table) (given given' : Option (List
   pub cause : said ≡ true → HasCause (state ≡ Failed) faults faults'
   pub failed : said ≡ false → state ≡ Failed
   pub stays : said ≡ false → faults' ≡ faults
+  pub transport : state ≡ Failed → why ≡ Transport
 
 module _ {L : Type 0} (of_link : LinkMembers L) (plan : Plan) where
   -- Nothing came of a link yet. It was handed its hello where this was said, and else nothing, since it failed.
@@ -67,6 +69,7 @@ module _ {L : Type 0} (of_link : LinkMembers L) (plan : Plan) where
     pub faults : of_link.faults now ≡ 0
     pub working : a.stream ≢ Failed
     pub none_held : a.inbound.heap.held ≡ []
+    pub table : a.table.now ≡ table_of plan app
     pub policy : option_copied a.policy ≡ inbound_of plan app
     pub one_heap : reader.heap ≡ a.writer.heap
     pub not_loaded : reader.loads ≡ []

@@ -17,6 +17,7 @@ use Rattle.deliveries.specs.declared.arrivals.Stream.{Stream}
 use Rattle.deliveries.specs.declared.arrivals.Stream.TheVariants.{Failed}
 use Rattle.link_greeting.specs.Greeting.{IsBound, IsUnbound, SaysWhy, hello_of}
 use Rattle.link_greeting.specs.declared.unbound.Unbound.{Unbound as Cause}
+use Rattle.link_greeting.specs.declared.unbound.Unbound.TheVariants.{Transport}
 use Rattle.run_plan.specs.Chains.{inbound_of, table_of}
 use Rattle.run_plan.specs.Ports.{application_in}
 use Rattle.run_plan.specs.declared.application.Application.{Application}
@@ -52,7 +53,7 @@ ArePairs link pair (a ∷ b ∷ more) = pair (link a) (link b) × ArePairs link 
 
 -- A connection wasn't bound: what its link gave, up to the stream's state, leaves it unbound for this cause. Its link
 -- was handed its hello alone, or nothing where it failed at it; its count of faults rose where the stream failed, and
--- only there.
+-- only there, and then the cause is the transport.
 pub record WasRefused {L : Type 0} (of_link : LinkMembers L) (plan : Plan) (app : Application) (start now : L)
     (why : Cause) : Type 0 where
   pub stream : List ℕ
@@ -63,6 +64,7 @@ pub record WasRefused {L : Type 0} (of_link : LinkMembers L) (plan : Plan) (app 
   pub says : SaysWhy why
   pub handed : (of_link.handed now ≡ hello_in plan app ∷ []) ⊎ ((of_link.handed now ≡ []) × (state ≡ Failed))
   pub cause : HasCause (state ≡ Failed) (of_link.faults start) (of_link.faults now)
+  pub transport : state ≡ Failed → why ≡ Transport
 
 -- A connection was bound, and began so: by the hello with which what its link gave begins, behind which its receiver
 -- lives on with what came after it; with its own hello handed over, and no fault of its link; with the steps of
@@ -82,6 +84,7 @@ pub record WasBound {C L : Type 0} (of_link : LinkMembers L) (plan : Plan) (cloc
   pub handed : of_link.handed opening.begun.link ≡ hello_in plan app ∷ []
   pub faults : of_link.faults opening.begun.link ≡ 0
   pub steps : IsStepsOf plan app opening.begun.steps
+  pub table : opening.begun.arrivals.table.now ≡ table_of plan app
   pub policy : option_copied opening.begun.arrivals.policy ≡ inbound_of plan app
   pub words : opening.begun.reader.heap.words ≡ app.receive
   pub not_loaded : opening.begun.reader.loads ≡ []

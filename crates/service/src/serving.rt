@@ -52,9 +52,8 @@ pub fn serve<'t, R: Threads + Wait + Sync, F: Fabric, C: Clock, G: Gate, O: Read
     ensures served { IfOk result (λ served. AllZip (WasServed C.Clock F.L.Link plan.now clock.now)
         (all_ends plan.now.links) served.conns.items) }
 
-    // Each two in turn have the ends of one link, where a link is itself, later on.
-    ensures pairs { ((link : F.L) → F.L.since link link)
-        → IfOk result (λ served. ArePairs (λ s. s.link) F.pair served.conns.items) }
+    // Each two in turn have the ends of one link.
+    ensures pairs { IfOk result (λ served. ArePairs (λ s. s.link) F.pair served.conns.items) }
 
     // The tickets of a tenant's window are 0, 1, 2 and so on, each once.
     ensures tickets { IfOk result (λ served. (tenant window : ℕ) → tenant < length plan.now.declared.tenants

@@ -197,6 +197,10 @@ impl<'r, R: Wait + Clock, S: Socket + Drop> Link for SocketLink<'r, R, S> {
     // It is between the same ports.
     ghost since = { λ old new. (new.local ≡ old.local) × (new.peer ≡ old.peer) };
 
+    ghost use mathlib.Core.Path.{refl};
+
+    ghost itself = { λ _. (refl, refl) };
+
     // A refusal tells no more.
     ghost refused = { λ _ _ _. ⊤ };
 

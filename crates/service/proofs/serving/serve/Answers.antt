@@ -46,7 +46,7 @@ returns-clause-served g c =
     (λ e s h. h.served) w.ends conns at))
 
 pub returns-clause-pairs : goal.returns-clause-pairs
-returns-clause-pairs g c = λ itself.
+returns-clause-pairs g c =
     let w = c.in_ok-greeted.ensures.greeted in
     let plan = c.args.plan.now in
     let clock = c.args.clock.now in
@@ -54,7 +54,7 @@ returns-clause-pairs g c = λ itself.
     let at = c.in_ok-served.ensures.served w.ends w.each
     (steps-of-ends plan (all_ends plan.links) w.ends c.args.prepared.now.steps.items c.as_slice.result.now w.are c.as_slice.ensures.value c.requires.prepared) in
     pairs-later (λ (e : Opened g.row.F-L.Denot). e.link) g.F.Fabric.pair (λ (s : ServedConn g.row.F-L.Denot). s.link)
-    g.F.L.Link.since itself g.met.F.Fabric.stays_pair w.ends conns
+    g.F.L.Link.since g.F.L.Link.itself g.met.F.Fabric.stays_pair w.ends conns
     (zip-of (WasServedAt g.C.Clock g.F.L.Link plan clock)
     (λ e s. (first : _) → g.F.L.Link.since first e.link → g.F.L.Link.since first s.link) (λ e s h. h.same_link)
     w.ends conns at) w.pairs
