@@ -1,0 +1,5 @@
+mod Judging
+mod Shown
+mod Tellable
+mod Weighing
+mod Zips

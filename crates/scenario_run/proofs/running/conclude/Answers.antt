@@ -1,0 +1,13 @@
+use Rattle.scenario_run.proofs.Tellable.{told-run}
+use Rattle.scenario_run.proofs.running.conclude.Goals as goal
+
+pub returns-clause-told : goal.returns-clause-told
+returns-clause-told g c =
+    told-run g.F.L.Link c.args.plan.now c.args.served.conns.items c.as_slice.result.now c.as_slice-2.result.now
+    (record {
+      text = c.in_ok-text.field-0.text;
+      totals = c.in_ok-text.field-0.totals;
+      failed = c.has_failed-failed.result;
+    })
+    c.as_slice.ensures.value c.as_slice-2.ensures.value c.requires.told c.has_failed-failed.ensures.one
+    c.has_failed-failed.ensures.none c.in_ok-text.ensures

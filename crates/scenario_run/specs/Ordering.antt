@@ -1,0 +1,17 @@
+-- The order of a plan whose connections are weighed (this project's own).
+use Rattle.std.specs.Prelude.{◌≡◌, ℕ, List, map}
+use Rattle.qos_order.specs.Weights.{weight_of}
+use Rattle.qos_order.specs.declared.weights.Weight.{Weight}
+use Rattle.run_plan.specs.declared.application.Application.{Application}
+use Rattle.run_plan.specs.declared.plan.Plan.{Plan}
+
+abbrev pub weight_in : Application → Weight
+weight_in app = record { conn = app.conn; weight = app.weight }
+
+-- the weights of the plan's connections
+abbrev pub weights_of : Plan → List Weight
+weights_of plan = map weight_in plan.applications
+
+-- an order weighs each connection as the plan does
+abbrev pub WeighsAs : Plan → List Weight → Type 0
+WeighsAs plan order = (conn : ℕ) → weight_of order conn ≡ weight_of (weights_of plan) conn

@@ -1,0 +1,58 @@
+-- The code's own: connections that can be told, and what is told of them.
+use Rattle.std.specs.Prelude.{◌≡◌, ℕ, true, false, List, All, Contains, Some}
+use Rattle.std.specs.List.{AllZip, flat_map}
+use Rattle.mrpc_base.specs.declared.link.Link.{Ghosts as LinkMembers}
+use Rattle.deliveries.specs.Arriving.{AreArriving}
+use Rattle.link_greeting.specs.Greeting.{SaysWhy}
+use Rattle.run_plan.specs.Chains.{inbound_of}
+use Rattle.run_plan.specs.Ports.{application_in}
+use Rattle.run_plan.specs.declared.application.Application.{Application}
+use Rattle.run_plan.specs.declared.plan.Plan.{Plan}
+use Rattle.std.specs.Option.{option_copied}
+use Rattle.run_text.specs.Counting.{counted_in}
+use Rattle.run_text.specs.Told.{IsRunText}
+use Rattle.run_text.specs.declared.shown.Shown.{Shown}
+use Rattle.service_run.specs.declared.served.BoundConn.{BoundConn}
+use Rattle.service.specs.declared.served.Outcome.{Outcome}
+use Rattle.service.specs.declared.served.Outcome.TheVariants.{Bound, Unbound}
+use Rattle.link_greeting.specs.declared.unbound.Unbound.TheVariants.{Transport}
+use Rattle.service.specs.declared.served.ServedConn.{ServedConn}
+use Rattle.telemetry.specs.Totals.{IsCountOf}
+use Rattle.scenario_run.specs.Running.{HasFailed, NeverFailed, Shows, by_number}
+use Rattle.scenario_run.specs.declared.running.Run.{Run}
+
+-- A connection that was bound can be told: it is that of an application of the plan, what arrived was judged by the
+-- application's table and policy, and its calls are of the same table.
+pub record IsTellableBound (plan : Plan) (conn : ℕ) (b : BoundConn) : Type 0 where
+  pub app : Application
+  pub its_app : application_in plan.applications conn ≡ Some app
+  pub arriving : AreArriving b.arrivals
+  pub table : b.submissions.conn.table ≡ b.arrivals.table.now
+  pub policy : option_copied b.arrivals.policy ≡ inbound_of plan app
+
+abbrev pub CanTell : Plan → ℕ → Outcome → Type 0
+CanTell plan conn (Unbound why) = SaysWhy why
+CanTell plan conn (Bound b) = IsTellableBound plan conn b
+
+-- what became of a connection tells that its link failed
+abbrev pub TellsFailure : Outcome → Type 0
+TellsFailure (Unbound why) = why ≡ Transport
+TellsFailure (Bound b) = b.submissions.conn.ended ≡ true
+
+pub record IsTellableConn {L : Type 0} (of_link : LinkMembers L) (plan : Plan) (s : ServedConn L) : Type 0 where
+  pub can : CanTell plan s.conn s.outcome
+  pub failed : TellsFailure s.outcome → HasFailed of_link s
+  pub works : (TellsFailure s.outcome → ⊥) → NeverFailed of_link s
+
+abbrev pub AreTellable : {L : Type 0} → LinkMembers L → Plan → List (ServedConn L) → Type 0
+AreTellable of_link plan conns = All (IsTellableConn of_link plan) conns
+
+-- a run tells these connections
+pub record IsToldRun {L : Type 0} (of_link : LinkMembers L) (plan : Plan) (conns : List (ServedConn L)) (r : Run)
+    : Type 0 where
+  pub told : List Shown
+  pub shows : AllZip (Shows plan) (by_number conns) told
+  pub text : IsRunText told r.text
+  pub counts : IsCountOf (flat_map counted_in told) r.totals
+  pub one_failed : r.failed ≡ true → (s : ServedConn L) × Contains conns s × HasFailed of_link s
+  pub none_failed : r.failed ≡ false → All (NeverFailed of_link) conns

@@ -1,0 +1,101 @@
+//! A run.
+
+ghost use Rattle.std.specs.Prelude.{◌≡◌, ◌+◌, ◌≤◌, ◌++◌, IfOk, OnOk, IsErrOf, IsPermutation, length, map};
+ghost use Rattle.mrpc_base.specs.Faults.{HasCause};
+ghost use Rattle.run_plan.specs.Plans.{IsPlan};
+ghost use Rattle.service.specs.Prepared.{IsPrepared};
+ghost use Rattle.scenario_run.specs.Running.{HasRun, link_of};
+ghost use Rattle.scenario_run.specs.Telling.{AreTellable, IsToldRun};
+
+use crate::giving_back::give_back;
+use crate::ordering::weighted;
+use crate::telling::{has_failed, tell};
+use mrpc_base::{Clock, Fabric, Gate, PlainOrder, ReadyOrder};
+use mrpc_table::{Bytes, Memory};
+use run_plan::Plan;
+use run_text::RunText;
+use service::{Prepared, ServeFault, Served, prepare, serve};
+use std::alloc::Global;
+use std::sync::Wait;
+use std::thread::Threads;
+use telemetry::Totals;
+
+/// What a run of a plan came to.
+#[derive(Drop)]
+pub struct Run {
+    /// What it tells.
+    pub text: Bytes,
+    /// How many calls of each method were taken, sent, refused and left standing.
+    pub totals: Totals,
+    /// Whether a link failed.
+    pub failed: bool,
+}
+
+/// Runs a plan over links of a fabric, and gives them back. It waits for the connections. `Fabric` comes where the fabric
+/// failed to open a link, and `Memory` where no memory was found; links that were opened are then dropped.
+pub fn serve_plan<R: Threads + Wait + Sync, F: Fabric, C: Clock, G: Gate>(
+    rt: &R,
+    alloc: Global,
+    plan: &Plan,
+    fabric: &mut F,
+    clock: &C,
+    gate: &G,
+) -> Result<Run, ServeFault>
+    requires { IsPlan plan.now }
+    ensures ran { IfOk result (HasRun C.Clock F.L.Link F.pair plan.now clock.now (F.back fabric.old) (F.back fabric.new)) }
+    ensures away { IfOk result (λ ran. F.away fabric.new ≡ F.away fabric.old) }
+    ensures cause { HasCause (IsErrOf result ServeFault.Fabric) (F.faults fabric.old) (F.faults fabric.new) }
+{
+    let prepared = prepare(alloc, plan)?;
+    if plan.weighted {
+        let order = weighted(alloc, plan)?;
+        return run_in_order(rt, alloc, plan, &prepared, fabric, clock, gate, &order);
+    }
+    run_in_order(rt, alloc, plan, &prepared, fabric, clock, gate, &PlainOrder)
+}
+
+// Runs a plan that was prepared, in which connections get rounds in this order.
+fn run_in_order<R: Threads + Wait + Sync, F: Fabric, C: Clock, G: Gate, O: ReadyOrder>(
+    rt: &R,
+    alloc: Global,
+    plan: &Plan,
+    prepared: &Prepared,
+    fabric: &mut F,
+    clock: &C,
+    gate: &G,
+    order: &O,
+) -> Result<Run, ServeFault>
+    requires plan { IsPlan plan.now }
+    requires prepared { IsPrepared plan.now prepared.now }
+    ensures ran { IfOk result (HasRun C.Clock F.L.Link F.pair plan.now clock.now (F.back fabric.old) (F.back fabric.new)) }
+    ensures away { IfOk result (λ ran. F.away fabric.new ≡ F.away fabric.old) }
+    ensures cause { HasCause (IsErrOf result ServeFault.Fabric) (F.faults fabric.old) (F.faults fabric.new) }
+{
+    let served = serve(rt, alloc, plan, prepared, fabric, clock, gate, order)?;
+    Ok(conclude(alloc, plan, fabric, served)?)
+}
+
+// Tells a run that is over, and gives its links back.
+fn conclude<F: Fabric>(
+    alloc: Global,
+    plan: &Plan,
+    fabric: &mut F,
+    served: Served<'_, F::L>,
+) -> Result<Run, Memory>
+    requires plan { IsPlan plan.now }
+    requires told { AreTellable F.L.Link plan.now served.conns.items }
+    requires away { length served.conns.items ≤ F.away fabric.old }
+    ensures told { IfOk result (IsToldRun F.L.Link plan.now served.entry.conns.items) }
+    ensures back { OnOk result (IsPermutation (F.back fabric.new) (map link_of served.entry.conns.items ++ F.back fabric.old)) }
+    ensures away { OnOk result (F.away fabric.new + length served.entry.conns.items ≡ F.away fabric.old) }
+    ensures faults { F.faults fabric.new ≡ F.faults fabric.old }
+{
+    let failed = has_failed(served.conns.as_slice());
+    let RunText { text, totals } = tell(alloc, plan, served.conns.as_slice())?;
+    give_back(fabric, served);
+    Ok(Run {
+        text,
+        totals,
+        failed,
+    })
+}
