@@ -37,7 +37,7 @@ __attribute__((constructor)) static void begin(void) {
 }
 
 static int is_refused(char which, int error) {
-    if (which != kind || --left != 0) return 0;
+    if (which != kind || __atomic_sub_fetch(&left, 1, __ATOMIC_RELAXED) != 0) return 0;
     long file = syscall(SYS_openat, AT_FDCWD, mark, O_WRONLY | O_CREAT, 0600);
     if (file >= 0) syscall(SYS_close, file);
     errno = error;

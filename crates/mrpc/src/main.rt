@@ -1,8 +1,9 @@
-//! The program `mrpc`: the words of the command line, standard input, standard output and the file `mrpc.wire` handed
-//! to the top call, whose answer is the exit status.
+//! The program `mrpc`: the words of the command line, standard input, standard output, the file `mrpc.wire`, links in
+//! memory and the clock handed to the top call, whose answer is the exit status.
 //!
-//! It stands on `system_io`, which makes a source and sinks of the three, on `mrpc_top`, which does all the work, and
-//! on `explain`, which says on standard error what stands against a faulty input.
+//! It stands on `system_io`, which makes a source, sinks and a clock of the system's, on `mem_fabric` for the links, on
+//! `mrpc_top`, which does all the work, and on `explain`, which says on standard error what stands against a faulty
+//! input.
 #![tactic(auto)]
 
 mod command_line;
@@ -12,11 +13,17 @@ mod usage;
 use command_line::{Asked, WordsFault, asked_alone, words};
 use explain::{explained, no_command};
 use kept::{KeptSink, KeptSource};
-use mrpc_base::{Sink, Source, write_all};
+use mem_fabric::{ListedFaults, MemFabric};
+use mrpc_base::{OpenGate, Sink, Source, write_all};
 use mrpc_top::{DONE, FAULTY_INPUT, NO_COMMAND, NO_MEMORY, OUTPUT_FAILED, run_command};
 use std::alloc::Global;
+use std::env::Env;
 use std::process::ExitCode;
-use system_io::{FileSink, StandardInput, StandardOutput};
+use std::rt::Files;
+use std::sync::Wait;
+use std::thread::Threads;
+use std::time::Clock;
+use system_io::{FileSink, Lock, StandardInput, StandardOutput, SystemClock};
 use usage::{failure, usage};
 
 const VERSION: &str = "mrpc 0.1.0\n";
@@ -25,32 +32,75 @@ const VERSION: &str = "mrpc 0.1.0\n";
 const WIDTH: usize = 100;
 
 fn main(rt: HostRuntime) -> ExitCode {
-    let status = exit_status(rt);
-    say_status(rt.alloc(), status, &mut StandardOutput::new(rt.stderr()));
+    let mut input = KeptSource::new(rt.alloc(), StandardInput::new(rt.stdin()));
+    let mut out = KeptSink::new(rt.alloc(), StandardOutput::new(rt.stdout()));
+    let mut error = StandardOutput::new(rt.stderr());
+    let status = exit_status(&rt, &mut input, &mut out, &mut error);
+    say_status(rt.alloc(), status, &mut error);
     ExitCode::from(status)
 }
 
-// Runs the command that the words name, and gives its status.
-fn exit_status(rt: HostRuntime) -> u8 {
-    let words = match words(&rt) {
+// Does what the command line asks for, and gives its status.
+fn exit_status<R, S: Source + Drop, K: Sink + Drop, E: Sink>(
+    rt: &R,
+    input: &mut KeptSource<S>,
+    out: &mut KeptSink<K>,
+    error: &mut E,
+) -> u8
+where
+    R: Threads + Wait + Sync + Clock + Files + Env + AllocGlobal,
+    R::File: Lock,
+{
+    let words = match words(rt) {
         Ok(words) => words,
         Err(WordsFault::NotText) => return NO_COMMAND,
         Err(WordsFault::Memory) => return NO_MEMORY,
     };
-    let mut out = KeptSink::new(rt.alloc(), StandardOutput::new(rt.stdout()));
     if let Some(asked) = asked_alone(&words) {
-        return answer(rt.alloc(), asked, &mut out);
+        return answer(rt.alloc(), asked, out);
     }
-    let mut input = KeptSource::new(rt.alloc(), StandardInput::new(rt.stdin()));
-    let mut wire = FileSink::new(rt);
-    let status = run_command(rt.alloc(), &words, &mut input, &mut out, &mut wire);
-    let mut error = StandardOutput::new(rt.stderr());
+    let status = run_words(rt, &words, input, out);
     match words.first() {
-        Some(word) if status == FAULTY_INPUT => tell(rt.alloc(), word, &input, &out, &mut error),
-        Some(_) if status == NO_COMMAND => say_words(rt.alloc(), &words, &mut error),
+        Some(word) if status == FAULTY_INPUT && word.as_str() != "run" => {
+            tell(rt.alloc(), word, input, out, error)
+        }
+        Some(_) if status == NO_COMMAND => say_words(rt.alloc(), &words, error),
         _ => {}
     }
     status
+}
+
+// Runs the command that the words name, with the file `mrpc.wire`, over links in memory, by the clock of the system, and
+// gives its status.
+fn run_words<R, S: Source, K: Sink>(rt: &R, words: &Vec<String>, input: &mut S, out: &mut K) -> u8
+where
+    R: Threads + Wait + Sync + Clock + Files + AllocGlobal,
+    R::File: Lock,
+{
+    let alloc = rt.alloc();
+    let mut wire = FileSink::new(rt);
+    let mut fabric = MemFabric::new(rt, alloc, no_faults(alloc));
+    let clock = SystemClock::new(rt);
+    run_command(
+        rt,
+        alloc,
+        words,
+        input,
+        out,
+        &mut wire,
+        &mut fabric,
+        &clock,
+        &OpenGate,
+    )
+}
+
+// No call of a link is made to fail.
+fn no_faults(alloc: Global) -> ListedFaults {
+    ListedFaults {
+        openings: Vec::new(alloc),
+        sends: Vec::new(alloc),
+        receives: Vec::new(alloc),
+    }
 }
 
 // Writes on standard error what stands against the input. Where there is no memory for that, nothing is said.

@@ -1,7 +1,7 @@
 // What the program says on standard error.
 
 use clap::Command;
-use mrpc_top::{INPUT_FAILED, NO_MEMORY, OUTPUT_FAILED, WIRE_FAILED};
+use mrpc_top::{FABRIC_FAILED, INPUT_FAILED, NO_MEMORY, OUTPUT_FAILED, WIRE_FAILED};
 use std::alloc::{AllocError, Global};
 
 const USAGE: &str = "mrpc [COMMAND | --help | --version]";
@@ -18,7 +18,8 @@ Exit status:
   3  out of memory
   4  standard input could not be read
   5  standard output could not be written
-  6  the file mrpc.wire could not be written";
+  6  the file mrpc.wire could not be written, or a link of a run failed
+  7  a link of a run could not be opened";
 
 /// The usage text of the program, with its commands and exit statuses.
 pub(crate) fn usage(alloc: Global) -> Result<String, AllocError> {
@@ -34,6 +35,12 @@ pub(crate) fn usage(alloc: Global) -> Result<String, AllocError> {
     let audit = Command::new(alloc, "audit").about(
         "Reads an audit from standard input, and writes whether its history is legal",
     );
+    let run = Command::new(alloc, "run").about(
+        "Reads a scenario from standard input, runs it in threads, and writes what became of its calls",
+    );
+    let drill = Command::new(alloc, "drill N").about(
+        "Runs four clients with N calls each, N from 1 to 2048, and writes how many were taken and sent",
+    );
     let mut program = Command::new(alloc, "mrpc")
         .override_usage(USAGE)
         .disable_help_subcommand(true)
@@ -42,7 +49,9 @@ pub(crate) fn usage(alloc: Global) -> Result<String, AllocError> {
         .subcommand(replay)?
         .subcommand(decode)?
         .subcommand(check)?
-        .subcommand(audit)?;
+        .subcommand(audit)?
+        .subcommand(run)?
+        .subcommand(drill)?;
     program.render_help()
 }
 
@@ -52,7 +61,10 @@ pub(crate) fn failure(status: u8) -> Option<&'static str> {
         NO_MEMORY => Some("mrpc: out of memory\n"),
         INPUT_FAILED => Some("mrpc: standard input could not be read\n"),
         OUTPUT_FAILED => Some("mrpc: standard output could not be written\n"),
-        WIRE_FAILED => Some("mrpc: the file mrpc.wire could not be written\n"),
+        WIRE_FAILED => Some(
+            "mrpc: the file mrpc.wire could not be written, or a link of the run failed\n",
+        ),
+        FABRIC_FAILED => Some("mrpc: a link of the run could not be opened\n"),
         _ => None,
     }
 }

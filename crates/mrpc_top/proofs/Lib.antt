@@ -12,5 +12,7 @@ mod OneAudit
 mod OneCheck
 mod OneDecoding
 mod Replays
+mod RunAnswers
+mod Runs
 mod SetSizes
 mod TextAnswers

@@ -7,4 +7,5 @@ pub mod FaultLines
 pub mod Laws
 pub mod Reading
 pub mod Replaying
+pub mod Runs
 pub mod Telling

@@ -76,7 +76,7 @@ pub const WIRE_FAILED: u8 = 6;
 ///
 /// An input of more than 16777216 bytes is `fault 16777216 Input` in each command, and nothing else is
 /// written. Without memory a command ends with `NO_MEMORY`, and what it wrote by then stands.
-pub fn run_command<S: Source, K: Sink, W: Sink>(
+pub fn run_still<S: Source, K: Sink, W: Sink>(
     alloc: Global,
     words: &Vec<String>,
     input: &mut S,
@@ -331,7 +331,7 @@ fn audit_text<K: Sink>(alloc: Global, text: &[u8], out: &mut K) -> u8
 }
 
 // Writes the line of a fault at a place or on a line.
-fn refuse<K: Sink>(alloc: Global, place: u64, word: &[u8], out: &mut K) -> u8
+pub(crate) fn refuse<K: Sink>(alloc: Global, place: u64, word: &[u8], out: &mut K) -> u8
     ensures statuses { (result ≡ FAULTY_INPUT) ⊎ ((result ≡ NO_MEMORY) ⊎ (result ≡ OUTPUT_FAILED)) }
     ensures written { result ≡ FAULTY_INPUT
         → Appends (K.written out.old) (K.written out.new) (fault_line place word.now) }

@@ -4,7 +4,7 @@ use Rattle.std.specs.declared.alloc.Global.{Global}
 use Rattle.mrpc_top.specs.Command.{Names, of_text}
 use Rattle.mrpc_top.specs.Replaying.{HasScriptFault, StopsText}
 use Rattle.mrpc_top.proofs.Replays.{fault_of_whole, is_replay}
-use Rattle.mrpc_top.proofs.command.run_command.Goals as goal
+use Rattle.mrpc_top.proofs.command.run_still.Goals as goal
 
 pub returns-in-Whole-clause-sound_alone : goal.returns-in-Whole-clause-sound_alone
 returns-in-Whole-clause-sound_alone g c text replays is fault =

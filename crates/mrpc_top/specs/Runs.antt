@@ -1,0 +1,132 @@
+-- What `run` and `drill` do (this project's own).
+use Rattle.std.specs.Prelude.{◌≡◌, ◌⊎◌, ℕ, ◌<◌, ◌≤◌, Bool, List, [], ◌∷◌, codes, length, map, Option, Some, String, string_bytes}
+use Rattle.std.specs.declared.alloc.Global.{Global}
+use Rattle.std.specs.Fmt.{decimal}
+use Rattle.std.specs.List.{flat_map}
+use Rattle.std.specs.Io.KnownBytes.{Appends}
+use Rattle.mrpc_base.specs.declared.clock.Clock.{Ghosts as ClockMembers}
+use Rattle.mrpc_base.specs.declared.link.Link.{Ghosts as LinkMembers}
+use Rattle.mrpc_table.specs.Lines.{number_of}
+use Rattle.mrpc_table.specs.Text.{line}
+use Rattle.telemetry.specs.Counts.{all_counts}
+use Rattle.telemetry.specs.declared.counts.Counts.{Counts}
+use Rattle.run_plan.specs.declared.plan.Plan.{Plan}
+use Rattle.drill_plan.specs.Drill.{drill}
+use Rattle.drill_plan.specs.declared.plan.TheConstants.{MAX_CALLS}
+use Rattle.scenario.specs.Reasons.{number_of_entry, reason_word}
+use Rattle.scenario.specs.Scenarios.{HasFault, IsTextOf}
+use Rattle.scenario.specs.declared.fault.Entry.{Entry}
+use Rattle.scenario.specs.declared.fault.ScenarioReason.{ScenarioReason}
+use Rattle.run_text.specs.Counting.{counted_in}
+use Rattle.scenario_run.specs.Running.{HasRun}
+use Rattle.scenario_run.specs.declared.running.Run.{Run}
+use Rattle.mrpc_top.specs.Command.{IsInput}
+use Rattle.mrpc_top.specs.FaultLines.{WritesFront, fault_line}
+use Rattle.mrpc_top.specs.Reading.{ReadsPast}
+use Rattle.mrpc_top.specs.declared.reading.TheConstants.{INPUT_LIMIT}
+use Rattle.mrpc_top.specs.declared.run.Running.{Running}
+use Rattle.mrpc_top.specs.declared.run.Running.TheVariants.{Scenario, Drill}
+
+-- ---- words
+
+-- a word spells a number of calls from 1 to 2048, in decimal digits without a leading zero
+pub record IsCallCount (word : List ℕ) (calls : ℕ) : Type 0 where
+  pub number : number_of word ≡ Some calls
+  pub least : 1 ≤ calls
+  pub most : calls ≤ MAX_CALLS
+
+-- the words are `drill` and a number of calls
+abbrev pub IsDrill : List (String Global) → ℕ → Type 0
+IsDrill words calls = (word : List ℕ) × (map string_bytes words ≡ codes "drill" ∷ word ∷ []) × IsCallCount word calls
+
+-- the words have the scenario of an input run, or a drill of so many calls
+abbrev pub NamesRun : List (String Global) → Running → Type 0
+NamesRun words Scenario = map string_bytes words ≡ codes "run" ∷ []
+NamesRun words (Drill calls) = IsDrill words calls
+
+abbrev pub IsRunning : List (String Global) → Type 0
+IsRunning words = (running : Running) × NamesRun words running
+
+-- ---- what is told
+
+-- what a drill tells: how many calls were taken, sent, refused and left standing
+abbrev pub drill_line : ℕ → Counts → List ℕ
+drill_line calls counts = line (codes "drill" ∷ decimal calls ∷ codes "took" ∷ decimal counts.took
+    ∷ codes "sent" ∷ decimal counts.sent ∷ codes "refused" ∷ decimal counts.refused
+    ∷ codes "stands" ∷ decimal counts.standing ∷ [])
+
+module _ {C L : Type 0} (of_clock : ClockMembers C) (of_link : LinkMembers L) (pair : L → L → Type 0) (clock : C)
+    (back back' : List (ℕ × L)) where
+  -- the plan that a text says was run, and that is what it tells
+  pub record TellsScenario (failed : Bool) (text told : List ℕ) : Type 0 where
+    pub plan : Plan
+    pub says : IsTextOf text plan
+    pub run : Run
+    pub ran : HasRun of_clock of_link pair plan clock back back' run
+    pub its_failed : run.failed ≡ failed
+    pub its_text : told ≡ run.text
+
+  -- the drill was run, and this line has the counts of all lines of the run
+  pub record TellsDrill (failed : Bool) (calls : ℕ) (told : List ℕ) : Type 0 where
+    pub run : Run
+    pub ran : HasRun of_clock of_link pair (drill calls) clock back back' run
+    pub its_failed : run.failed ≡ failed
+    pub its_line : told ≡ drill_line calls (all_counts (flat_map counted_in ran.told))
+
+  -- what was run may tell this, where a link failed or none did: of an input that had so much left, or of a drill
+  abbrev pub MayTell : Bool → Running → Option (List ℕ) → List ℕ → Type 0
+  MayTell failed Scenario left told = (text : List ℕ) × IsInput left text × TellsScenario failed text told
+  MayTell failed (Drill calls) left told = TellsDrill failed calls told
+
+-- ---- faults
+
+-- a text has a first fault, and this is its line
+pub record TellsFault (text told : List ℕ) : Type 0 where
+  pub at : Entry
+  pub reason : ScenarioReason
+  pub fault : HasFault text at reason
+  pub its_line : told ≡ fault_line (number_of_entry at) (reason_word reason)
+
+-- the input of a scenario is too long, or its text has a first fault, and this is the fault's line
+abbrev pub MayRefuse : Running → (left left' : Option (List ℕ)) → List ℕ → Type 0
+MayRefuse Scenario left left' told =
+    (ReadsPast INPUT_LIMIT left left' × (told ≡ fault_line INPUT_LIMIT (codes "Input")))
+    ⊎ ((text : List ℕ) × IsInput left text × TellsFault text told)
+MayRefuse (Drill calls) left left' told = ⊥
+
+-- ---- what was written
+
+module _ {C L : Type 0} (of_clock : ClockMembers C) (of_link : LinkMembers L) (pair : L → L → Type 0) (clock : C)
+    (back back' : List (ℕ × L)) where
+  -- what was run wrote what it tells, where a link failed or none did
+  pub record WritesRun (failed : Bool) (running : Running) (left out out' : Option (List ℕ)) : Type 0 where
+    pub told : List ℕ
+    pub may : MayTell of_clock of_link pair clock back back' failed running left told
+    pub written : Appends out out' told
+
+  -- A run ended early, and what it wrote is in front of what it may write: nothing, some of what it tells, or some of
+  -- the line of a fault.
+  pub data StopsRun (running : Running) (left left' out out' : Option (List ℕ)) : Type 0 where
+    silent : Appends out out' [] → StopsRun running left left' out out'
+    in_telling : (failed : Bool) (told : List ℕ)
+        → MayTell of_clock of_link pair clock back back' failed running left told → WritesFront out out' told
+        → StopsRun running left left' out out'
+    in_fault : (told : List ℕ) → MayRefuse running left left' told → WritesFront out out' told
+        → StopsRun running left left' out out'
+
+-- the line of the fault was written
+pub record WritesRefusal (running : Running) (left left' out out' : Option (List ℕ)) : Type 0 where
+  pub told : List ℕ
+  pub may : MayRefuse running left left' told
+  pub written : Appends out out' told
+
+-- what a run asks of its input: it was read to its end, and it says a plan; a drill asks nothing
+abbrev pub HasPlan : Running → Option (List ℕ) → Type 0
+HasPlan Scenario left = (text : List ℕ) × IsInput left text × (plan : Plan) × IsTextOf text plan
+HasPlan (Drill calls) left = Unit {0}
+
+-- an input has a fault as that of a scenario: it is too long, or has a first fault
+abbrev pub HasRunFault : Running → List ℕ → Type 0
+HasRunFault Scenario text =
+    (INPUT_LIMIT < length text) ⊎ ((at : Entry) × (reason : ScenarioReason) × HasFault text at reason)
+HasRunFault (Drill calls) text = ⊥

@@ -1,0 +1,328 @@
+//! `run` and `drill`: plans that are run over the links of a fabric.
+
+ghost use Rattle.std.specs.Prelude.{◌≡◌, ◌≢◌, ◌⊎◌, ◌≤◌, ◌++◌, ◌∷◌, List, ℕ, Option, Some, true, false, codes, decimal, IfOk, IfSome, IfNone, IsErrOf, OnOk};
+ghost use Rattle.std.specs.Io.KnownBytes.{Appends};
+ghost use Rattle.mrpc_base.specs.Faults.{HasCause};
+ghost use Rattle.run_plan.specs.declared.plan.Plan.{Plan};
+ghost use Rattle.scenario.specs.Scenarios.{HasFault, IsTextOf};
+ghost use Rattle.scenario.specs.declared.fault.Entry.{Entry};
+ghost use Rattle.scenario.specs.declared.fault.ScenarioReason.{ScenarioReason};
+ghost use Rattle.telemetry.specs.Totals.{IsTotals, sums_of};
+ghost use Rattle.mrpc_top.specs.Command.{IsInput};
+ghost use Rattle.mrpc_top.specs.FaultLines.{WritesFront};
+ghost use Rattle.mrpc_top.specs.Runs.{HasPlan, HasRunFault, IsCallCount, NamesRun, StopsRun, TellsDrill, WritesRefusal, WritesRun, drill_line};
+
+use crate::command::{
+    DONE, FAULTY_INPUT, INPUT_FAILED, NO_COMMAND, NO_MEMORY, OUTPUT_FAILED, WIRE_FAILED, refuse,
+};
+use crate::reading::{INPUT_LIMIT, Input, read_input};
+use drill_plan::{MAX_CALLS, drill_plan};
+use mrpc_base::{Clock, Fabric, Gate, Sink, Source, write_all};
+use mrpc_table::{Bytes, Decimal, Memory, number_of};
+use scenario::ScenarioFault;
+use scenario_laws::{a_said_plan_is_sound, one_scenario};
+use scenario_reader::read_scenario;
+use scenario_run::serve_plan;
+use service::ServeFault;
+use std::alloc::Global;
+use std::sync::Wait;
+use std::thread::Threads;
+use telemetry::{Totals, totals_are_counts};
+
+/// A link of the run failed.
+pub const LINK_FAILED: u8 = WIRE_FAILED;
+
+/// The fabric failed to open a link.
+pub const FABRIC_FAILED: u8 = 7;
+
+/// What is run.
+#[derive(Clone, Copy)]
+pub(crate) enum Running {
+    /// The scenario that the input says.
+    Scenario,
+    /// The drill of so many calls.
+    Drill(u64),
+}
+
+/// What the words have run; none where they are no command that runs something.
+pub(crate) fn running_of(words: &[String]) -> Option<Running>
+    ensures some { IfSome result (λ running. NamesRun words.now running) }
+    ensures none { IfNone result ((running : Running) → NamesRun words.now running → ⊥) }
+{
+    match words {
+        [word] => scenario_of(word.as_str()),
+        [word, number] => drill_of(word.as_str(), number.as_str()),
+        _ => None,
+    }
+}
+
+fn scenario_of(word: &str) -> Option<Running>
+    ensures some { IfSome result (λ running. (running ≡ Running.Scenario) × (word.now ≡ codes "run")) }
+    ensures none { IfNone result (word.now ≢ codes "run") }
+{
+    if word == "run" {
+        return Some(Running::Scenario);
+    }
+    None
+}
+
+fn drill_of(word: &str, number: &str) -> Option<Running>
+    ensures some { IfSome result (λ running. (calls : ℕ) × (running ≡ Running.Drill calls)
+        × (word.now ≡ codes "drill") × IsCallCount number.now calls) }
+    ensures none { IfNone result ((calls : ℕ) → word.now ≡ codes "drill" → IsCallCount number.now calls → ⊥) }
+{
+    if word != "drill" {
+        return None;
+    }
+    match calls_of(number) {
+        Some(calls) => Some(Running::Drill(calls)),
+        None => None,
+    }
+}
+
+// The number of calls that a word spells.
+fn calls_of(number: &str) -> Option<u64>
+    ensures some { IfSome result (λ calls. IsCallCount number.now calls) }
+    ensures none { IfNone result ((calls : ℕ) → IsCallCount number.now calls → ⊥) }
+{
+    match number_of(number.as_bytes()) {
+        Some(Decimal::Small(calls)) => {
+            if calls == 0 || calls > MAX_CALLS {
+                return None;
+            }
+            Some(calls)
+        }
+        _ => None,
+    }
+}
+
+/// Runs what is named, and answers the status.
+pub(crate) fn run_named<R: Threads + Wait + Sync, S: Source, K: Sink, F: Fabric, C: Clock, G: Gate>(
+    rt: &R,
+    alloc: Global,
+    running: Running,
+    input: &mut S,
+    out: &mut K,
+    fabric: &mut F,
+    clock: &C,
+    gate: &G,
+) -> u8
+    requires few { (calls : ℕ) → running ≡ Running.Drill calls → calls ≤ MAX_CALLS }
+    ensures statuses { result ≤ FABRIC_FAILED }
+    ensures some { result ≢ NO_COMMAND }
+    ensures done { result ≡ DONE → WritesRun C.Clock F.L.Link F.pair clock.now (F.back fabric.old) (F.back fabric.new)
+        false running (S.left input.old) (K.written out.old) (K.written out.new) }
+    ensures link { result ≡ LINK_FAILED → WritesRun C.Clock F.L.Link F.pair clock.now (F.back fabric.old)
+        (F.back fabric.new) true running (S.left input.old) (K.written out.old) (K.written out.new) }
+    ensures faulty { result ≡ FAULTY_INPUT → WritesRefusal running (S.left input.old) (S.left input.new)
+        (K.written out.old) (K.written out.new) }
+    ensures refused { (text : List ℕ) → S.left input.old ≡ Some text → HasRunFault running text
+        → (result ≢ DONE) × (result ≢ LINK_FAILED) × (result ≢ FABRIC_FAILED) × (fabric.new ≡ fabric.old) }
+    ensures cut_short { (result ≡ NO_MEMORY) ⊎ (result ≡ OUTPUT_FAILED) → StopsRun C.Clock F.L.Link F.pair clock.now
+        (F.back fabric.old) (F.back fabric.new) running (S.left input.old) (S.left input.new)
+        (K.written out.old) (K.written out.new) }
+    ensures unopened { result ≡ FABRIC_FAILED → HasPlan running (S.left input.old) × (out.new ≡ out.old) }
+    ensures unread { result ≡ INPUT_FAILED → out.new ≡ out.old }
+    ensures unrun { (result ≡ FAULTY_INPUT) ⊎ (result ≡ INPUT_FAILED) → fabric.new ≡ fabric.old }
+    ensures away { (result ≡ DONE) ⊎ (result ≡ LINK_FAILED) → F.away fabric.new ≡ F.away fabric.old }
+    ensures drilled { (calls : ℕ) → running ≡ Running.Drill calls → input.new ≡ input.old }
+    ensures input_cause { HasCause (result ≡ INPUT_FAILED) (S.faults input.old) (S.faults input.new) }
+    ensures out_cause { HasCause (result ≡ OUTPUT_FAILED) (K.faults out.old) (K.faults out.new) }
+    ensures fabric_cause { HasCause (result ≡ FABRIC_FAILED) (F.faults fabric.old) (F.faults fabric.new) }
+{
+    match running {
+        Running::Scenario => run_input(rt, alloc, input, out, fabric, clock, gate),
+        Running::Drill(calls) => run_drill(rt, alloc, calls, out, fabric, clock, gate),
+    }
+}
+
+// Runs the scenario of an input.
+fn run_input<R: Threads + Wait + Sync, S: Source, K: Sink, F: Fabric, C: Clock, G: Gate>(
+    rt: &R,
+    alloc: Global,
+    input: &mut S,
+    out: &mut K,
+    fabric: &mut F,
+    clock: &C,
+    gate: &G,
+) -> u8
+    ensures statuses { result ≤ FABRIC_FAILED }
+    ensures some { result ≢ NO_COMMAND }
+    ensures done { result ≡ DONE → WritesRun C.Clock F.L.Link F.pair clock.now (F.back fabric.old) (F.back fabric.new)
+        false Running.Scenario (S.left input.old) (K.written out.old) (K.written out.new) }
+    ensures link { result ≡ LINK_FAILED → WritesRun C.Clock F.L.Link F.pair clock.now (F.back fabric.old)
+        (F.back fabric.new) true Running.Scenario (S.left input.old) (K.written out.old) (K.written out.new) }
+    ensures faulty { result ≡ FAULTY_INPUT → WritesRefusal Running.Scenario (S.left input.old) (S.left input.new)
+        (K.written out.old) (K.written out.new) }
+    ensures refused { (text : List ℕ) → S.left input.old ≡ Some text → HasRunFault Running.Scenario text
+        → (result ≢ DONE) × (result ≢ LINK_FAILED) × (result ≢ FABRIC_FAILED) × (fabric.new ≡ fabric.old) }
+    ensures cut_short { (result ≡ NO_MEMORY) ⊎ (result ≡ OUTPUT_FAILED) → StopsRun C.Clock F.L.Link F.pair clock.now
+        (F.back fabric.old) (F.back fabric.new) Running.Scenario (S.left input.old) (S.left input.new)
+        (K.written out.old) (K.written out.new) }
+    ensures unopened { result ≡ FABRIC_FAILED → HasPlan Running.Scenario (S.left input.old) × (out.new ≡ out.old) }
+    ensures unread { result ≡ INPUT_FAILED → out.new ≡ out.old }
+    ensures unrun { (result ≡ FAULTY_INPUT) ⊎ (result ≡ INPUT_FAILED) → fabric.new ≡ fabric.old }
+    ensures away { (result ≡ DONE) ⊎ (result ≡ LINK_FAILED) → F.away fabric.new ≡ F.away fabric.old }
+    ensures input_cause { HasCause (result ≡ INPUT_FAILED) (S.faults input.old) (S.faults input.new) }
+    ensures out_cause { HasCause (result ≡ OUTPUT_FAILED) (K.faults out.old) (K.faults out.new) }
+    ensures fabric_cause { HasCause (result ≡ FABRIC_FAILED) (F.faults fabric.old) (F.faults fabric.new) }
+{
+    match read_input(alloc, input) {
+        Input::Whole(text) => run_scenario(rt, alloc, &text, out, fabric, clock, gate),
+        Input::TooLong => refuse(alloc, INPUT_LIMIT as u64, b"Input", out),
+        Input::Failed => INPUT_FAILED,
+        Input::Memory => NO_MEMORY,
+    }
+}
+
+// Runs the scenario of a text.
+fn run_scenario<R: Threads + Wait + Sync, K: Sink, F: Fabric, C: Clock, G: Gate>(
+    rt: &R,
+    alloc: Global,
+    text: &[u8],
+    out: &mut K,
+    fabric: &mut F,
+    clock: &C,
+    gate: &G,
+) -> u8
+    ensures statuses { result ≤ FABRIC_FAILED }
+    ensures some { (result ≢ NO_COMMAND) × (result ≢ INPUT_FAILED) }
+    ensures done { (left : Option (List ℕ)) → IsInput left text.now → result ≡ DONE → WritesRun C.Clock F.L.Link F.pair
+        clock.now (F.back fabric.old) (F.back fabric.new) false Running.Scenario left
+        (K.written out.old) (K.written out.new) }
+    ensures link { (left : Option (List ℕ)) → IsInput left text.now → result ≡ LINK_FAILED → WritesRun C.Clock F.L.Link
+        F.pair clock.now (F.back fabric.old) (F.back fabric.new) true Running.Scenario left
+        (K.written out.old) (K.written out.new) }
+    ensures faulty { (left left' : Option (List ℕ)) → IsInput left text.now → result ≡ FAULTY_INPUT
+        → WritesRefusal Running.Scenario left left' (K.written out.old) (K.written out.new) }
+    ensures refused { (at : Entry) (reason : ScenarioReason) → HasFault text.now at reason
+        → (result ≢ DONE) × (result ≢ LINK_FAILED) × (result ≢ FABRIC_FAILED) × (fabric.new ≡ fabric.old) }
+    ensures cut_short { (left left' : Option (List ℕ)) → IsInput left text.now
+        → (result ≡ NO_MEMORY) ⊎ (result ≡ OUTPUT_FAILED) → StopsRun C.Clock F.L.Link F.pair clock.now
+        (F.back fabric.old) (F.back fabric.new) Running.Scenario left left' (K.written out.old) (K.written out.new) }
+    ensures unopened { result ≡ FABRIC_FAILED → ((plan : Plan) × IsTextOf text.now plan) × (out.new ≡ out.old) }
+    ensures unrun { result ≡ FAULTY_INPUT → fabric.new ≡ fabric.old }
+    ensures away { (result ≡ DONE) ⊎ (result ≡ LINK_FAILED) → F.away fabric.new ≡ F.away fabric.old }
+    ensures out_cause { HasCause (result ≡ OUTPUT_FAILED) (K.faults out.old) (K.faults out.new) }
+    ensures fabric_cause { HasCause (result ≡ FABRIC_FAILED) (F.faults fabric.old) (F.faults fabric.new) }
+{
+    a_said_plan_is_sound();
+    one_scenario();
+    match read_scenario(alloc, text) {
+        Ok(plan) => match serve_plan(rt, alloc, &plan, fabric, clock, gate) {
+            Ok(run) => tell(run.text.as_slice(), run.failed, out),
+            Err(fault) => status_of(fault),
+        },
+        Err(ScenarioFault::At { entry, reason }) => {
+            refuse(alloc, entry.number(), reason.word().as_bytes(), out)
+        }
+        Err(ScenarioFault::Memory) => NO_MEMORY,
+    }
+}
+
+// Runs the drill of so many calls.
+fn run_drill<R: Threads + Wait + Sync, K: Sink, F: Fabric, C: Clock, G: Gate>(
+    rt: &R,
+    alloc: Global,
+    calls: u64,
+    out: &mut K,
+    fabric: &mut F,
+    clock: &C,
+    gate: &G,
+) -> u8
+    requires { calls ≤ MAX_CALLS }
+    ensures statuses { result ≤ FABRIC_FAILED }
+    ensures some { (result ≢ NO_COMMAND) × (result ≢ FAULTY_INPUT) × (result ≢ INPUT_FAILED) }
+    ensures done { (left : Option (List ℕ)) → result ≡ DONE → WritesRun C.Clock F.L.Link F.pair clock.now
+        (F.back fabric.old) (F.back fabric.new) false (Running.Drill calls) left
+        (K.written out.old) (K.written out.new) }
+    ensures link { (left : Option (List ℕ)) → result ≡ LINK_FAILED → WritesRun C.Clock F.L.Link F.pair clock.now
+        (F.back fabric.old) (F.back fabric.new) true (Running.Drill calls) left
+        (K.written out.old) (K.written out.new) }
+    ensures cut_short { (left left' : Option (List ℕ)) → (result ≡ NO_MEMORY) ⊎ (result ≡ OUTPUT_FAILED)
+        → StopsRun C.Clock F.L.Link F.pair clock.now (F.back fabric.old) (F.back fabric.new) (Running.Drill calls)
+        left left' (K.written out.old) (K.written out.new) }
+    ensures unopened { result ≡ FABRIC_FAILED → out.new ≡ out.old }
+    ensures away { (result ≡ DONE) ⊎ (result ≡ LINK_FAILED) → F.away fabric.new ≡ F.away fabric.old }
+    ensures out_cause { HasCause (result ≡ OUTPUT_FAILED) (K.faults out.old) (K.faults out.new) }
+    ensures fabric_cause { HasCause (result ≡ FABRIC_FAILED) (F.faults fabric.old) (F.faults fabric.new) }
+{
+    match drilled(rt, alloc, calls, fabric, clock, gate) {
+        Ok((line, failed)) => tell(line.as_slice(), failed, out),
+        Err(fault) => status_of(fault),
+    }
+}
+
+// Runs the drill, and gives its line, and whether a link failed.
+fn drilled<R: Threads + Wait + Sync, F: Fabric, C: Clock, G: Gate>(
+    rt: &R,
+    alloc: Global,
+    calls: u64,
+    fabric: &mut F,
+    clock: &C,
+    gate: &G,
+) -> Result<(Bytes, bool), ServeFault>
+    requires { calls ≤ MAX_CALLS }
+    ensures told { IfOk result (λ told. TellsDrill C.Clock F.L.Link F.pair clock.now
+        (F.back fabric.old) (F.back fabric.new) told.1 calls told.0) }
+    ensures away { IfOk result (λ told. F.away fabric.new ≡ F.away fabric.old) }
+    ensures cause { HasCause (IsErrOf result ServeFault.Fabric) (F.faults fabric.old) (F.faults fabric.new) }
+{
+    totals_are_counts();
+    let plan = drill_plan(alloc, calls)?;
+    let run = match serve_plan(rt, alloc, &plan, fabric, clock, gate) {
+        Ok(run) => run,
+        Err(fault) => return Err(fault),
+    };
+    let line = drill_line(alloc, calls, &run.totals)?;
+    Ok((line, run.failed))
+}
+
+// What a drill tells: `drill N took T sent S refused R stands D`.
+fn drill_line(alloc: Global, calls: u64, totals: &Totals) -> Result<Bytes, Memory>
+    ensures line { IfOk result (λ line. line ≡ drill_line calls (sums_of totals.now)) }
+    ensures totals { IsTotals totals.now }
+{
+    let (took, sent, refused, standing) = totals.sums();
+    let mut line = Bytes::from_slice(alloc, b"drill")?;
+    line.append_word(calls)?;
+    append_count(&mut line, b" took", took)?;
+    append_count(&mut line, b" sent", sent)?;
+    append_count(&mut line, b" refused", refused)?;
+    append_count(&mut line, b" stands", standing)?;
+    line.append(b"\n")?;
+    Ok(line)
+}
+
+// Appends a word and a count.
+fn append_count(line: &mut Bytes, word: &[u8], count: u64) -> Result<(), Memory>
+    ensures { OnOk result (line.new ≡ line.old ++ (word.now ++ 32 ∷ decimal count)) }
+{
+    line.append(word)?;
+    line.append_word(count)
+}
+
+// Writes what a run tells.
+fn tell<K: Sink>(text: &[u8], failed: bool, out: &mut K) -> u8
+    ensures statuses { (result ≡ DONE) ⊎ ((result ≡ LINK_FAILED) ⊎ (result ≡ OUTPUT_FAILED)) }
+    ensures done { result ≡ DONE → (failed ≡ false) × Appends (K.written out.old) (K.written out.new) text.now }
+    ensures link { result ≡ LINK_FAILED → (failed ≡ true) × Appends (K.written out.old) (K.written out.new) text.now }
+    ensures front { result ≡ OUTPUT_FAILED → WritesFront (K.written out.old) (K.written out.new) text.now }
+    ensures cause { HasCause (result ≡ OUTPUT_FAILED) (K.faults out.old) (K.faults out.new) }
+{
+    if !write_all(out, text) {
+        return OUTPUT_FAILED;
+    }
+    if failed { LINK_FAILED } else { DONE }
+}
+
+// The status of a run that gave nothing back.
+fn status_of(fault: ServeFault) -> u8
+    ensures fabric { fault ≡ ServeFault.Fabric → result ≡ FABRIC_FAILED }
+    ensures memory { fault ≢ ServeFault.Fabric → result ≡ NO_MEMORY }
+{
+    match fault {
+        ServeFault::Fabric => FABRIC_FAILED,
+        ServeFault::Memory => NO_MEMORY,
+    }
+}

@@ -1,0 +1,109 @@
+//! The top call: the words of a command line, and what they have done.
+
+ghost use Rattle.std.specs.Prelude.{◌≡◌, ◌≢◌, ◌↔◌, ◌⊎◌, ◌≤◌, List, ℕ, Some, true, false};
+ghost use Rattle.mrpc_base.specs.Faults.{HasCause, Rose};
+ghost use Rattle.mrpc_top.specs.Command.{HasFault, IsBroken, IsCommand, IsCutShort, IsDone, IsRefused, IsReplay, Names};
+ghost use Rattle.mrpc_top.specs.Runs.{HasPlan, HasRunFault, IsRunning, NamesRun, StopsRun, WritesRefusal, WritesRun};
+ghost use Rattle.mrpc_top.specs.declared.command.Command.{Command};
+ghost use Rattle.mrpc_top.specs.declared.command.Command.TheVariants.{Replay};
+ghost use Rattle.mrpc_top.specs.declared.run.Running.{Running};
+ghost use Rattle.mrpc_top.specs.declared.run.Running.TheVariants.{Drill};
+
+use crate::command::{
+    DONE, FAULTY_INPUT, INPUT_FAILED, NO_COMMAND, NO_MEMORY, OUTPUT_FAILED, WIRE_FAILED, run_still,
+};
+use crate::run::{FABRIC_FAILED, LINK_FAILED, run_named, running_of};
+use mrpc_base::{Clock, Fabric, Gate, Sink, Source};
+use std::alloc::Global;
+use std::sync::Wait;
+use std::thread::Threads;
+
+/// Runs the command that the words name, and answers its exit status.
+///
+/// `run` reads a scenario from `input` and runs it over links of `fabric`; `drill N` runs the drill of N calls, and reads
+/// nothing. Other words are those of [`run_still`].
+pub fn run_command<
+    R: Threads + Wait + Sync,
+    S: Source,
+    K: Sink,
+    W: Sink,
+    F: Fabric,
+    C: Clock,
+    G: Gate,
+>(
+    rt: &R,
+    alloc: Global,
+    words: &Vec<String>,
+    input: &mut S,
+    out: &mut K,
+    wire: &mut W,
+    fabric: &mut F,
+    clock: &C,
+    gate: &G,
+) -> u8
+    ensures statuses { result ≤ FABRIC_FAILED }
+
+    // Which words are a command. For others nothing is read and nothing written.
+    ensures words { (result ≡ NO_COMMAND) ↔ ((IsCommand words.now.items ⊎ IsRunning words.now.items) → ⊥) }
+    ensures untouched { result ≡ NO_COMMAND → (input.new ≡ input.old) × (out.new ≡ out.old) × (wire.new ≡ wire.old) }
+
+    // A command that runs nothing: its input is a text that it works on, or has a fault, and what follows was written.
+    ensures done { (command : Command) → Names words.now.items command → result ≡ DONE → IsDone command
+        (S.left input.old) (K.written out.old) (K.written out.new) (W.written wire.old) (W.written wire.new) }
+    ensures faulty { (command : Command) → Names words.now.items command → result ≡ FAULTY_INPUT → IsRefused command
+        (S.left input.old) (S.left input.new) (K.written out.old) (K.written out.new) }
+    ensures refused { (command : Command) (text : List ℕ) → Names words.now.items command → S.left input.old ≡ Some text
+        → HasFault command text → (result ≢ DONE) × (result ≢ WIRE_FAILED) }
+
+    // Only a replay sends frames on the wire, and none of an input that has a fault.
+    ensures unsent { (result ≡ FAULTY_INPUT) ⊎ (IsReplay words.now.items → ⊥) → wire.new ≡ wire.old }
+    ensures sound_alone { (text : List ℕ) → IsReplay words.now.items → S.left input.old ≡ Some text
+        → HasFault Replay text → wire.new ≡ wire.old }
+    ensures broken { IsCommand words.now.items → result ≡ WIRE_FAILED → IsReplay words.now.items × IsBroken
+        (S.left input.old) (K.written out.old) (K.written out.new) (W.written wire.old) (W.written wire.new) }
+    ensures cut_short { IsReplay words.now.items → (result ≡ NO_MEMORY) ⊎ (result ≡ OUTPUT_FAILED)
+        → IsCutShort (S.left input.old) (S.left input.new)
+        (K.written out.old) (K.written out.new) (W.written wire.old) (W.written wire.new) }
+
+    // What was run has done what a run does, and told it: at `DONE` no link failed, at `LINK_FAILED` one did.
+    ensures ran { (running : Running) → NamesRun words.now.items running → result ≡ DONE → WritesRun C.Clock F.L.Link
+        F.pair clock.now (F.back fabric.old) (F.back fabric.new) false running (S.left input.old)
+        (K.written out.old) (K.written out.new) }
+    ensures ran_on { (running : Running) → NamesRun words.now.items running → result ≡ LINK_FAILED → WritesRun C.Clock
+        F.L.Link F.pair clock.now (F.back fabric.old) (F.back fabric.new) true running (S.left input.old)
+        (K.written out.old) (K.written out.new) }
+    // An input that has a fault isn't run, and its first fault is all that is written.
+    ensures not_run { (running : Running) → NamesRun words.now.items running → result ≡ FAULTY_INPUT
+        → WritesRefusal running (S.left input.old) (S.left input.new) (K.written out.old) (K.written out.new) }
+    ensures never_run { (running : Running) (text : List ℕ) → NamesRun words.now.items running
+        → S.left input.old ≡ Some text → HasRunFault running text
+        → (result ≢ DONE) × (result ≢ LINK_FAILED) × (result ≢ FABRIC_FAILED) × (fabric.new ≡ fabric.old) }
+    // What a run wrote that ends early is in front of what it may write.
+    ensures stopped { (running : Running) → NamesRun words.now.items running
+        → (result ≡ NO_MEMORY) ⊎ (result ≡ OUTPUT_FAILED) → StopsRun C.Clock F.L.Link F.pair clock.now
+        (F.back fabric.old) (F.back fabric.new) running (S.left input.old) (S.left input.new)
+        (K.written out.old) (K.written out.new) }
+    // Where a link couldn't be opened, nothing is written.
+    ensures unopened { (running : Running) → NamesRun words.now.items running → result ≡ FABRIC_FAILED
+        → HasPlan running (S.left input.old) × (out.new ≡ out.old) }
+    ensures drilled { (calls : ℕ) → NamesRun words.now.items (Drill calls) → input.new ≡ input.old }
+
+    // Only what is run touches the fabric, and it gives all links back that it opened.
+    ensures unrun { ((result ≡ FAULTY_INPUT) ⊎ (result ≡ INPUT_FAILED)) ⊎ (IsRunning words.now.items → ⊥)
+        → fabric.new ≡ fabric.old }
+    ensures away { (result ≡ DONE) ⊎ (result ≡ LINK_FAILED) → F.away fabric.new ≡ F.away fabric.old }
+
+    // Each device is answered for by its own status.
+    ensures input_cause { HasCause (result ≡ INPUT_FAILED) (S.faults input.old) (S.faults input.new) }
+    ensures out_cause { HasCause (result ≡ OUTPUT_FAILED) (K.faults out.old) (K.faults out.new) }
+    ensures wire_rose { IsCommand words.now.items → result ≡ WIRE_FAILED → Rose (W.faults wire.old) (W.faults wire.new) }
+    ensures wire_same { result ≡ DONE → W.faults wire.new ≡ W.faults wire.old }
+    ensures wire_never_falls { W.faults wire.old ≤ W.faults wire.new }
+    ensures fabric_cause { HasCause (result ≡ FABRIC_FAILED) (F.faults fabric.old) (F.faults fabric.new) }
+    ensures unread { result ≡ INPUT_FAILED → (out.new ≡ out.old) × (wire.new ≡ wire.old) }
+{
+    match running_of(words) {
+        Some(running) => run_named(rt, alloc, running, input, out, fabric, clock, gate),
+        None => run_still(alloc, words, input, out, wire),
+    }
+}
