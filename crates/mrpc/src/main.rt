@@ -1,7 +1,7 @@
-//! The program `mrpc`: the words of the command line, standard input, standard output, the file `mrpc.wire`, links in
-//! memory and the clock handed to the top call, whose answer is the exit status.
+//! The program `mrpc`: the words of the command line, standard input, standard output, the file `mrpc.wire`, links over
+//! TCP and the clock handed to the top call, whose answer is the exit status.
 //!
-//! It stands on `system_io`, which makes a source, sinks and a clock of the system's, on `mem_fabric` for the links, on
+//! It stands on `system_io`, which makes a source, sinks and a clock of the system's, on `tcp_fabric` for the links, on
 //! `mrpc_top`, which does all the work, and on `explain`, which says on standard error what stands against a faulty
 //! input.
 #![tactic(auto)]
@@ -13,17 +13,18 @@ mod usage;
 use command_line::{Asked, WordsFault, asked_alone, words};
 use explain::{explained, no_command};
 use kept::{KeptSink, KeptSource};
-use mem_fabric::{ListedFaults, MemFabric};
 use mrpc_base::{OpenGate, Sink, Source, write_all};
 use mrpc_top::{DONE, FAULTY_INPUT, NO_COMMAND, NO_MEMORY, OUTPUT_FAILED, run_command};
 use std::alloc::Global;
 use std::env::Env;
+use std::net::{Net, TcpListener, TcpStream};
 use std::process::ExitCode;
 use std::rt::Files;
 use std::sync::Wait;
 use std::thread::Threads;
 use std::time::Clock;
 use system_io::{FileSink, Lock, StandardInput, StandardOutput, SystemClock};
+use tcp_fabric::{Loopback, TcpFabric};
 use usage::{failure, usage};
 
 const VERSION: &str = "mrpc 0.1.0\n";
@@ -49,6 +50,7 @@ fn exit_status<R, S: Source + Drop, K: Sink + Drop, E: Sink>(
 ) -> u8
 where
     R: Threads + Wait + Sync + Clock + Files + Env + AllocGlobal,
+    R: Net<Stream = TcpStream, Listener = TcpListener>,
     R::File: Lock,
 {
     let words = match words(rt) {
@@ -70,16 +72,17 @@ where
     status
 }
 
-// Runs the command that the words name, with the file `mrpc.wire`, over links in memory, by the clock of the system, and
+// Runs the command that the words name, with the file `mrpc.wire`, over links of 127.0.0.1, by the clock of the system, and
 // gives its status.
 fn run_words<R, S: Source, K: Sink>(rt: &R, words: &Vec<String>, input: &mut S, out: &mut K) -> u8
 where
     R: Threads + Wait + Sync + Clock + Files + AllocGlobal,
+    R: Net<Stream = TcpStream, Listener = TcpListener>,
     R::File: Lock,
 {
     let alloc = rt.alloc();
     let mut wire = FileSink::new(rt);
-    let mut fabric = MemFabric::new(rt, alloc, no_faults(alloc));
+    let mut fabric = TcpFabric::new(rt, alloc, Loopback::new(rt));
     let clock = SystemClock::new(rt);
     run_command(
         rt,
@@ -92,15 +95,6 @@ where
         &clock,
         &OpenGate,
     )
-}
-
-// No call of a link is made to fail.
-fn no_faults(alloc: Global) -> ListedFaults {
-    ListedFaults {
-        openings: Vec::new(alloc),
-        sends: Vec::new(alloc),
-        receives: Vec::new(alloc),
-    }
 }
 
 // Writes on standard error what stands against the input. Where there is no memory for that, nothing is said.
