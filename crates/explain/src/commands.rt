@@ -9,6 +9,7 @@ use crate::fault_line::{FAULT, FaultLine};
 use crate::finding::Finding;
 use crate::frames::explain_decode;
 use crate::lines::{Format, explain_line};
+use crate::run::explain_run;
 use crate::sentence::Sentence;
 use mrpc_table::{Bytes, Memory, is_word};
 use std::alloc::Global;
@@ -87,6 +88,9 @@ fn found<'a>(
     }
     if is_word(command, b"decode") {
         return explain_decode(alloc, input, &fault);
+    }
+    if is_word(command, b"run") {
+        return explain_run(alloc, input);
     }
     let format = if is_word(command, b"audit") {
         Format::Audit

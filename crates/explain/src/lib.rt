@@ -2,9 +2,10 @@
 //! is at fault.
 //!
 //! [`explained`] takes the input of a command and the line `fault ..` that the command wrote. It asks the readers of
-//! the input for the place, and for what could stand there or what stands against it. It stands on these readers, and
-//! on `line_mark`, whose contract says what is shown of a place. The program uses one contract: what is said is a plain
-//! sentence, or points at a place of the input with it (`specs/Said.antt`). The sentences are tested.
+//! the input for the place, and for what could stand there or what stands against it. It stands on these readers, on
+//! `scenario_explain`, which does so for scenarios, and on `line_mark`, whose contract says what is shown of a place. The
+//! program uses one contract: what is said is a plain sentence, or points at a place of the input with it
+//! (`specs/Said.antt`). The sentences are tested.
 #![tactic(auto)]
 
 mod check;
@@ -21,6 +22,7 @@ mod lines;
 mod named;
 mod offence;
 mod part;
+mod run;
 mod script_words_at_fault;
 mod sentence;
 mod set;

@@ -63,9 +63,7 @@ where
     }
     let status = run_words(rt, &words, input, out);
     match words.first() {
-        Some(word) if status == FAULTY_INPUT && word.as_str() != "run" => {
-            tell(rt.alloc(), word, input, out, error)
-        }
+        Some(word) if status == FAULTY_INPUT => tell(rt.alloc(), word, input, out, error),
         Some(_) if status == NO_COMMAND => say_words(rt.alloc(), &words, error),
         _ => {}
     }

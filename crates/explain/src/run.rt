@@ -1,0 +1,28 @@
+//! The faults of scenarios.
+
+ghost use Rattle.std.specs.Prelude.{IfOk};
+ghost use Rattle.explain.specs.Findings.{PointsInto};
+
+use crate::commands::only;
+use crate::finding::Finding;
+use crate::part::Part;
+use crate::sentence::Sentence;
+use mrpc_table::Memory;
+use scenario_explain::tell_fault;
+use std::alloc::Global;
+
+/// What stands against a scenario.
+pub(crate) fn explain_run<'a>(alloc: Global, input: &'a [u8]) -> Result<Finding<'a>, Memory>
+    ensures { IfOk result (λ f. PointsInto input.now f.part) }
+{
+    let Some(told) = tell_fault(alloc, input)? else {
+        return only(alloc, b"the input has a fault");
+    };
+    let mut sentence = Sentence::new(alloc);
+    sentence.say(told.front.as_slice())?;
+    sentence.say(told.rest.as_slice())?;
+    match told.place {
+        None => Ok(Finding::alone(sentence)),
+        Some(place) => Ok(Finding::in_line(sentence, Part::of(input, place.start, place.end))),
+    }
+}

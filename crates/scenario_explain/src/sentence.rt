@@ -1,0 +1,113 @@
+//! What a reason says of an entry.
+
+use crate::declared::{declared_in, entries_of};
+use crate::general::general_words;
+use crate::keys::say_key;
+use crate::links::say_pair;
+use crate::names::{say_known, say_name, say_unknown};
+use crate::numbers::say_number;
+use crate::program::say_program;
+use crate::rules::{say_own_rules, say_rules};
+use crate::schema::say_schema;
+use crate::site::{Said, Site, Spot, names_in};
+use crate::steps::{say_chain, say_refused, say_step, say_step_rules, say_unknown_step};
+use mrpc_table::{Bytes, Memory};
+use scenario::{Entry, ScenarioReason};
+use std::alloc::Global;
+
+/// Says what a reason says of an entry, and gives the part of the entry that it is of.
+pub(crate) fn say_reason<'a>(
+    alloc: Global,
+    out: &mut Bytes,
+    site: &Site<'a>,
+    reason: ScenarioReason,
+) -> Result<Spot<'a>, Memory> {
+    if let Some(spot) = say_of_keys(alloc, out, site, reason)? {
+        return Ok(spot);
+    }
+    let said = match site.at {
+        Entry::Policy(_) => say_rules(alloc, out, site, reason)?,
+        Entry::App(_) => say_of_app(alloc, out, site, reason)?,
+        Entry::Operator(_) => say_of_operator(alloc, out, site, reason)?,
+        _ => None,
+    };
+    match said {
+        Some(spot) => Ok(spot),
+        None => {
+            out.append(general_words(reason).as_bytes())?;
+            Ok(Spot::nowhere())
+        }
+    }
+}
+
+// Says what is wrong with the value at one key of an entry, apart from lines.
+fn say_of_keys<'a>(
+    alloc: Global,
+    out: &mut Bytes,
+    site: &Site<'a>,
+    reason: ScenarioReason,
+) -> Said<'a> {
+    match reason {
+        ScenarioReason::Key => say_key(out, site),
+        ScenarioReason::Number => say_number(out, site),
+        ScenarioReason::Name => say_name(alloc, out, site),
+        ScenarioReason::Known => say_known(alloc, out, site),
+        ScenarioReason::Unknown => say_unknown(alloc, out, site),
+        ScenarioReason::Schema => say_schema(alloc, out, site.entry),
+        ScenarioReason::Pair => say_pair(alloc, out, site),
+        _ => Ok(None),
+    }
+}
+
+// Says what is wrong with the program, the chain or the schema of an application.
+fn say_of_app(
+    alloc: Global,
+    out: &mut Bytes,
+    site: &Site<'_>,
+    reason: ScenarioReason,
+) -> Said<'static> {
+    let said = say_own(alloc, out, site, reason)?;
+    if said.is_some() {
+        return Ok(said);
+    }
+    match say_program(alloc, out, site, reason)? {
+        Some(spot) => Ok(Some(spot)),
+        None => say_chain(alloc, out, site.entry, reason),
+    }
+}
+
+// Says which line of a policy that an application names is at fault under its own schema.
+fn say_own(
+    alloc: Global,
+    out: &mut Bytes,
+    site: &Site<'_>,
+    reason: ScenarioReason,
+) -> Said<'static> {
+    let Some(declared) = declared_in(alloc, site.all)? else {
+        return Ok(None);
+    };
+    let names = names_in(alloc, site.entry)?;
+    let policies = entries_of(alloc, site.all, &declared, names.as_slice())?;
+    say_own_rules(alloc, out, site.entry, policies.as_slice(), reason)
+}
+
+// Says what is wrong with a line of an operator.
+fn say_of_operator(
+    alloc: Global,
+    out: &mut Bytes,
+    site: &Site<'_>,
+    reason: ScenarioReason,
+) -> Said<'static> {
+    if let Some(spot) = say_step(alloc, out, site.entry, reason)? {
+        return Ok(Some(spot));
+    }
+    match reason {
+        ScenarioReason::Unknown => say_unknown_step(alloc, out, site),
+        ScenarioReason::NoSuch
+        | ScenarioReason::Taken
+        | ScenarioReason::At
+        | ScenarioReason::ChainFull
+        | ScenarioReason::OtherKind => say_refused(alloc, out, site, reason),
+        _ => say_step_rules(alloc, out, site, reason),
+    }
+}

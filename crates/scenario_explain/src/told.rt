@@ -1,0 +1,113 @@
+//! The first fault of a scenario, in a sentence.
+
+ghost use Rattle.std.specs.Prelude.{◌≡◌, IfOk, IfNone, IfSome};
+ghost use Rattle.run_plan.specs.declared.plan.Plan.{Plan};
+ghost use Rattle.scenario.specs.Scenarios.{HasFault, IsTextOf};
+ghost use Rattle.scenario_explain.specs.Told.{entry_words};
+
+use crate::entry::{entry_words, list_of};
+use crate::general::general_words;
+use crate::sentence::say_reason;
+use crate::site::Site;
+use mrpc_table::{Bytes, Memory};
+use scenario::{Entry, ScenarioFault, ScenarioReason};
+use scenario_reader::read_scenario;
+use std::alloc::Global;
+use toml::de::Error;
+use toml::table_from_slice;
+use toml_places::{Sought, Span, place_of};
+
+/// What stands against a scenario.
+#[derive(Drop)]
+pub struct Told {
+    /// The first entry at fault.
+    pub at: Entry,
+    /// The first reason against it.
+    pub reason: ScenarioReason,
+    /// The words for the entry, with which the sentence begins.
+    pub front: Bytes,
+    /// The rest of the sentence. What it quotes stands as it is in the text.
+    pub rest: Bytes,
+    /// Where in the text, as far as that is known.
+    pub place: Option<Span>,
+}
+
+/// What stands against the text of a scenario; none where nothing does. It takes time in proportion to the text, but
+/// for look-ups.
+pub fn tell_fault(alloc: Global, text: &[u8]) -> Result<Option<Told>, Memory>
+    // Where nothing is said, the text says a plan.
+    ensures plan { IfOk result (λ told. IfNone told ((plan : Plan) × IsTextOf text.now plan)) }
+    // What is told of is the first fault of the text.
+    ensures fault { IfOk result (λ told. IfSome told (λ t. HasFault text.now t.at t.reason)) }
+    // The sentence begins with the words for the entry.
+    ensures front { IfOk result (λ told. IfSome told (λ t. t.front ≡ entry_words t.at)) }
+{
+    match read_scenario(alloc, text) {
+        Ok(_) => Ok(None),
+        Err(ScenarioFault::At { entry, reason }) => {
+            let told = told_of(alloc, text, entry, reason)?;
+            Ok(Some(told))
+        }
+        Err(ScenarioFault::Memory) => Err(Memory),
+    }
+}
+
+// What a reason says of an entry.
+fn told_of(alloc: Global, text: &[u8], at: Entry, reason: ScenarioReason) -> Result<Told, Memory>
+    ensures at { IfOk result (λ told. (told.at ≡ at) × (told.reason ≡ reason)) }
+    ensures front { IfOk result (λ told. told.front ≡ entry_words at) }
+{
+    let front = entry_words(alloc, at)?;
+    let mut rest = Bytes::new(alloc);
+    let place = say_rest(alloc, &mut rest, text, at, reason)?;
+    Ok(Told {
+        at,
+        reason,
+        front,
+        rest,
+        place,
+    })
+}
+
+// Says what stands behind the words for the entry, and gives the place.
+fn say_rest(
+    alloc: Global,
+    out: &mut Bytes,
+    text: &[u8],
+    at: Entry,
+    reason: ScenarioReason,
+) -> Result<Option<Span>, Memory> {
+    let all = match table_from_slice(alloc, text) {
+        Ok(all) => all,
+        Err(error) => return say_no_toml(out, &error),
+    };
+    match Site::of(alloc, &all, at)? {
+        None => {
+            out.append(general_words(reason).as_bytes())?;
+            Ok(None)
+        }
+        Some(site) => {
+            let spot = say_reason(alloc, out, &site, reason)?;
+            let sought = Sought {
+                list: list_of(at),
+                number: at.number(),
+                key: spot.key,
+                item: spot.line,
+            };
+            place_of(alloc, text, sought)
+        }
+    }
+}
+
+// Says why a text is no TOML.
+fn say_no_toml(out: &mut Bytes, error: &Error) -> Result<Option<Span>, Memory> {
+    out.append(b" is no TOML: ")?;
+    out.append(error.message().as_bytes())?;
+    match error.span() {
+        None => Err(Memory),
+        Some(span) => Ok(Some(Span {
+            start: span.start,
+            end: span.end,
+        })),
+    }
+}
