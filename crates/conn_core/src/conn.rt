@@ -28,7 +28,6 @@ use wire_encode::Output;
 const RECORDS: usize = MAX_ENGINES + 1;
 
 /// A connection, which one thread holds by value. Contracts see it as `Connection` of `specs/Connections.antt`.
-#[derive(Drop)]
 pub struct Conn<'t> {
     conn: u32,
     table: &'t Table,
@@ -42,6 +41,24 @@ pub struct Conn<'t> {
     moment: u64,
     ended: bool,
     payload: Output,
+}
+
+// By hand, so that a drop is one call where it is needed, and not a drop of each part.
+impl<'t> Drop for Conn<'t> {
+    fn drop(self) {
+        let Conn {
+            conn: _,
+            table: _,
+            limit: _,
+            chain: _chain,
+            steps: _steps,
+            history: _history,
+            accepted: _,
+            moment: _,
+            ended: _,
+            payload: _payload,
+        } = self;
+    }
 }
 
 impl<'t> Model for Conn<'t> {

@@ -61,7 +61,6 @@ pub enum Stream {
 }
 
 /// What one thread holds to receive the frames of a connection.
-#[derive(Drop)]
 pub struct Arrivals<'t> {
     pub inbound: Inbound,
     /// The heap of the messages.
@@ -74,6 +73,21 @@ pub struct Arrivals<'t> {
     pub stream: Stream,
     /// The frame fault of the stream, where it has one.
     pub fault: Option<FeedFault>,
+}
+
+// By hand, so that a drop is one call where it is needed, and not a drop of each part.
+impl<'t> Drop for Arrivals<'t> {
+    fn drop(self) {
+        let Arrivals {
+            inbound: _inbound,
+            writer: _writer,
+            table: _,
+            policy: _,
+            lines: _lines,
+            stream: _,
+            fault: _fault,
+        } = self;
+    }
 }
 
 impl<'t> Arrivals<'t> {

@@ -1,17 +1,18 @@
--- The weights of a plan's connections are sound.
-use Rattle.std.proofs.Common.{◌≡◌, ℕ, suc, nat_eq, false, All, Contains, List, [], ◌∷◌, map, refl, sym, ap, subst, arith}
+-- The weights of a plan's connections are sound, and an order that weighs as the plan does goes by it.
+use Rattle.std.proofs.Common.{◌≡◌, ◌<◌, ℕ, zero, suc, nat_eq, false, All, Contains, List, [], ◌∷◌, length, map, refl, sym, ap, ◌∙◌, subst, arith, slice_index_or}
 use Rattle.std.specs.List.{IsDistinct, AllByRecursion}
-use Rattle.std.proofs.lemmas.Bool.{ne_eqb}
+use Rattle.std.proofs.lemmas.Bool.{eq-eqb, ne_eqb}
 use Rattle.std.proofs.lemmas.List.Elements.{All-cons, All-head, All-nil, All-tail}
 use Rattle.mrpc_table.specs.Valid.{AreDistinct}
-use Rattle.qos_order.specs.Account.{IsWeight}
-use Rattle.qos_order.specs.Weights.{IsSound, conns_of}
+use Rattle.qos_order.specs.Account.{IsWeight, granted}
+use Rattle.qos_order.specs.Weights.{IsSound, conns_of, weight_of}
 use Rattle.qos_order.specs.declared.weights.Weight.{Weight}
 use Rattle.run_plan.specs.Plans.{IsApplication, IsPlan}
 use Rattle.run_plan.specs.Ports.{connections_of}
 use Rattle.run_plan.specs.declared.application.Application.{Application}
 use Rattle.run_plan.specs.declared.plan.Plan.{Plan}
-use Rattle.scenario_run.specs.Ordering.{weight_in, weights_of}
+use Rattle.service_wiring.specs.Weighing.{GoesBy}
+use Rattle.scenario_run.specs.Ordering.{WeighsAs, weight_in, weights_of}
 
 first-there : (y : ℕ) (ys : List ℕ) → Contains (y ∷ ys) y
 first-there y ys = (0, omega arith, refl)
@@ -49,3 +50,31 @@ sound-weights plan is = record {
   once = subst (λ (ns : List ℕ). IsDistinct nat_eq ns) (sym (same-conns plan.applications))
       (distinct-is (connections_of plan.applications) is.connections);
 }
+
+-- ---- what the order grants
+
+-- the connection of an application that is there
+conn-there : (apps : List Application) (app : Application) (k : ℕ) → k < length apps → slice_index_or apps k app ≡ app
+    → Contains (connections_of apps) app.conn
+conn-there [] app k within same = absurd (omega (arith, within))
+conn-there (x ∷ apps) app zero within same = (0, omega arith, ap (λ (a : Application). a.conn) same)
+conn-there (x ∷ apps) app (suc k) within same =
+    more-there x.conn (connections_of apps) app.conn (conn-there apps app k (omega (arith, within)) same)
+
+-- among applications with connections of their own, the weight of a connection is that of its application
+weight-there : (apps : List Application) (app : Application) (k : ℕ) → AreDistinct (connections_of apps)
+    → k < length apps → slice_index_or apps k app ≡ app → weight_of (map weight_in apps) app.conn ≡ app.weight
+weight-there [] app k distinct within same = absurd (omega (arith, within))
+weight-there (x ∷ apps) app zero distinct within same =
+    rw (eq-eqb x.conn app.conn (ap (λ (a : Application). a.conn) same)) (ap (λ (a : Application). a.weight) same)
+weight-there (x ∷ apps) app (suc k) distinct within same =
+    let there : Contains (connections_of apps) app.conn = conn-there apps app k (omega (arith, within)) same in
+    rw (ne_eqb x.conn app.conn (λ e. distinct.0
+    (subst (λ (n : ℕ). Contains (connections_of apps) n) (sym e) there)))
+    (weight-there apps app k distinct.1 (omega (arith, within)) same)
+
+pub goes-by : (plan : Plan) (order : List Weight) → IsPlan plan → WeighsAs plan order
+    → GoesBy plan (λ conn kept. granted (weight_of order conn) kept)
+goes-by plan order is weighs = λ weighted app there kept.
+    ap (λ (n : ℕ). granted n kept)
+    (weighs app.conn ∙ weight-there plan.applications app there.0 is.connections there.1 there.2)

@@ -1,5 +1,5 @@
 -- What a run of a plan did, and what it tells (this project's own).
-use Rattle.std.specs.Prelude.{◌≡◌, ◌==◌, ◌<◌, ◌^◌, ℕ, true, false, List, ◌++◌, All, Contains, find, map, length, IsPermutation, Option, None, option_and_then, option_map}
+use Rattle.std.specs.Prelude.{◌≡◌, ◌==◌, ◌<◌, ◌^◌, ℕ, true, false, List, ◌++◌, All, Contains, find, map, length, IsPermutation, Option, option_and_then, option_map}
 use Rattle.std.specs.List.{AllZip, flat_map, filter_map, range_with_len}
 use Rattle.mrpc_base.specs.Faults.{Rose}
 use Rattle.mrpc_base.specs.declared.clock.Clock.{Ghosts as ClockMembers}
@@ -15,10 +15,12 @@ use Rattle.run_plan.specs.declared.limits.TheConstants.{MAX_CONNECTIONS}
 use Rattle.run_plan.specs.declared.plan.Plan.{Plan}
 use Rattle.run_text.specs.Counting.{counted_in}
 use Rattle.run_text.specs.Told.{IsRunText}
+use Rattle.run_text.specs.declared.shown.Rounds.{Rounds}
 use Rattle.run_text.specs.declared.shown.Shown.{Shown}
 use Rattle.run_text.specs.declared.shown.Shown.TheVariants as shown
 use Rattle.run_text.specs.declared.shown.ShownConn.{ShownConn}
 use Rattle.telemetry.specs.Totals.{IsCountOf}
+use Rattle.service_loop.specs.declared.share.Share.{Share}
 use Rattle.service_run.specs.declared.served.BoundConn.{BoundConn}
 use Rattle.service.specs.Served.{ArePairs, WasServed, all_tickets}
 use Rattle.service.specs.declared.served.Outcome.{Outcome}
@@ -41,13 +43,17 @@ judging_by plan app = option_and_then (λ name. option_map (named name) (inbound
 abbrev pub judging_on : Plan → ℕ → Judging
 judging_on plan conn = option_and_then (judging_by plan) (application_in plan.applications conn)
 
+-- what the visits of a connection came to, by its share of the rounds
+abbrev pub rounds_in : Share → Rounds
+rounds_in share = record { weight = share.weight; account = share.account }
+
 -- a connection that was bound is told by what it served
 pub record ShowsBound (plan : Plan) (conn : ℕ) (b : BoundConn) (s : ShownConn) : Type 0 where
   pub calls : s.calls.now ≡ b.submissions.conn
   pub arrivals : s.arrivals.now ≡ b.arrivals
   pub judging : judging_of s.judge ≡ judging_on plan conn
   pub not_held : s.not_held.now ≡ b.reclaims.not_held.items
-  pub no_rounds : s.rounds ≡ None
+  pub rounds : s.rounds ≡ option_map rounds_in b.share
 
 -- a connection is told by what became of it
 abbrev pub ShowsOutcome : Plan → ℕ → Outcome → Shown → Type 0

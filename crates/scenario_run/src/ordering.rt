@@ -1,7 +1,10 @@
 // The order in which connections that are ready get rounds.
 
 ghost use Rattle.std.specs.Prelude.{◌≡◌, IfOk};
+ghost use Rattle.qos_order.specs.Account.{granted};
+ghost use Rattle.qos_order.specs.Weights.{weight_of};
 ghost use Rattle.run_plan.specs.Plans.{IsPlan};
+ghost use Rattle.service_wiring.specs.Weighing.{GoesBy};
 ghost use Rattle.scenario_run.specs.Ordering.{WeighsAs, weights_of};
 
 use mrpc_table::Memory;
@@ -12,7 +15,8 @@ use std::alloc::Global;
 /// The order by the weights of a plan.
 pub(crate) fn weighted(alloc: Global, plan: &Plan) -> Result<Weighted, Memory>
     requires { IsPlan plan.now }
-    ensures { IfOk result (WeighsAs plan.now) }
+    ensures weighs { IfOk result (WeighsAs plan.now) }
+    ensures goes_by { IfOk result (λ order. GoesBy plan.now (λ conn kept. granted (weight_of order conn) kept)) }
 {
     one_weight_fault();
     let weights = weights(alloc, plan)?;

@@ -4,6 +4,7 @@ ghost use Rattle.std.specs.Prelude.{◌≡◌, ◌+◌, ◌≤◌, ◌++◌, IfO
 ghost use Rattle.mrpc_base.specs.Faults.{HasCause};
 ghost use Rattle.run_plan.specs.Plans.{IsPlan};
 ghost use Rattle.service.specs.Prepared.{IsPrepared};
+ghost use Rattle.service_wiring.specs.Weighing.{GoesBy};
 ghost use Rattle.scenario_run.specs.Running.{HasRun, link_of};
 ghost use Rattle.scenario_run.specs.Telling.{AreTellable, IsToldRun};
 
@@ -47,11 +48,11 @@ pub fn serve_plan<R: Threads + Wait + Sync, F: Fabric, C: Clock, G: Gate>(
     ensures cause { HasCause (IsErrOf result ServeFault.Fabric) (F.faults fabric.old) (F.faults fabric.new) }
 {
     let prepared = prepare(alloc, plan)?;
-    if plan.weighted {
-        let order = weighted(alloc, plan)?;
-        return run_in_order(rt, alloc, plan, &prepared, fabric, clock, gate, &order);
+    if !plan.weighted {
+        return run_in_order(rt, alloc, plan, &prepared, fabric, clock, gate, &PlainOrder);
     }
-    run_in_order(rt, alloc, plan, &prepared, fabric, clock, gate, &PlainOrder)
+    let order = weighted(alloc, plan)?;
+    run_in_order(rt, alloc, plan, &prepared, fabric, clock, gate, &order)
 }
 
 // Runs a plan that was prepared, in which connections get rounds in this order.
@@ -67,6 +68,7 @@ fn run_in_order<R: Threads + Wait + Sync, F: Fabric, C: Clock, G: Gate, O: Ready
 ) -> Result<Run, ServeFault>
     requires plan { IsPlan plan.now }
     requires prepared { IsPrepared plan.now prepared.now }
+    requires order { GoesBy plan.now (O.grant_of order.now) }
     ensures ran { IfOk result (HasRun C.Clock F.L.Link F.pair plan.now clock.now (F.back fabric.old) (F.back fabric.new)) }
     ensures away { IfOk result (λ ran. F.away fabric.new ≡ F.away fabric.old) }
     ensures cause { HasCause (IsErrOf result ServeFault.Fabric) (F.faults fabric.old) (F.faults fabric.new) }

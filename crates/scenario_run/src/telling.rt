@@ -1,6 +1,6 @@
 // What a run tells of its connections.
 
-ghost use Rattle.std.specs.Prelude.{◌≡◌, ◌++◌, List, All, Contains, IfOk, OnOk, IsTrue, Some, false, flat_map, option_to_list, true};
+ghost use Rattle.std.specs.Prelude.{◌≡◌, ◌++◌, List, All, Contains, IfOk, OnOk, IsTrue, Some, false, flat_map, option_map, option_to_list, true};
 ghost use Rattle.std.specs.List.{AllZip};
 ghost use Rattle.std.specs.Option.{option_copied};
 ghost use Rattle.arrival_text.specs.Lines.{judging_of};
@@ -11,7 +11,7 @@ ghost use Rattle.run_text.specs.Told.{IsRunText, IsTellable};
 ghost use Rattle.run_text.specs.declared.shown.Shown.{Shown as TheShown};
 ghost use Rattle.service.specs.declared.served.ServedConn.{ServedConn as TheConn};
 ghost use Rattle.telemetry.specs.Totals.{IsCountOf};
-ghost use Rattle.scenario_run.specs.Running.{HasFailed, NeverFailed, Shows, ShowsBound, by_number, conn_in, judging_by, judging_on};
+ghost use Rattle.scenario_run.specs.Running.{HasFailed, NeverFailed, Shows, ShowsBound, by_number, conn_in, judging_by, judging_on, rounds_in};
 ghost use Rattle.scenario_run.specs.Telling.{AreTellable, CanTell, IsTellableBound, TellsFailure};
 
 use arrival_text::Judge;
@@ -19,8 +19,9 @@ use link_greeting::Unbound;
 use mrpc_base::Link;
 use mrpc_table::Memory;
 use run_plan::{Application, MAX_CONNECTIONS, Plan};
-use run_text::{RunText, Shown, ShownConn, run_text};
+use run_text::{Rounds, RunText, Shown, ShownConn, run_text};
 use service::{Outcome, ServedConn};
+use service_loop::Share;
 use service_run::BoundConn;
 use std::alloc::Global;
 
@@ -109,7 +110,20 @@ fn shown_conn<'a, 't>(plan: &'a Plan, conn: u32, bound: &'a BoundConn<'t>) -> Sh
         arrivals: &bound.arrivals,
         judge: judge_on(plan, conn),
         not_held: bound.reclaims.not_held.as_slice(),
-        rounds: None,
+        rounds: rounds_of(bound.share),
+    }
+}
+
+// What the visits of a connection came to, if it has a share of the rounds.
+fn rounds_of(share: Option<Share>) -> Option<Rounds>
+    ensures { result ≡ option_map rounds_in share }
+{
+    match share {
+        Some(own) => Some(Rounds {
+            weight: own.weight,
+            account: own.account,
+        }),
+        None => None,
     }
 }
 

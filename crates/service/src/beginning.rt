@@ -10,6 +10,7 @@ ghost use Rattle.run_plan.specs.Plans.{IsPlan};
 ghost use Rattle.service_loop.specs.Steps.{AreSteps, KnowTenants};
 ghost use Rattle.service_wiring.specs.Wired.{IsWired};
 ghost use Rattle.worker_pool.specs.declared.limits.TheConstants.{MOST_ITEMS};
+ghost use Rattle.service_wiring.specs.Weighing.{GoesBy};
 ghost use Rattle.service.specs.Ends.{Opened};
 ghost use Rattle.service.specs.Greeted.{WasGreeted};
 ghost use Rattle.service.specs.Prepared.{HasSteps};
@@ -20,7 +21,7 @@ use crate::quotas::all_seats;
 use deliveries::{Arrivals, Stream};
 use link_greeting::Unbound;
 use link_queue::{QueueLink, QueueWriter};
-use mrpc_base::{Clock, Link};
+use mrpc_base::{Clock, Link, ReadyOrder};
 use mrpc_table::Memory;
 use run_plan::Application;
 use service_loop::DueStep;
@@ -41,7 +42,7 @@ pub(crate) enum Standing<L> {
 // The connections that have begun, and for those that are bound what each thread gets, all in the same order; and what
 // is left of the seats.
 #[derive(Drop)]
-pub(crate) struct Begun<'t, R: Wait, L: Link, C: Clock, G, O> {
+pub(crate) struct Begun<'t, R: Wait, L: Link, C: Clock, G, O: ReadyOrder> {
     pub standings: Vec<Standing<L>>,
     pub items: Vec<Turned<'t, R, C, Seats, QueueLink<'t, R>, G, O>>,
     pub jobs: Vec<Job<'t>>,
@@ -50,7 +51,7 @@ pub(crate) struct Begun<'t, R: Wait, L: Link, C: Clock, G, O> {
 }
 
 // Begins each connection, with its steps.
-pub(crate) fn begin_all<'t, R: Wait, L: Link + Drop, C: Clock, G, O>(
+pub(crate) fn begin_all<'t, R: Wait, L: Link + Drop, C: Clock, G, O: ReadyOrder>(
     common: &Common<'t, R, C, G, O>,
     steps: &'t [Vec<DueStep>],
     greeted: Vec<Greeted<'t, L>>,
@@ -59,6 +60,7 @@ pub(crate) fn begin_all<'t, R: Wait, L: Link + Drop, C: Clock, G, O>(
     requires greeted { (ends : List (Opened L)) × AllZip (WasGreeted L.Link common.now.plan.now) ends greeted.items
         × HaveStepsAt common.now.plan.now ends steps.now }
     requires few { length greeted.items ≤ MOST_ITEMS }
+    requires order { GoesBy common.now.plan.now (O.grant_of common.now.order.now) }
     ensures { (ends : List (Opened L)) → AllZip (WasGreeted L.Link common.now.plan.now) ends greeted.entry.items
         → HaveStepsAt common.now.plan.now ends steps.now
         → IfOk result (λ begun. AllBegun L.Link common.now.plan.now common.now.clock.now ends begun.standings.items
@@ -81,7 +83,7 @@ pub(crate) fn begin_all<'t, R: Wait, L: Link + Drop, C: Clock, G, O>(
 }
 
 // Begins the next connection, whose steps stand at its place.
-fn begin_next<'t, R: Wait, L: Link + Drop, C: Clock, G, O>(
+fn begin_next<'t, R: Wait, L: Link + Drop, C: Clock, G, O: ReadyOrder>(
     common: &Common<'t, R, C, G, O>,
     steps: &'t [Vec<DueStep>],
     end: Greeted<'t, L>,
@@ -93,6 +95,7 @@ fn begin_next<'t, R: Wait, L: Link + Drop, C: Clock, G, O>(
         × HaveBegun L.Link common.now.plan.now common.now.clock.now whole ends begun.old.standings.items
         begun.old.items.items begun.old.jobs.items begun.old.writers.items begun.old.seats }
     requires few { length begun.old.standings.items < MOST_ITEMS }
+    requires order { GoesBy common.now.plan.now (O.grant_of common.now.order.now) }
     ensures { (whole : List Drawing) (ends later : List (Opened L)) (e : Opened L)
         → WasGreeted L.Link common.now.plan.now e end.entry
         → HaveStepsAt common.now.plan.now (ends ++ e ∷ later) steps.now
@@ -117,7 +120,7 @@ fn begin_next<'t, R: Wait, L: Link + Drop, C: Clock, G, O>(
 }
 
 // Keeps a connection that isn't bound.
-fn leave_out<'t, R: Wait, L: Link + Drop, C: Clock, G, O>(
+fn leave_out<'t, R: Wait, L: Link + Drop, C: Clock, G, O: ReadyOrder>(
     begun: &mut Begun<'t, R, L, C, G, O>,
     conn: u32,
     link: L,
@@ -135,7 +138,7 @@ fn leave_out<'t, R: Wait, L: Link + Drop, C: Clock, G, O>(
 }
 
 // Wires a bound connection, with seats of its own.
-fn take_up<'t, R: Wait, L: Link + Drop, C: Clock, G, O>(
+fn take_up<'t, R: Wait, L: Link + Drop, C: Clock, G, O: ReadyOrder>(
     common: &Common<'t, R, C, G, O>,
     app: &'t Application,
     steps: &'t [DueStep],
@@ -155,6 +158,7 @@ fn take_up<'t, R: Wait, L: Link + Drop, C: Clock, G, O>(
     requires new_heap { reader.loads ≡ [] }
     requires words { MIN_HEAP ≤ reader.heap.words }
     requires shares { All (λ seat. 2 ≤ seat.share) begun.old.seats }
+    requires order { GoesBy common.now.plan.now (O.grant_of common.now.order.now) }
     ensures { (life : TheLife) → HaveLived life arrivals.entry → life.fates ≡ []
         → OnOk result (TookUp common.now.plan.now app.now (record {
           arrivals = arrivals.entry;

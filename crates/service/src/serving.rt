@@ -8,6 +8,7 @@ ghost use Rattle.tenant_quota.specs.Drawing.{EachOnce};
 ghost use Rattle.run_plan.specs.Plans.{IsPlan};
 ghost use Rattle.run_plan.specs.Ports.{all_ends};
 ghost use Rattle.worker_pool.specs.declared.limits.TheConstants.{MOST_ITEMS};
+ghost use Rattle.service_wiring.specs.Weighing.{GoesBy};
 ghost use Rattle.service.specs.Concluding.{WasServedAt};
 ghost use Rattle.service.specs.Ends.{Opened};
 ghost use Rattle.service.specs.Greeted.{WasGreeted};
@@ -47,6 +48,8 @@ pub fn serve<'t, R: Threads + Wait + Sync, F: Fabric, C: Clock, G: Gate, O: Read
 ) -> Result<Served<'t, F::L>, ServeFault>
     requires plan { IsPlan plan.now }
     requires prepared { IsPrepared plan.now prepared.now }
+    // An order that goes by the plan's weights, where the plan's connections are weighed.
+    requires order { GoesBy plan.now (O.grant_of order.now) }
 
     // What it did on each connection, in the order of the links.
     ensures served { IfOk result (λ served. AllZip (WasServed C.Clock F.L.Link plan.now clock.now)
@@ -89,6 +92,7 @@ fn run_all<'t, R: Threads + Wait + Sync, L: Link + Send + Drop, C: Clock, G: Gat
     requires greeted { (ends : List (Opened L)) × AllZip (WasGreeted L.Link common.now.plan.now) ends greeted.items
         × HaveStepsAt common.now.plan.now ends steps.now }
     requires few { length greeted.items ≤ MOST_ITEMS }
+    requires order { GoesBy common.now.plan.now (O.grant_of common.now.order.now) }
     ensures served { (ends : List (Opened L)) → AllZip (WasGreeted L.Link common.now.plan.now) ends greeted.entry.items
         → HaveStepsAt common.now.plan.now ends steps.now
         → IfOk result (λ served. AllZip (WasServedAt C.Clock L.Link common.now.plan.now common.now.clock.now) ends

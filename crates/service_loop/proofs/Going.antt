@@ -160,6 +160,15 @@ pub record HasRead (after : ℕ) (own : Loads) (old new : Reading) : Type 0 wher
   pub fresh : (calls : List CallLoads) → Fresh calls old.known
       → Fresh (calls ++ (record { after = after; loads = own }) ∷ []) new.known
 
+-- a call that was accepted has the next number
+pub call-number : (a b : Connection) (r : Reading) (old : Receiving) (steps : List DueStep) (applied count seq H : ℕ)
+    (d : Descriptor) (own : Loads) → Accepts H (ask_of d) seq own a b → Serves a r old steps applied count
+    → seq ≡ count + 1
+call-number a b r old steps applied count seq H d own accepts h =
+    let in' : HasAccepted (under a) accepts.call (course a) (course b) =
+    accepted-in (under a) (course a) (course b) accepts.call accepts.step in
+    sym accepts.number ∙ in'.may.number ∙ ap (λ (n : ℕ). n + 1) (sym h.count)
+
 -- a descriptor was taken and its call accepted
 pub serves-call : (a b : Connection) (r s : Reading) (old new : Receiving) (steps : List DueStep)
     (applied count seq H : ℕ) (d : Descriptor) (own : Loads) → IsSame a b → a.ended ≡ false
@@ -172,8 +181,7 @@ serves-call a b r s old new steps applied count seq H d own same linked size acc
     let in' : HasAccepted (under a) accepts.call (course a) (course b) =
     accepted-in (under a) (course a) (course b) accepts.call accepts.step in
     let words : s.heap.words ≡ r.heap.words = ap (λ (x : HeapId). x.words) read.heap in
-    let number : seq ≡ count + 1 =
-    sym accepts.number ∙ in'.may.number ∙ ap (λ (n : ℕ). n + 1) (sym h.count) in
+    let number : seq ≡ count + 1 = call-number a b r old steps applied count seq H d own accepts h in
     let ask : asked accepts.call ≡ ask_of d =
     ap (λ (n : ℕ). record {
       method = n;

@@ -12,6 +12,7 @@ mod Parts
 mod Rounds
 mod Rows
 mod Settling
+mod Shares
 mod Taking
 mod Views
 mod Visits

@@ -5,9 +5,10 @@ use Rattle.mrpc_base.specs.declared.link.Link.{Ghosts as LinkMembers}
 use Rattle.mrpc_base.specs.declared.tickets.Tickets.{Ghosts as TicketMembers}
 use Rattle.receive_core.specs.Life.{Life}
 use Rattle.service_loop.specs.Delivering.{AreSame, DeliversOn, HaveDelivered, HaveGoneOn}
-use Rattle.service_loop.specs.Rounds.{GoesOn, IsSame, IsWhole}
+use Rattle.service_loop.specs.Rounds.{GoesOn, IsSame, IsWhole, weight_of_share}
 use Rattle.service_loop.specs.declared.delivering.Deliveries.{Deliveries}
 use Rattle.service_loop.specs.declared.endpoint.Endpoint.{Endpoint}
+use Rattle.service_loop.specs.declared.share.Share.{Share}
 use Rattle.service_loop.proofs.Cases.{appends-then, calls-then, cause-then, draw-none, draw-then, hands-then, same-calls}
 use Rattle.service_loop.proofs.Delivered.{gone-nowhere}
 
@@ -81,6 +82,7 @@ module _ {C Q L : Type 0} (clock : ClockMembers C) (quotas : TicketMembers Q) (l
     clock = refl;
     link = λ first since. since;
     tickets = λ first since. since;
+    weight = refl;
   }
 
   pub same-then : (a b c : Endpoint C Q L) → IsSame clock quotas link a b → IsSame clock quotas link b c
@@ -91,6 +93,7 @@ module _ {C Q L : Type 0} (clock : ClockMembers C) (quotas : TicketMembers Q) (l
     clock = bc.clock ∙ ab.clock;
     link = λ first since. bc.link first (ab.link first since);
     tickets = λ first since. bc.tickets first (ab.tickets first since);
+    weight = bc.weight ∙ ab.weight;
   }
 
   pub goes-nowhere : (e : Endpoint C Q L) → GoesOn clock quotas link e e
@@ -122,10 +125,10 @@ module _ {C Q L : Type 0} (clock : ClockMembers C) (quotas : TicketMembers Q) (l
         c.deliveries ab.delivers bc.delivers;
   }
 
-  -- the rounds that are kept are no part of this
-  pub whole-kept : (e : Endpoint C Q L) (kept : ℕ) → IsWhole clock quotas link e
-      → IsWhole clock quotas link (record e { kept = kept })
-  whole-kept e kept h = record {
+  -- the rounds that are kept, and what visits came to, are no part of this
+  pub whole-kept : (e : Endpoint C Q L) (kept : ℕ) (share : Option Share) → IsWhole clock quotas link e
+      → IsWhole clock quotas link (record e { kept = kept; share = share })
+  whole-kept e kept share h = record {
     served = h.served;
     known = h.known;
     moments = h.moments;
@@ -138,9 +141,9 @@ module _ {C Q L : Type 0} (clock : ClockMembers C) (quotas : TicketMembers Q) (l
     most = h.most;
   }
 
-  pub goes-kept : (a b : Endpoint C Q L) (kept : ℕ) → GoesOn clock quotas link a b
-      → GoesOn clock quotas link a (record b { kept = kept })
-  goes-kept a b kept h = record {
+  pub goes-kept : (a b : Endpoint C Q L) (kept : ℕ) (share : Option Share) → GoesOn clock quotas link a b
+      → GoesOn clock quotas link a (record b { kept = kept; share = share })
+  goes-kept a b kept share h = record {
     handed = h.handed;
     draws = h.draws;
     cause = h.cause;
@@ -148,12 +151,14 @@ module _ {C Q L : Type 0} (clock : ClockMembers C) (quotas : TicketMembers Q) (l
     delivers = h.delivers;
   }
 
-  pub same-kept : (a b : Endpoint C Q L) (kept : ℕ) → IsSame clock quotas link a b
-      → IsSame clock quotas link a (record b { kept = kept })
-  same-kept a b kept h = record {
+  pub same-kept : (a b : Endpoint C Q L) (kept : ℕ) (share : Option Share)
+      → weight_of_share share ≡ weight_of_share b.share → IsSame clock quotas link a b
+      → IsSame clock quotas link a (record b { kept = kept; share = share })
+  same-kept a b kept share weight h = record {
     submissions = h.submissions;
     deliveries = h.deliveries;
     clock = h.clock;
     link = h.link;
     tickets = h.tickets;
+    weight = weight ∙ h.weight;
   }

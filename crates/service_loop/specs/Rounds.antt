@@ -1,9 +1,10 @@
 -- What holds of a connection between two rounds, and how it goes on (this project's own).
-use Rattle.std.specs.Prelude.{◌≡◌, ◌≤◌, ◌<◌, ◌^◌, All, length, None, IsTrue, true, false}
+use Rattle.std.specs.Prelude.{◌≡◌, ℕ, ◌≤◌, ◌<◌, ◌^◌, All, length, Option, None, IfSome, IsTrue, option_map, true, false}
 use Rattle.mrpc_base.specs.Faults.{HasCause}
 use Rattle.mrpc_base.specs.declared.clock.Clock.{Ghosts as ClockMembers}
 use Rattle.mrpc_base.specs.declared.link.Link.{Ghosts as LinkMembers}
 use Rattle.mrpc_base.specs.declared.tickets.Tickets.{Ghosts as TicketMembers}
+use Rattle.qos_order.specs.Account.{IsBalanced, IsWeight, granted, new_account}
 use Rattle.conn_core.specs.Connections.{behind}
 use Rattle.conn_core.specs.Steps.{DrawsTickets, Hands}
 use Rattle.service_loop.specs.Calls.{moments_at_calls, moments_in}
@@ -14,6 +15,36 @@ use Rattle.deliveries.specs.declared.arrivals.Stream.TheVariants.{Ended, Failed}
 use Rattle.service_loop.specs.Delivering.{AreDelivering, CountsAsEnded, DeliversOn}
 use Rattle.service_loop.specs.Delivering.{AreSame as AreSameDeliveries}
 use Rattle.service_loop.specs.declared.endpoint.Endpoint.{Endpoint}
+use Rattle.service_loop.specs.declared.share.Share.{Share}
+
+-- ---- shares
+
+-- the weight of a connection, if its rounds go by weight
+abbrev pub weight_of_share : Option Share → Option ℕ
+weight_of_share share = option_map (λ s. s.weight) share
+
+-- a share of which no visit came yet
+abbrev pub IsNewShare : Share → Type 0
+IsNewShare share = IsWeight share.weight × (share.account ≡ new_account)
+
+-- The share of a connection between two visits, which keeps so many rounds and of which so many calls were accepted. Its
+-- account is balanced and keeps these rounds; as long as it counts visits, at least as many rounds were given as calls
+-- were accepted.
+pub record IsShareOf (kept accepted : ℕ) (share : Share) : Type 0 where
+  pub weight : IsWeight share.weight
+  pub balanced : IsBalanced share.weight share.account
+  pub keeps : share.account.kept ≡ kept
+  pub rounds : share.account.visits < 2 ^ 40 → accepted ≤ share.account.rounds
+
+abbrev pub HasShare : {C Q L : Type 0} → Endpoint C Q L → Type 0
+HasShare e = IfSome e.share (IsShareOf e.kept e.submissions.accepted)
+
+-- an order grants a connection that has a share as many rounds as its weight says
+abbrev pub GrantsShare : {C Q L : Type 0} → (ℕ → ℕ → ℕ) → Endpoint C Q L → Type 0
+GrantsShare grant_of e = IfSome e.share (λ share. (kept : ℕ)
+    → grant_of e.submissions.conn.conn kept ≡ granted share.weight kept)
+
+-- ---- rounds
 
 -- The members of traits say what a clock gives, what quotas know and drew, and what a link was handed, gave and counted.
 module _ {C Q L : Type 0} (of_clock : ClockMembers C) (of_quotas : TicketMembers Q) (of_link : LinkMembers L) where
@@ -32,9 +63,9 @@ module _ {C Q L : Type 0} (of_clock : ClockMembers C) (of_quotas : TicketMembers
     pub room : 0 < length e.buffer.items
     pub most : length e.buffer.items ≤ 2 ^ 32
 
-  -- the same, unless no memory was found
+  -- the same, with its share, unless no memory was found
   abbrev pub IsEndpoint : Endpoint C Q L → Type 0
-  IsEndpoint e = e.memory ≡ false → IsWhole e
+  IsEndpoint e = e.memory ≡ false → IsWhole e × HasShare e
 
   -- what a connection keeps, whatever becomes of it
   pub record IsSame (old new : Endpoint C Q L) : Type 0 where
@@ -43,6 +74,7 @@ module _ {C Q L : Type 0} (of_clock : ClockMembers C) (of_quotas : TicketMembers
     pub clock : new.clock.now ≡ old.clock.now
     pub link : (first : L) → of_link.since first old.link → of_link.since first new.link
     pub tickets : (first : Q) → of_quotas.since first old.tickets → of_quotas.since first new.tickets
+    pub weight : weight_of_share new.share ≡ weight_of_share old.share
 
   -- A connection goes on: its link was handed the frames that its history tells, the tickets were drawn that it tells,
   -- it ended only where the count of the link's faults rose, and what was delivered came from the link.

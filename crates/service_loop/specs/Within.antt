@@ -1,14 +1,16 @@
--- The code's own: what the parts of a round leave as it was.
-use Rattle.std.specs.Prelude.{◌≡◌, ◌⊎◌, ℕ, ◌+◌, ◌≤◌, Bool, true, false, [], ◌∷◌, ◌++◌, length, drop, Some, slice_get}
+-- The code's own: what the parts of a round leave as it was, and how a visit is counted.
+use Rattle.std.specs.Prelude.{◌≡◌, ◌⊎◌, ℕ, ◌+◌, ◌≤◌, Bool, true, false, [], ◌∷◌, ◌++◌, length, drop, Option, None, Some, slice_get}
 use Rattle.call_history.specs.Behind.{moment}
 use Rattle.call_history.specs.Tickets.{tickets_behind}
 use Rattle.conn_core.specs.Connections.{Connection, IsSame, behind, frames}
 use Rattle.descriptor_ring.specs.Rings.{IsOf}
 use Rattle.descriptor_ring.specs.declared.descriptor.Descriptor.{Descriptor}
+use Rattle.qos_order.specs.Account.{Fits, IsBalanced, IsWeight, Visit, granted, kept_of, visited}
 use Rattle.service_loop.specs.Calls.{moments_at_calls, moments_in}
 use Rattle.service_loop.specs.Serving.{IsServing}
 use Rattle.service_loop.specs.Steps.{CountsAscend}
 use Rattle.service_loop.specs.declared.due_step.DueStep.{DueStep}
+use Rattle.service_loop.specs.declared.share.Share.{Share}
 use Rattle.service_loop.specs.declared.submissions.Submissions.{Submissions}
 
 -- a connection went on, but nothing was handed over, no ticket was drawn, and no moment shown
@@ -79,3 +81,22 @@ pub record HasDrained (before after : Connection) : Type 0 where
   pub moments : moments_in (behind after) ≡ moments_in (behind before)
   pub at_calls : moments_at_calls (behind after) ≡ moments_at_calls (behind before)
   pub ended : before.ended ≡ true → after.ended ≡ true
+
+-- a visit can be counted in the account of a share
+pub record CanCount (visit : Visit) (share : Share) : Type 0 where
+  pub weight : IsWeight share.weight
+  pub balanced : IsBalanced share.weight share.account
+  pub fits : Fits (granted share.weight share.account.kept) visit
+
+-- it was counted there
+pub record HasCounted (visit : Visit) (old new : Share) : Type 0 where
+  pub weight : new.weight ≡ old.weight
+  pub account : new.account ≡ visited old.weight old.account visit
+  pub balanced : IsBalanced old.weight new.account
+
+-- A visit that left so many rounds of its grant was counted in a share, if there is one, and the rounds are kept that the
+-- account keeps. Without a share those are kept that the ending keeps of what was left.
+abbrev pub Counts : Visit → ℕ → Option Share → Option Share → ℕ → Type 0
+Counts visit left (Some old) (Some new) kept = HasCounted visit old new × (kept ≡ new.account.kept)
+Counts visit left None None kept = kept ≡ kept_of visit.ending left
+Counts visit left _ _ kept = ⊥

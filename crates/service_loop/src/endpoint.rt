@@ -1,16 +1,18 @@
 //! A connection with all that belongs to it.
 
-ghost use Rattle.std.specs.Prelude.{◌≡◌, ◌≢◌, ◌≤◌, ◌<◌, ◌^◌, ◌-◌, ◌↔◌, ◌⊎◌, [], ℕ, true, false, IsTrue, OnOk, length};
+ghost use Rattle.std.specs.Prelude.{◌≡◌, ◌≢◌, ◌≤◌, ◌<◌, ◌^◌, ◌+◌, ◌-◌, ◌↔◌, ◌⊎◌, [], ℕ, true, false, IfSome, IsTrue, OnOk, length};
 ghost use Rattle.call_history.specs.Tickets.{tickets_behind};
 ghost use Rattle.conn_core.specs.Connections.{behind, frames};
-ghost use Rattle.qos_order.specs.Account.{Fits, kept_of};
+ghost use Rattle.qos_order.specs.Account.{Fits, kept_of, visited};
 ghost use Rattle.service_loop.specs.Serving.{IsServed};
 ghost use Rattle.service_loop.specs.Steps.{KnowTenants};
 ghost use Rattle.service_loop.specs.Delivering.{AreDelivering, CountsAsEnded};
-ghost use Rattle.service_loop.specs.Rounds.{GoesOn, IsEndpoint, IsOver, IsSame, IsWhole};
+ghost use Rattle.service_loop.specs.Within.{CanCount, Counts};
+ghost use Rattle.service_loop.specs.Rounds.{GoesOn, GrantsShare, HasShare, IsEndpoint, IsNewShare, IsOver, IsSame, IsWhole};
 
 use crate::activity::Activity;
 use crate::delivering::Deliveries;
+use crate::share::Share;
 use crate::submissions::Submissions;
 use crate::visited::{Outcome, Visited};
 use deliveries::Stream;
@@ -32,6 +34,8 @@ pub struct Endpoint<'t, C, Q, L> {
     pub buffer: Vec<u8>,
     /// The rounds of earlier grants that later visits may still use.
     pub kept: u64,
+    /// Its share, where rounds go by weight.
+    pub share: Option<Share>,
     /// Whether no memory was found. Then no further round is made.
     pub memory: bool,
 }
@@ -45,6 +49,7 @@ impl<'t, C: Clock, Q: Tickets, L: Link> Endpoint<'t, C, Q, L> {
         tickets: Q,
         clock: &'t C,
         buffer: Vec<u8>,
+        share: Option<Share>,
     ) -> Endpoint<'t, C, Q, L>
         requires served { IsServed submissions }
         requires nothing { submissions.conn.happenings ≡ [] }
@@ -55,6 +60,7 @@ impl<'t, C: Clock, Q: Tickets, L: Link> Endpoint<'t, C, Q, L> {
         requires finished { deliveries.arrivals.stream ≡ Stream.Ended → IsTrue (L.ended link) }
         requires room { 0 < length buffer.items }
         requires most { length buffer.items ≤ 2 ^ 32 }
+        requires share { IfSome share IsNewShare }
         ensures whole { IsWhole C.Clock Q.Tickets L.Link result }
         ensures memory { result.memory ≡ false }
         ensures submissions { result.submissions ≡ submissions.entry }
@@ -63,6 +69,8 @@ impl<'t, C: Clock, Q: Tickets, L: Link> Endpoint<'t, C, Q, L> {
         ensures tickets { result.tickets ≡ tickets }
         ensures clock { result.clock.now ≡ clock.now }
         ensures kept { result.kept ≡ 0 }
+        ensures share { result.share ≡ share }
+        ensures has_share { HasShare result }
     {
         Endpoint {
             submissions,
@@ -72,6 +80,7 @@ impl<'t, C: Clock, Q: Tickets, L: Link> Endpoint<'t, C, Q, L> {
             clock,
             buffer,
             kept: 0,
+            share,
             memory: false,
         }
     }
@@ -89,6 +98,8 @@ impl<'t, C: Clock, Q: Tickets, L: Link> Endpoint<'t, C, Q, L> {
         ensures same { IsSame C.Clock Q.Tickets L.Link self.old self.new }
         ensures memory { (self.new.memory ≡ true) ↔ (result ≡ Activity.Memory) }
         ensures kept { self.new.kept ≡ self.old.kept }
+        ensures share { self.new.share ≡ self.old.share }
+        ensures one { result ≢ Activity.Memory → self.new.submissions.accepted ≤ self.old.submissions.accepted + 1 }
     {
         match self.make_round(rt, alloc) {
             Ok(true) => Activity::Busy,
@@ -108,6 +119,8 @@ impl<'t, C: Clock, Q: Tickets, L: Link> Endpoint<'t, C, Q, L> {
         ensures same { IsSame C.Clock Q.Tickets L.Link self.old self.new }
         ensures memory { self.new.memory ≡ self.old.memory }
         ensures kept { self.new.kept ≡ self.old.kept }
+        ensures share { self.new.share ≡ self.old.share }
+        ensures one { OnOk result (self.new.submissions.accepted ≤ self.old.submissions.accepted + 1) }
     {
         let submitted = self.submit(rt, alloc)?;
         let delivered = self.deliver(rt)?;
@@ -122,6 +135,8 @@ impl<'t, C: Clock, Q: Tickets, L: Link> Endpoint<'t, C, Q, L> {
         ensures same { IsSame C.Clock Q.Tickets L.Link self.old self.new }
         ensures memory { self.new.memory ≡ self.old.memory }
         ensures kept { self.new.kept ≡ self.old.kept }
+        ensures share { self.new.share ≡ self.old.share }
+        ensures one { OnOk result (self.new.submissions.accepted ≤ self.old.submissions.accepted + 1) }
     {
         let busy = was_busy(
             self.submissions
@@ -142,6 +157,8 @@ impl<'t, C: Clock, Q: Tickets, L: Link> Endpoint<'t, C, Q, L> {
         ensures same { IsSame C.Clock Q.Tickets L.Link self.old self.new }
         ensures memory { self.new.memory ≡ self.old.memory }
         ensures kept { self.new.kept ≡ self.old.kept }
+        ensures share { self.new.share ≡ self.old.share }
+        ensures accepted { self.new.submissions.accepted ≡ self.old.submissions.accepted }
     {
         let delivered = self
             .deliveries
@@ -170,6 +187,8 @@ impl<'t, C: Clock, Q: Tickets, L: Link> Endpoint<'t, C, Q, L> {
         ensures tickets { self.new.tickets ≡ self.old.tickets }
         ensures memory { self.new.memory ≡ self.old.memory }
         ensures kept { self.new.kept ≡ self.old.kept }
+        ensures share { self.new.share ≡ self.old.share }
+        ensures accepted { self.new.submissions.accepted ≡ self.old.submissions.accepted }
     {
         self.submissions.fail();
         self.deliveries.stop();
@@ -186,7 +205,7 @@ impl<'t, C: Clock, Q: Tickets, L: Link> Endpoint<'t, C, Q, L> {
     }
 
     /// Makes the rounds of a visit: as many as the order grants, while there is something to do and the gate is open.
-    /// What a closed gate leaves of the grant is kept.
+    /// What a closed gate leaves of the grant is kept. A connection that has a share counts the visit in its account.
     pub fn visit<R: Wait, G: Gate, O: ReadyOrder>(
         &mut self,
         rt: &R,
@@ -194,18 +213,25 @@ impl<'t, C: Clock, Q: Tickets, L: Link> Endpoint<'t, C, Q, L> {
         gate: &G,
         order: &O,
     ) -> Visited
-        requires { IsEndpoint C.Clock Q.Tickets L.Link self.old }
+        requires endpoint { IsEndpoint C.Clock Q.Tickets L.Link self.old }
+        // The order grants what a share says.
+        requires order { GrantsShare (O.grant_of order.now) self.old }
         ensures endpoint { IsEndpoint C.Clock Q.Tickets L.Link self.new }
+        ensures order { GrantsShare (O.grant_of order.now) self.new }
         ensures goes_on { self.new.memory ≡ false → GoesOn C.Clock Q.Tickets L.Link self.old self.new }
         ensures same { IsSame C.Clock Q.Tickets L.Link self.old self.new }
         ensures memory { (self.new.memory ≡ true) ↔ (result.outcome ≡ Outcome.Memory) }
         ensures over { result.outcome ≡ Outcome.Over → IsOver C.Clock Q.Tickets L.Link self.new }
 
-        // The account of a weighted order counts so.
+        // What was given fits the grant, and the rounds are kept that the ending keeps, unless an account stands still.
         ensures fits { Fits (O.grant_of order.now self.old.submissions.conn.conn self.old.kept)
             (record { given = result.given; ending = result.ending }) }
-        ensures kept { self.new.kept ≡ kept_of result.ending
+        ensures kept { IfSome self.old.share (λ share. share.account.visits < 2 ^ 40) → self.new.kept
+            ≡ kept_of result.ending
             (O.grant_of order.now self.old.submissions.conn.conn self.old.kept - result.given) }
+        ensures counted { self.old.memory ≡ false → IfSome self.old.share (λ share. IfSome self.new.share (λ now.
+            now.account ≡ visited share.weight share.account
+            (record { given = result.given; ending = result.ending }))) }
     {
         let grant = order.grant(self.submissions.conn.number(), self.kept);
         if self.memory {
@@ -217,7 +243,9 @@ impl<'t, C: Clock, Q: Tickets, L: Link> Endpoint<'t, C, Q, L> {
             };
         }
         let visited = self.make_rounds(rt, alloc, gate, grant);
-        self.kept = left_of(visited, grant);
+        let (share, kept) = count(self.share, visited, grant);
+        self.share = share;
+        self.kept = kept;
         visited
     }
 
@@ -237,6 +265,9 @@ impl<'t, C: Clock, Q: Tickets, L: Link> Endpoint<'t, C, Q, L> {
         ensures memory { (self.new.memory ≡ true) ↔ (result.outcome ≡ Outcome.Memory) }
         ensures over { result.outcome ≡ Outcome.Over → IsOver C.Clock Q.Tickets L.Link self.new }
         ensures fits { Fits grant (record { given = result.given; ending = result.ending }) }
+        ensures share { self.new.share ≡ self.old.share }
+        ensures accepted { self.new.memory ≡ false
+            → self.new.submissions.accepted ≤ self.old.submissions.accepted + result.given }
     {
         let conn = self.submissions.conn.number();
         let mut given = 0;
@@ -275,6 +306,8 @@ impl<'t, C: Clock, Q: Tickets, L: Link> Endpoint<'t, C, Q, L> {
         ensures same { IsSame C.Clock Q.Tickets L.Link self.old self.new }
         ensures memory { (self.new.memory ≡ true) ↔ (result ≡ Outcome.Memory) }
         ensures over { result ≡ Outcome.Over → IsOver C.Clock Q.Tickets L.Link self.new }
+        ensures share { self.new.share ≡ self.old.share }
+        ensures one { result ≢ Outcome.Memory → self.new.submissions.accepted ≤ self.old.submissions.accepted + 1 }
     {
         match self.round(rt, alloc) {
             Activity::Memory => Outcome::Memory,
@@ -326,12 +359,28 @@ fn ending_after(given: u64, grant: u64) -> Ending
 }
 
 // What a visit leaves of its grant for later ones.
-fn left_of(visited: Visited, grant: u64) -> u64
-    requires { visited.given ≤ grant }
-    ensures { result ≡ kept_of visited.ending (grant - visited.given) }
+fn left_of(visit: Visited, grant: u64) -> u64
+    requires { visit.given ≤ grant }
+    ensures { result ≡ kept_of visit.ending (grant - visit.given) }
 {
-    match visited.ending {
-        Ending::Shut => grant - visited.given,
+    match visit.ending {
+        Ending::Shut => grant - visit.given,
         Ending::Given | Ending::Idle => 0,
+    }
+}
+
+// Counts a visit in a share, if there is one, and tells the rounds that are kept then.
+fn count(share: Option<Share>, visit: Visited, grant: u64) -> (Option<Share>, u64)
+    requires within { visit.given ≤ grant }
+    requires share { IfSome share (CanCount (record { given = visit.given; ending = visit.ending })) }
+    ensures { Counts (record { given = visit.given; ending = visit.ending }) (grant - visit.given) share
+        result.0 result.1 }
+{
+    match share {
+        Some(own) => {
+            let counted = own.counted(visit);
+            (Some(counted), counted.account.kept)
+        }
+        None => (None, left_of(visit, grant)),
     }
 }

@@ -26,7 +26,6 @@ use std::alloc::Global;
 use std::sync::Wait;
 
 /// The calls of a connection's application, with all that one thread needs to take, judge and send them.
-#[derive(Drop)]
 pub struct Submissions<'t> {
     /// The connection, with the calls that stand.
     pub conn: Conn<'t>,
@@ -42,6 +41,21 @@ pub struct Submissions<'t> {
     pub accepted: u32,
     /// Whether the last drain is done, behind the closing of the ring.
     pub finished: bool,
+}
+
+// By hand, so that a drop is one call where it is needed, and not a drop of each part.
+impl<'t> Drop for Submissions<'t> {
+    fn drop(self) {
+        let Submissions {
+            conn: _conn,
+            reader: _reader,
+            calls: _calls,
+            steps: _,
+            applied: _,
+            accepted: _,
+            finished: _,
+        } = self;
+    }
 }
 
 // What came from the ring of calls.
@@ -139,6 +153,9 @@ impl<'t> Submissions<'t> {
         ensures same_quotas { (first : Q) → Q.since first tickets.old → Q.since first tickets.new }
         ensures knows { (tenant : ℕ) → Q.knows tickets.old tenant → Q.knows tickets.new tenant }
 
+        // A round accepts one call at most.
+        ensures one { result ≢ Activity.Memory → self.new.accepted ≤ self.old.accepted + 1 }
+
         // Behind the last drain nothing changes.
         ensures idle { self.old.finished ≡ true → (result ≡ Activity.Idle) × (self.new ≡ self.old)
             × (link.new ≡ link.old) × (tickets.new ≡ tickets.old) }
@@ -182,6 +199,7 @@ impl<'t> Submissions<'t> {
         ensures same_link { (first : L) → L.since first link.old → L.since first link.new }
         ensures same_quotas { (first : Q) → Q.since first tickets.old → Q.since first tickets.new }
         ensures knows { (tenant : ℕ) → Q.knows tickets.old tenant → Q.knows tickets.new tenant }
+        ensures one { OnOk result (self.new.accepted ≤ self.old.accepted + 1) }
     {
         let applied = self.applied;
         self.apply_due(alloc, false)?;
@@ -250,6 +268,7 @@ impl<'t> Submissions<'t> {
         ensures same { AreSame self.old self.new }
         ensures calls { self.new.calls ≡ self.old.calls }
         ensures finished { self.new.finished ≡ self.old.finished }
+        ensures accepted { self.new.accepted ≡ self.old.accepted }
     {
         self.conn.clock(alloc, now)
     }
@@ -265,6 +284,7 @@ impl<'t> Submissions<'t> {
         ensures now { OnOk result (TakesNow self.old.conn self.new.conn) }
         ensures same { AreSame self.old self.new }
         ensures finished { self.new.finished ≡ self.old.finished }
+        ensures one { OnOk result (self.new.accepted ≤ self.old.accepted + 1) }
     {
         if self.conn.chain().calls().len() == MAX_CALLS {
             return Ok(Next::Nothing);
@@ -291,6 +311,7 @@ impl<'t> Submissions<'t> {
         ensures same { AreSame self.old self.new }
         ensures calls { self.new.calls ≡ self.old.calls }
         ensures finished { self.new.finished ≡ self.old.finished }
+        ensures one { OnOk result (self.new.accepted ≤ self.old.accepted + 1) }
     {
         if self.conn.ended() {
             return Ok(());
@@ -347,6 +368,7 @@ impl<'t> Submissions<'t> {
         ensures same_link { (first : L) → L.since first link.old → L.since first link.new }
         ensures same_quotas { (first : Q) → Q.since first tickets.old → Q.since first tickets.new }
         ensures knows { (tenant : ℕ) → Q.knows tickets.old tenant → Q.knows tickets.new tenant }
+        ensures accepted { OnOk result (self.new.accepted ≡ self.old.accepted) }
     {
         if closing {
             self.finish(alloc, tickets, link)
@@ -379,6 +401,7 @@ impl<'t> Submissions<'t> {
         ensures same_link { (first : L) → L.since first link.old → L.since first link.new }
         ensures same_quotas { (first : Q) → Q.since first tickets.old → Q.since first tickets.new }
         ensures knows { (tenant : ℕ) → Q.knows tickets.old tenant → Q.knows tickets.new tenant }
+        ensures accepted { OnOk result (self.new.accepted ≡ self.old.accepted) }
     {
         self.apply_due(alloc, true)?;
         self.drain(alloc, tickets, link)?;
@@ -414,6 +437,7 @@ impl<'t> Submissions<'t> {
         ensures same_link { (first : L) → L.since first link.old → L.since first link.new }
         ensures same_quotas { (first : Q) → Q.since first tickets.old → Q.since first tickets.new }
         ensures knows { (tenant : ℕ) → Q.knows tickets.old tenant → Q.knows tickets.new tenant }
+        ensures accepted { OnOk result (self.new.accepted ≡ self.old.accepted) }
     {
         self.conn.is_connection();
         if self.conn.ended() {
@@ -441,6 +465,7 @@ impl<'t> Submissions<'t> {
         ensures moments { moments_in (behind self.new.conn) ≡ moments_in (behind self.old.conn) }
         ensures at_calls { moments_at_calls (behind self.new.conn) ≡ moments_at_calls (behind self.old.conn) }
         ensures finished { self.new.finished ≡ self.old.finished }
+        ensures accepted { self.new.accepted ≡ self.old.accepted }
     {
         self.conn.is_connection();
         if !self.conn.ended() {

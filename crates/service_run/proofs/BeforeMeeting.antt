@@ -16,7 +16,7 @@ use Rattle.app_stub.specs.Ports.{TookAll}
 use Rattle.link_queue.specs.Queueing.{Queueing}
 use Rattle.link_queue.specs.Writers.{end_backward, end_forward}
 use Rattle.link_queue.specs.declared.writer_end.WriterEnd.{WriterEnd}
-use Rattle.service_loop.specs.Rounds.{GoesOn, IsOver, IsWhole}
+use Rattle.service_loop.specs.Rounds.{GoesOn, HasShare, IsOver, IsWhole}
 use Rattle.service_loop.specs.Serving.{IsServed}
 use Rattle.service_wiring.specs.Applications.{Did, HasDone}
 use Rattle.service_wiring.specs.declared.closed.Closed.{Closed}
@@ -76,7 +76,10 @@ module _ {C L : Type 0} {of_clock : ClockMembers C} {of_quotas : TicketMembers (
     no-memory = sym left.closed_of.parts.memory ∙ memory
 
     pub whole-is : IsWhole of_clock of_quotas of_link left.closed_of.last
-    whole-is = left.closed_of.whole no-memory
+    whole-is = (left.closed_of.whole no-memory).0
+
+    pub share-is : HasShare left.closed_of.last
+    share-is = (left.closed_of.whole no-memory).1
 
     pub goes-on : GoesOn of_clock of_quotas of_link left.first left.closed_of.last
     goes-on = left.closed_of.turned.goes_on no-memory

@@ -1,3 +1,4 @@
+mod Accounts
 mod BeforeMeeting
 mod Closed
 mod Each

@@ -11,6 +11,7 @@ use Rattle.std.proofs.alloc.Global.TheSendSync as global
 use Rattle.std.proofs.option.Option.TheSendSync as option
 use Rattle.mrpc_base.specs.declared.clock.Clock.{Ghosts as ClockMembers}
 use Rattle.mrpc_base.specs.declared.link.Link.{Ghosts as LinkMembers}
+use Rattle.mrpc_base.specs.declared.ready_order.ReadyOrder.{Ghosts as OrderMembers}
 use Rattle.mrpc_base.specs.declared.tickets.Tickets.{Ghosts as TicketMembers}
 use Rattle.mrpc_table.proofs.tree.Tree.TheLaws.TheKnot.{crosses as trees}
 use Rattle.mrpc_table.proofs.table.Table.TheSendSync as table
@@ -56,6 +57,7 @@ use Rattle.deliveries.proofs.reclaims.Reclaims.TheSendSync as reclaims
 use Rattle.deliveries.specs.contracts.arrivals.ArrivalLine as ArrivalLine
 use Rattle.deliveries.specs.contracts.arrivals.Arrivals as Arrivals
 use Rattle.service_loop.proofs.due_step.DueStep.TheSendSync as due
+use Rattle.service_loop.proofs.share.Share.TheSendSync as share
 use Rattle.service_loop.specs.contracts.submissions.Submissions as Submissions
 use Rattle.service_loop.specs.contracts.delivering.Deliveries as Deliveries
 use Rattle.service_loop.specs.contracts.endpoint.Endpoint as Endpoint
@@ -247,7 +249,7 @@ module _ (κ : NamedLft) where
                 search (crosses, sendable) depth 20,
                 (
                   word w64,
-                  (search sendable, tt),
+                  (option.the_send _ share.the_send, (search sendable, tt)),
                 ),
               ),
             ),
@@ -257,11 +259,11 @@ module _ (κ : NamedLft) where
     )
 
   module _ (R C Q L G O : RattleType) (of_clock : ClockMembers C.Denot) (of_quotas : TicketMembers Q.Denot)
-      (of_link : LinkMembers L.Denot) where
+      (of_link : LinkMembers L.Denot) (of_order : OrderMembers O.Denot) where
     pub turned-send : IsSync R → IsSync C → IsSend Q → IsSend L → IsSync G → IsSync O
-        → IsSend (Turned.the_row κ R C Q L G O of_clock of_quotas of_link)
-    turned-send r c q l g o = view_send (TurnedInside.the_row κ R C Q L G O of_clock of_quotas of_link) _ _ _ _
-        (declared_send (TurnedInside.the_type κ R C Q L G O of_clock of_quotas of_link) (
+        → IsSend (Turned.the_row κ R C Q L G O of_clock of_quotas of_link of_order)
+    turned-send r c q l g o = view_send (TurnedInside.the_row κ R C Q L G O of_clock of_quotas of_link of_order) _ _ _ _
+        (declared_send (TurnedInside.the_type κ R C Q L G O of_clock of_quotas of_link of_order) (
           endpoint-send C Q L c q l,
           (
             search sendable depth 20,

@@ -35,7 +35,7 @@ use Rattle.link_queue.specs.Writers.{start_of}
 use Rattle.link_queue.specs.declared.writer_end.WriterEnd.{WriterEnd}
 use Rattle.service_loop.specs.Calls.{moments_at_calls, moments_in}
 use Rattle.service_loop.specs.Delivering.{HaveGoneOn, held_numbers, message_blocks, messages_of}
-use Rattle.service_loop.specs.Rounds.{GoesOn, IsOver, IsWhole}
+use Rattle.service_loop.specs.Rounds.{GoesOn, IsOver, IsWhole, weight_of_share}
 use Rattle.service_loop.specs.declared.submissions.Submissions.{Submissions}
 use Rattle.service_wiring.specs.Applications.{Did, HasDone}
 use Rattle.service_wiring.specs.declared.closed.Closed.{Closed}
@@ -43,7 +43,8 @@ use Rattle.service_run.specs.Closings.{IsLeft, Opening}
 use Rattle.service_run.specs.Parts.{FailsWith, HasPassed, KnowsAll}
 use Rattle.service_run.specs.Served.{Arrived, DidAs, HasServed, WasDelivered, WasHanded, echo_on}
 use Rattle.service_run.specs.declared.served.BoundConn.{BoundConn}
-use Rattle.service_run.proofs.BeforeMeeting.{goes-on, on-some, over-is, whole-is}
+use Rattle.service_run.proofs.Accounts.{account-of}
+use Rattle.service_run.proofs.BeforeMeeting.{goes-on, on-some, over-is, share-is, whole-is}
 use Rattle.service_run.proofs.Members.{AreSeats, IsQueue, told-later}
 
 -- what the parts are, once they were put together
@@ -54,6 +55,7 @@ pub record HasMet (closed : Closed) (end : AppEnd) (sent : AppSent) (failed : Bo
   pub note : b.note ≡ end.note
   pub reader : b.reader ≡ end.reader
   pub arrivals : b.arrivals ≡ closed.deliveries.arrivals
+  pub share : b.share ≡ closed.share
   pub notices : b.notices.taken ≡ end.notices.taken
   pub told : end.notices.taken ≡ notices_of closed.deliveries.notices
   pub blocks : b.blocks.taken ≡ end.blocks.taken
@@ -354,6 +356,10 @@ module _ {C L : Type 0} {of_clock : ClockMembers C} {of_quotas : TicketMembers (
             (did-as left.job.role.now left.job.table.now left.job.port end sent (echo_on o) b done.did met.note
             met.reader met.notices met.blocks met.knows.taken met.returned
             (sym (rw (job.its_table, job.heap, job.reader, job.ring) refl)));
+        account = account-of o.plan o.app c.last b (met.share ∙ c.parts.share)
+            (c.turned.same.weight ∙ ap weight_of_share conn.share) (share-is o closed end w left queue memory)
+            (sym met.knows.served.serving.count ∙ met.knows.accepted ∙ met.fails.accepted
+            ∙ ap (λ s. s.accepted) c.parts.submissions);
         moments = subst (λ xs. All (of_clock.gives o.begun.clock) xs) (sym moments-same)
             (subst (λ x. All (of_clock.gives x) (moments_in (behind c.last.submissions.conn))) clock-same whole.moments);
         least = subst (λ xs. All (λ ms. of_clock.least o.begun.clock ≤ ms) xs) (sym at-calls-same)

@@ -45,6 +45,7 @@ pub record KnowsAll (note : Noting) (sent : AllSent) (old new : Submissions) : T
   pub conn : new.conn ≡ old.conn
   pub steps : new.steps.now ≡ old.steps.now
   pub finished : new.finished ≡ old.finished
+  pub accepted : new.accepted ≡ old.accepted
 
 -- The calls of a connection whose link failed, or didn't.
 pub record FailsWith (failed : Bool) (old new : Submissions) : Type 0 where
@@ -57,6 +58,7 @@ pub record FailsWith (failed : Bool) (old new : Submissions) : Type 0 where
   pub moments : moments_in (behind new.conn) ≡ moments_in (behind old.conn)
   pub at_calls : moments_at_calls (behind new.conn) ≡ moments_at_calls (behind old.conn)
   pub finished : new.finished ≡ old.finished
+  pub accepted : new.accepted ≡ old.accepted
   pub ends : failed ≡ true → new.conn.ended ≡ true
   pub works : failed ≡ false → new.conn ≡ old.conn
 

@@ -1,11 +1,12 @@
 -- What a run did on a bound connection (this project's own).
-use Rattle.std.specs.Prelude.{◌≡◌, ◌≤◌, ◌<◌, ℕ, List, [], ◌++◌, All, length, map, Some, IsPermutation, IsTrue, true, false}
+use Rattle.std.specs.Prelude.{◌≡◌, ◌≤◌, ◌<◌, ◌^◌, ℕ, List, [], ◌++◌, All, length, map, None, Some, IsPermutation, IsTrue, true, false}
 use Rattle.std.specs.List.{AllZip}
 use mathlib.Core.List.{IsPrefix}
 use Rattle.mrpc_base.specs.Faults.{Rose}
 use Rattle.mrpc_base.specs.declared.clock.Clock.{Ghosts as ClockMembers}
 use Rattle.mrpc_base.specs.declared.link.Link.{Ghosts as LinkMembers}
 use Rattle.mrpc_base.specs.declared.tickets.TheConstants.{WINDOWS}
+use Rattle.call_history.specs.Behind.{taken}
 use Rattle.call_history.specs.Tickets.{tickets_behind}
 use Rattle.conn_core.specs.Connections.{behind, frames}
 use Rattle.receive_core.specs.Life.{Life}
@@ -17,12 +18,16 @@ use Rattle.app_program.specs.Programs.{Submission, reclaims_of, stores_of, submi
 use Rattle.app_stub.specs.Echoing.{Echo, Echoed}
 use Rattle.app_stub.specs.Serving.{all_served_replies, all_served_stores, blocks_of, submission_of}
 use Rattle.link_queue.specs.Known.{TellsMore}
+use Rattle.qos_order.specs.Account.{IsBalanced}
 use Rattle.run_plan.specs.Chains.{table_of}
+use Rattle.run_plan.specs.declared.application.Application.{Application}
 use Rattle.run_plan.specs.declared.application.Role.{Role}
 use Rattle.run_plan.specs.declared.application.Role.TheVariants as role
+use Rattle.run_plan.specs.declared.plan.Plan.{Plan}
 use Rattle.service_loop.specs.Calls.{moments_at_calls, moments_in}
 use Rattle.service_loop.specs.Delivering.{LivesOn, held_numbers, message_blocks, messages_of}
 use Rattle.service_loop.specs.Serving.{IsServed}
+use Rattle.service_loop.specs.declared.share.Share.{Share}
 use Rattle.service_run.specs.Closings.{Opening}
 use Rattle.service_run.specs.declared.served.BoundConn.{BoundConn}
 
@@ -54,6 +59,20 @@ DidAs (role.Server program) e b = HasMade (all_served_stores program b.notices.t
 DidAs role.Echo e b =
     Echoed e b.notices.taken b.note.stores (map submission_of b.submissions.calls.taken) b.reader
     × (b.reclaims.numbers.taken ≡ blocks_of b.notices.taken b.blocks.taken)
+
+-- ---- its rounds
+
+-- What the visits of a connection of some weight came to: the rounds of all visits were given, kept or dropped, and as
+-- long as visits are counted, at least as many rounds were given as calls were taken.
+pub record WasVisited (weight : ℕ) (b : BoundConn) (share : Share) : Type 0 where
+  pub weight_is : share.weight ≡ weight
+  pub balanced : IsBalanced weight share.account
+  pub rounds : share.account.visits < 2 ^ 40 → length (taken (behind b.submissions.conn)) ≤ share.account.rounds
+
+-- where the connections of the plan are weighed, a connection has an account of its visits, and else none
+pub record HasAccount (plan : Plan) (app : Application) (b : BoundConn) : Type 0 where
+  pub weighed : plan.weighted ≡ true → (share : Share) × (b.share ≡ Some share) × WasVisited app.weight b share
+  pub plain : plan.weighted ≡ false → b.share ≡ None
 
 -- ---- what arrived
 
@@ -106,6 +125,7 @@ module _ {C L : Type 0} (of_clock : ClockMembers C) (of_link : LinkMembers L) wh
     pub finished : b.submissions.finished ≡ true
     pub known : b.submissions.reader.known ≡ b.note.stores
     pub did : DidAs opening.app.role (echo_on opening) b
+    pub account : HasAccount opening.plan opening.app b
     -- each moment is the clock's
     pub moments : All (of_clock.gives opening.begun.clock) (moments_in (behind b.submissions.conn))
     pub least : All (λ ms. of_clock.least opening.begun.clock ≤ ms) (moments_at_calls (behind b.submissions.conn))

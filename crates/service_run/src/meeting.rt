@@ -104,13 +104,9 @@ pub fn meet<'t, R: Wait + 't, C: Clock, L: Link + Drop>(
         → IsLeft C.Clock ⟦<Seats as Tickets>⟧ ⟦<QueueLink<'t, R> as Link>⟧ o closed.entry end writer
         → IfOk result (λ met. HasServed C.Clock L.Link o met.bound met.seats met.link) }
 {
-    let Closed {
-        mut submissions,
-        deliveries,
-        seats,
-        passed,
-        memory,
-    } = closed;
+    if closed.memory {
+        return Err(Memory);
+    }
     let AppEnd {
         mut note,
         reader,
@@ -119,13 +115,18 @@ pub fn meet<'t, R: Wait + 't, C: Clock, L: Link + Drop>(
         memory: _,
         sent,
     } = end;
-    let (failed, link) = meet_link(writer, passed)?;
     let Some(sent) = sent else {
         return Err(Memory);
     };
-    if memory {
-        return Err(Memory);
-    }
+    let Closed {
+        mut submissions,
+        deliveries,
+        seats,
+        passed,
+        share,
+        memory: _,
+    } = closed;
+    let (failed, link) = meet_link(writer, passed)?;
     let Deliveries {
         arrivals,
         notices: told,
@@ -144,6 +145,7 @@ pub fn meet<'t, R: Wait + 't, C: Clock, L: Link + Drop>(
             submissions,
             arrivals,
             reclaims,
+            share,
             note,
             reader,
             notices,

@@ -2,7 +2,7 @@
 
 use deliveries::{Arrivals, Reclaims};
 use descriptor_ring::{NumberReceiver, Receiver};
-use service_loop::Submissions;
+use service_loop::{Share, Submissions};
 use shared_heap::{Note, Reader};
 
 /// A connection that was bound, and served its application to the end.
@@ -15,6 +15,8 @@ pub struct BoundConn<'t> {
     pub arrivals: Arrivals<'t>,
     /// The numbers of blocks that came back, with those that named no held block.
     pub reclaims: Reclaims,
+    /// Its share of the rounds, where they go by weight.
+    pub share: Option<Share>,
     /// The last note of the application's heap, which knows all its stores.
     pub note: Note,
     /// The application's reader of the heap of its messages.

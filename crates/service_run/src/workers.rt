@@ -19,18 +19,18 @@ use tenant_quota::Seats;
 use worker_pool::Visit;
 
 // The connections that workers visit, as one value: a closure that captures it keeps what it borrows for one lifetime.
-pub(crate) struct Connections<'t, R: Wait, C: Clock, G, O> {
+pub(crate) struct Connections<'t, R: Wait, C: Clock, G, O: ReadyOrder> {
     pub items: Vec<Turned<'t, R, C, Seats, QueueLink<'t, R>, G, O>>,
 }
 
 // By hand, since what is only shared needn't be dropped.
-impl<'t, R: Wait, C: Clock, G, O> Drop for Connections<'t, R, C, G, O> {
+impl<'t, R: Wait, C: Clock, G, O: ReadyOrder> Drop for Connections<'t, R, C, G, O> {
     fn drop(self) {
         let Connections { items: _items } = self;
     }
 }
 
-impl<'t, R: Wait, C: Clock, G, O> Connections<'t, R, C, G, O> {
+impl<'t, R: Wait, C: Clock, G, O: ReadyOrder> Connections<'t, R, C, G, O> {
     fn into_items(self) -> Vec<Turned<'t, R, C, Seats, QueueLink<'t, R>, G, O>>
         ensures { result ≡ self.entry.items }
     {
@@ -133,7 +133,7 @@ fn visit_all<
 
 /// Closes connections that get no further visit, and gives what they leave in their order. Of the connections that they
 /// were first, later on, these are what is left.
-pub fn close_all<'t, R: Wait, C: Clock, G, O>(
+pub fn close_all<'t, R: Wait, C: Clock, G, O: ReadyOrder>(
     alloc: Global,
     over: Vec<Turned<'t, R, C, Seats, QueueLink<'t, R>, G, O>>,
 ) -> Result<Vec<Closed<'t>>, Memory>

@@ -1,3 +1,4 @@
 mod Onward
 mod Parts
 mod Stepping
+mod Weighing

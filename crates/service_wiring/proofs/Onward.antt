@@ -221,6 +221,7 @@ module _ {C Q L : Type 0} (clock : ClockMembers C) (quotas : TicketMembers Q) (l
     clock = refl;
     link = λ first since. since;
     tickets = λ first since. since;
+    weight = refl;
   }
 
   pub same-then : (a b c : Endpoint C Q L) → IsSame clock quotas link a b → IsSame clock quotas link b c
@@ -231,6 +232,7 @@ module _ {C Q L : Type 0} (clock : ClockMembers C) (quotas : TicketMembers Q) (l
     clock = bc.clock ∙ ab.clock;
     link = λ first since. bc.link first (ab.link first since);
     tickets = λ first since. bc.tickets first (ab.tickets first since);
+    weight = bc.weight ∙ ab.weight;
   }
 
   pub goes-nowhere : (e : Endpoint C Q L) → GoesOn clock quotas link e e

@@ -12,6 +12,7 @@ pub record IsLeftOf {C : Type 0} (e : Endpoint C (List Drawing) Queueing) (left 
   pub submissions : left.submissions ≡ e.submissions
   pub deliveries : left.deliveries ≡ e.deliveries
   pub seats : left.seats ≡ e.tickets
+  pub share : left.share ≡ e.share
   pub memory : left.memory ≡ e.memory
   pub handed : left.passed.handed ≡ e.link.handed
   pub given : left.passed.given ≡ e.link.given

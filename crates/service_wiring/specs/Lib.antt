@@ -4,4 +4,5 @@ pub mod Ends
 pub mod Listing
 pub mod Stepping
 pub mod Turning
+pub mod Weighing
 pub mod Wired

@@ -20,6 +20,7 @@ use Rattle.service_loop.specs.Delivering.{HaveDelivered}
 use Rattle.service_loop.specs.declared.due_step.DueStep.{DueStep}
 use Rattle.service_loop.specs.declared.endpoint.Endpoint.{Endpoint}
 use Rattle.service_wiring.specs.Applications.{IsJob}
+use Rattle.service_wiring.specs.Weighing.{share_in}
 use Rattle.service_wiring.specs.declared.applications.Job.{Job}
 
 -- how many blocks an application gives back by its program, whether it has such blocks or not
@@ -48,6 +49,7 @@ module _ {C L : Type 0} (plan : Plan) (app : Application) (first : Beginning C L
     pub working : item.submissions.conn.ended ≡ false
     pub memory : item.memory ≡ false
     pub none_kept : item.kept ≡ 0
+    pub share : item.share ≡ share_in plan app
     pub its_clock : item.clock.now ≡ first.clock
     pub its_steps : item.submissions.steps.now ≡ first.steps
     pub its_seats : item.tickets ≡ first.seats

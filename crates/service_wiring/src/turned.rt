@@ -1,7 +1,7 @@
 //! A connection that workers visit in turn with others.
 
 ghost use Rattle.std.specs.Prelude.{◌≡◌};
-ghost use Rattle.service_loop.specs.Rounds.{IsEndpoint};
+ghost use Rattle.service_loop.specs.Rounds.{GrantsShare, IsEndpoint};
 ghost use Rattle.worker_pool.specs.Visits.{Leaves};
 ghost use Rattle.service_wiring.specs.Closing.{IsLeftOf};
 ghost use Rattle.service_wiring.specs.Turning.{HasTurned, IsDone};
@@ -20,8 +20,8 @@ use tenant_quota::Seats;
 use worker_pool::{Visit, Visited};
 
 /// A connection with what a visit needs. Contracts see it as its `Endpoint`, which holds between two rounds unless no
-/// memory was found (`IsEndpoint`).
-pub struct Turned<'t, R, C: Clock, Q: Tickets, L: Link, G, O> {
+/// memory was found (`IsEndpoint`). The order grants what its share says.
+pub struct Turned<'t, R, C: Clock, Q: Tickets, L: Link, G, O: ReadyOrder> {
     endpoint: Endpoint<'t, C, Q, L>,
     rt: &'t R,
     alloc: Global,
@@ -31,7 +31,7 @@ pub struct Turned<'t, R, C: Clock, Q: Tickets, L: Link, G, O> {
 }
 
 // By hand, since what is only shared needn't be dropped.
-impl<'t, R, C: Clock, Q: Tickets + Drop, L: Link + Drop, G, O> Drop
+impl<'t, R, C: Clock, Q: Tickets + Drop, L: Link + Drop, G, O: ReadyOrder> Drop
     for Turned<'t, R, C, Q, L, G, O> {
     fn drop(self) {
         let Turned {
@@ -45,7 +45,8 @@ impl<'t, R, C: Clock, Q: Tickets + Drop, L: Link + Drop, G, O> Drop
     }
 }
 
-impl<'t, R, C: Clock, Q: Tickets, L: Link, G, O> Model for Turned<'t, R, C, Q, L, G, O> {
+impl<'t, R, C: Clock, Q: Tickets, L: Link, G, O: ReadyOrder> Model
+    for Turned<'t, R, C, Q, L, G, O> {
     ghost use Rattle.service_loop.specs.declared.endpoint.Endpoint.{Endpoint as TheEndpoint};
     ghost use Rattle.mrpc_table.specs.NodeCode.{node_code};
     ghost use Rattle.std.specs.Coded.{codes};
@@ -54,14 +55,17 @@ impl<'t, R, C: Clock, Q: Tickets, L: Link, G, O> Model for Turned<'t, R, C, Q, L
 
     ghost coded = { Prim.hlevel (codes, node_code) };
 
-    ghost use Rattle.service_loop.specs.Rounds.{IsEndpoint};
+    ghost use Rattle.service_loop.specs.Rounds.{GrantsShare, IsEndpoint};
 
     ghost view = { λ t. t.endpoint };
 
-    ghost invariant = { λ t. IsEndpoint C.Clock Q.Tickets L.Link t.endpoint };
+    // The order grants what the connection's share says.
+    ghost invariant = { λ t. IsEndpoint C.Clock Q.Tickets L.Link t.endpoint
+        × GrantsShare (O.grant_of t.order.now) t.endpoint };
 }
 
-impl<'t, R, C: Clock, Q: Tickets, L: Link, G, O> Visited for Turned<'t, R, C, Q, L, G, O> {
+impl<'t, R, C: Clock, Q: Tickets, L: Link, G, O: ReadyOrder> Visited
+    for Turned<'t, R, C, Q, L, G, O> {
     ghost use Rattle.service_wiring.specs.Turning.{HasTurned, IsDone};
 
     ghost since = { HasTurned C.Clock Q.Tickets L.Link };
@@ -69,13 +73,14 @@ impl<'t, R, C: Clock, Q: Tickets, L: Link, G, O> Visited for Turned<'t, R, C, Q,
     ghost over = { IsDone C.Clock Q.Tickets L.Link };
 }
 
-impl<'t, R: Wait, C: Clock, Q: Tickets, L: Link, G, O> Turned<'t, R, C, Q, L, G, O> {
+impl<'t, R: Wait, C: Clock, Q: Tickets, L: Link, G, O: ReadyOrder> Turned<'t, R, C, Q, L, G, O> {
     /// A connection that is to be visited.
     pub fn new(
         common: &Common<'t, R, C, G, O>,
         endpoint: Endpoint<'t, C, Q, L>,
     ) -> Turned<'t, R, C, Q, L, G, O>
-        requires { IsEndpoint C.Clock Q.Tickets L.Link endpoint }
+        requires endpoint { IsEndpoint C.Clock Q.Tickets L.Link endpoint }
+        requires order { GrantsShare (O.grant_of common.now.order.now) endpoint }
         ensures { result ≡ endpoint.entry }
     {
         Turned {
@@ -124,8 +129,10 @@ fn turn<R: Wait, C: Clock, Q: Tickets, L: Link, G: Gate, O: ReadyOrder>(
     order: &O,
     stop: &RunFlag,
 ) -> Visit
-    requires { IsEndpoint C.Clock Q.Tickets L.Link endpoint.old }
+    requires endpoint { IsEndpoint C.Clock Q.Tickets L.Link endpoint.old }
+    requires order { GrantsShare (O.grant_of order.now) endpoint.old }
     ensures endpoint { IsEndpoint C.Clock Q.Tickets L.Link endpoint.new }
+    ensures order { GrantsShare (O.grant_of order.now) endpoint.new }
     ensures turned { HasTurned C.Clock Q.Tickets L.Link endpoint.old endpoint.new }
     ensures over { result ≡ Visit.Over → IsDone C.Clock Q.Tickets L.Link endpoint.new }
 {
@@ -146,7 +153,7 @@ fn turn<R: Wait, C: Clock, Q: Tickets, L: Link, G: Gate, O: ReadyOrder>(
     }
 }
 
-impl<'t, R: Wait, C: Clock, G, O> Turned<'t, R, C, Seats, QueueLink<'t, R>, G, O> {
+impl<'t, R: Wait, C: Clock, G, O: ReadyOrder> Turned<'t, R, C, Seats, QueueLink<'t, R>, G, O> {
     /// Closes the link of the connection, and leaves its parts.
     pub fn close(self) -> Closed<'t>
         ensures endpoint { IsEndpoint C.Clock ⟦<Seats as Tickets>⟧ ⟦<QueueLink<'t, R> as Link>⟧ self.entry }
@@ -168,6 +175,7 @@ impl<'t, R: Wait, C: Clock, G, O> Turned<'t, R, C, Seats, QueueLink<'t, R>, G, O
             clock: _,
             buffer: _buffer,
             kept: _,
+            share,
             memory,
         } = endpoint;
         Closed {
@@ -175,6 +183,7 @@ impl<'t, R: Wait, C: Clock, G, O> Turned<'t, R, C, Seats, QueueLink<'t, R>, G, O
             deliveries,
             seats: tickets,
             passed: link.close(),
+            share,
             memory,
         }
     }

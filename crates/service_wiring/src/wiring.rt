@@ -6,6 +6,7 @@ ghost use Rattle.receive_core.specs.Life.{Life as TheLife};
 ghost use Rattle.deliveries.specs.Arriving.{AreSame, HaveLived};
 ghost use Rattle.run_plan.specs.Plans.{IsApplication, IsPlan};
 ghost use Rattle.service_loop.specs.Steps.{AreSteps, KnowTenants};
+ghost use Rattle.service_wiring.specs.Weighing.{GoesBy, share_in};
 ghost use Rattle.service_wiring.specs.Wired.{Beginning, IsWired};
 
 use crate::applications::Job;
@@ -17,10 +18,11 @@ use app_stub::AppPort;
 use conn_core::Conn;
 use deliveries::{Arrivals, Stream};
 use link_queue::{QueueLink, QueueWriter};
-use mrpc_base::{Clock, Link};
+use mrpc_base::{Clock, Link, ReadyOrder};
 use mrpc_table::Memory;
-use run_plan::Application;
-use service_loop::{Deliveries, DueStep, Endpoint, Submissions};
+use qos_order::Account;
+use run_plan::{Application, Plan};
+use service_loop::{Deliveries, DueStep, Endpoint, Share, Submissions};
 use shared_heap::Reader;
 use std::alloc::Global;
 use std::sync::Wait;
@@ -41,7 +43,7 @@ pub type Wired<'t, R, L, C, G, O> = (
 
 /// Wires the connection of an application with its application and its link, behind the hello by which the connection
 /// was bound. A stream that has ended there is open again, since the queue before the link hasn't told its end yet.
-pub fn wire<'t, R: Wait, L: Link + Drop, C: Clock, G, O>(
+pub fn wire<'t, R: Wait, L: Link + Drop, C: Clock, G, O: ReadyOrder>(
     common: &Common<'t, R, C, G, O>,
     app: &'t Application,
     steps: &'t [DueStep],
@@ -60,6 +62,7 @@ pub fn wire<'t, R: Wait, L: Link + Drop, C: Clock, G, O>(
     requires one_heap { reader.heap ≡ arrivals.writer.heap }
     requires new_heap { reader.loads ≡ [] }
     requires words { MIN_HEAP ≤ reader.heap.words }
+    requires order { GoesBy common.now.plan.now (O.grant_of common.now.order.now) }
     ensures { (life : TheLife) → HaveLived life arrivals.entry → life.fates ≡ []
         → IfOk result (λ wired. IsWired common.now.plan.now app.now (record {
           arrivals = arrivals.entry;
@@ -73,6 +76,10 @@ pub fn wire<'t, R: Wait, L: Link + Drop, C: Clock, G, O>(
 {
     let alloc = common.alloc;
     let table = common.plan.table_of(app);
+    let buffer = vec![in alloc; 0; MOST_BYTES]?;
+    let stop = common.stop.try_clone()?;
+    let (queue, passing) = link_queue::open(common.rt, alloc, QUEUE, link)?;
+    let conn = Conn::open(alloc, app.conn, table, common.plan.loads)?;
     let (writer, own_reader) = shared_heap::open(alloc, app.heap)?;
     let Ends {
         sender,
@@ -82,13 +89,18 @@ pub fn wire<'t, R: Wait, L: Link + Drop, C: Clock, G, O>(
         calls,
         rings,
     } = open_ends(alloc, app.ring, &own_reader, &reader)?;
-    let conn = Conn::open(alloc, app.conn, table, common.plan.loads)?;
-    let (queue, passing) = link_queue::open(common.rt, alloc, QUEUE, link)?;
     let submissions = Submissions::new(conn, own_reader, calls, steps);
     let deliveries = Deliveries::new(alloc, opened_again(arrivals), rings, programmed(&app.role));
-    let buffer = vec![in alloc; 0; MOST_BYTES]?;
-    let stop = common.stop.try_clone()?;
-    let endpoint = Endpoint::new(submissions, deliveries, queue, seats, common.clock, buffer);
+    let share = share_of(common.plan, app);
+    let endpoint = Endpoint::new(
+        submissions,
+        deliveries,
+        queue,
+        seats,
+        common.clock,
+        buffer,
+        share,
+    );
     let port = AppPort {
         writer,
         sender,
@@ -105,6 +117,19 @@ pub fn wire<'t, R: Wait, L: Link + Drop, C: Clock, G, O>(
         port,
     };
     Ok((Turned::new(common, endpoint), job, passing))
+}
+
+// The share with which the connection of an application begins.
+fn share_of(plan: &Plan, app: &Application) -> Option<Share>
+    ensures { result ≡ share_in plan.now app.now }
+{
+    if plan.weighted {
+        return Some(Share {
+            weight: app.weight,
+            account: Account::new(),
+        });
+    }
+    None
 }
 
 // The arrivals with their stream open, if it has ended.

@@ -46,7 +46,7 @@ returns g c = record {
         itself = seats-stay;
         later = λ old new later. later;
       })
-      c.if-memory.false c.in-Some.sent c.in-Some.is c.in_ok-failed.failed c.in_ok-failed.link c.in_ok-failed.ensures _
+      c.if-closed.false c.in-Some.sent c.in-Some.is c.in_ok-failed.failed c.in_ok-failed.link c.in_ok-failed.ensures _
       (record {
         mid = c.fail_with.new.submissions;
         fails = c.fail_with.ensures;
@@ -54,6 +54,7 @@ returns g c = record {
         note = c.meet_calls.ensures.note;
         reader = refl;
         arrivals = refl;
+        share = refl;
         notices = c.meet_notices.ensures.same_notices;
         told = c.meet_notices.ensures.notices;
         blocks = c.meet_notices.ensures.same_blocks;

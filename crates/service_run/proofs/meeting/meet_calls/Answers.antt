@@ -12,4 +12,5 @@ returns-clause-knows c = record {
   conn = refl;
   steps = refl;
   finished = refl;
+  accepted = refl;
 }

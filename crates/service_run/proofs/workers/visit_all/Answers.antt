@@ -9,7 +9,7 @@ use Rattle.service_run.proofs.workers.visit_all.Goals as goal
 
 pub run-requires-send-T : goal.run-requires-send-T
 run-requires-send-T g c κs within = param_send 1 _ (arg_send _ no _
-    (turned-send (record { mir = named 7; lft = κs.1.1.1.1.1.1.1.0 }) _ _ _ _ _ _ _ _ _
+    (turned-send (record { mir = named 7; lft = κs.1.1.1.1.1.1.1.0 }) _ _ _ _ _ _ _ _ _ _
     c.type_bounds.sync-R c.type_bounds.sync-C c.type_bounds.send-Q c.type_bounds.send-L c.type_bounds.sync-G
     c.type_bounds.sync-O))
 

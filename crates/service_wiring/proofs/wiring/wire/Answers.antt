@@ -1,4 +1,5 @@
-use Rattle.std.proofs.Common.{◌≡◌, ℕ, ◌<◌, ◌≤◌, List, [], Some, ap, length, refl, subst, sym, ◌∙◌}
+use Rattle.std.proofs.Common.{◌≡◌, ℕ, ◌<◌, ◌≤◌, List, [], Option, Some, ap, length, refl, subst, sym, ◌∙◌}
+use Rattle.std.specs.Prelude.{IfSome}
 use Rattle.mrpc_table.specs.Valid.{IsValid}
 use Rattle.mrpc_table.specs.declared.limits.TheConstants.{MAX_HEAP, MIN_HEAP}
 use Rattle.mrpc_table.specs.declared.table.Table.{Table}
@@ -13,13 +14,16 @@ use Rattle.deliveries.specs.declared.arrivals.Arrivals.{Arrivals}
 use Rattle.run_plan.specs.Plans.{HasProgram}
 use Rattle.run_plan.specs.Ports.{IsIn}
 use Rattle.service_loop.specs.Delivering.{HaveDelivered}
+use Rattle.service_loop.specs.Rounds.{IsNewShare}
 use Rattle.service_loop.specs.Steps.{KnowTenants}
 use Rattle.service_loop.specs.declared.delivering.Deliveries.{Deliveries}
 use Rattle.service_loop.specs.declared.due_step.DueStep.{DueStep}
 use Rattle.service_loop.specs.declared.endpoint.Endpoint.{Endpoint}
+use Rattle.service_loop.specs.declared.share.Share.{Share}
 use Rattle.service_loop.specs.declared.submissions.Submissions.{Submissions}
 use Rattle.service_wiring.specs.Ends.{AreEnds}
 use Rattle.service_wiring.proofs.Parts.{is_application, valid_table}
+use Rattle.service_wiring.proofs.Weighing.{grants-first, new-share}
 use Rattle.service_wiring.proofs.wiring.wire.Goals as goal
 
 pub open-requires-2-clause-valid : goal.open-requires-2-clause-valid
@@ -32,6 +36,10 @@ programmed-requires g c = (
   c.args.app.now.heap,
   (is_application c.args.common.now.plan.now c.args.app.now c.requires.plan c.requires.app).program,
 )
+
+pub new-deliveries-requires-clause-lived : goal.new-deliveries-requires-clause-lived
+new-deliveries-requires-clause-lived g c =
+    let lived = c.requires.lived in (lived.0, c.opened_again.ensures.lived lived.0 lived.1, lived.2)
 
 pub new-endpoint-requires-clause-known : goal.new-endpoint-requires-clause-known
 new-endpoint-requires-clause-known g c κs within =
@@ -46,6 +54,24 @@ new-endpoint-requires-clause-delivering g c κs within =
       [],
       c.new-deliveries.ensures.delivered lived.0 (c.opened_again.ensures.lived lived.0 lived.1) lived.2,
     )
+
+pub new-endpoint-requires-clause-share : goal.new-endpoint-requires-clause-share
+new-endpoint-requires-clause-share g c κs within =
+    subst (λ (share : Option Share). IfSome share IsNewShare) (sym c.share_of-share.ensures)
+    (new-share c.args.common.now.plan.now c.args.app.now
+    (is_application c.args.common.now.plan.now c.args.app.now c.requires.plan c.requires.app).port.weight)
+
+pub new-requires-clause-endpoint : goal.new-requires-clause-endpoint
+new-requires-clause-endpoint g c κs within = λ memory.
+    (c.new-endpoint.ensures.whole, c.new-endpoint.ensures.has_share)
+
+pub new-requires-clause-order : goal.new-requires-clause-order
+new-requires-clause-order g c κs within =
+    grants-first c.args.common.now.plan.now c.args.app.now (g.O.ReadyOrder.grant_of c.args.common.now.order.now)
+    c.new-endpoint.result (c.new-endpoint.ensures.share ∙ c.share_of-share.ensures)
+    (ap (λ (s : Submissions). s.conn.conn) (c.new-endpoint.ensures.submissions)
+    ∙ ap (λ (x : Connection). x.conn) (c.new-submissions.ensures.conn ∙ c.in_ok-conn.ensures))
+    c.requires.app c.requires.order
 
 pub returns : goal.returns
 returns g c = λ life lived fates.
@@ -77,6 +103,8 @@ returns g c = λ life lived fates.
             ∙ c.new-endpoint.ensures.memory;
         none_kept = ap (λ (e : Endpoint g.row.C.Denot (List Drawing) Queueing). e.kept) item
             ∙ c.new-endpoint.ensures.kept;
+        share = ap (λ (e : Endpoint g.row.C.Denot (List Drawing) Queueing). e.share) item
+            ∙ c.new-endpoint.ensures.share ∙ c.share_of-share.ensures;
         its_clock = ap (λ (e : Endpoint g.row.C.Denot (List Drawing) Queueing). e.clock.now) item
             ∙ c.new-endpoint.ensures.clock;
         its_steps = ap (λ (s : Submissions). s.steps.now) subs ∙ c.new-submissions.ensures.steps;

@@ -81,6 +81,7 @@ returns-then-has_failed-clause-same g c = record {
   clock = refl;
   link = c.round.ensures.same_link;
   tickets = λ first since. since;
+  weight = refl;
 }
 
 pub returns-clause-same : goal.returns-clause-same
@@ -90,6 +91,7 @@ returns-clause-same g c = record {
   clock = refl;
   link = c.round.ensures.same_link;
   tickets = λ first since. since;
+  weight = refl;
 }
 
 pub returns-in_err-delivered-clause-same : goal.returns-in_err-delivered-clause-same
@@ -99,4 +101,5 @@ returns-in_err-delivered-clause-same g c = record {
   clock = refl;
   link = c.round.ensures.same_link;
   tickets = λ first since. since;
+  weight = refl;
 }

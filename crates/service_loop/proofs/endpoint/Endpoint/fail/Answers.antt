@@ -27,4 +27,5 @@ returns-clause-same g c = record {
   clock = refl;
   link = λ first since. since;
   tickets = λ first since. since;
+  weight = refl;
 }

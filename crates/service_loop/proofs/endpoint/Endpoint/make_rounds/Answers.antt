@@ -1,4 +1,4 @@
-use Rattle.std.proofs.Common.{arith}
+use Rattle.std.proofs.Common.{arith, refl, ◌∙◌}
 use Rattle.service_loop.proofs.Onward.{goes-nowhere, goes-then, same-none, same-then}
 use Rattle.service_loop.proofs.Visits.{busy-has, busy-not, not-memory}
 use Rattle.service_loop.proofs.endpoint.Endpoint.make_rounds.Goals as goal
@@ -9,6 +9,8 @@ rounds-init g c = record {
   memory = c.requires.memory;
   goes_on = goes-nowhere g.C.Clock g.Q.Tickets g.L.Link c.args.self.now;
   same = same-none g.C.Clock g.Q.Tickets g.L.Link c.args.self.now;
+  share = refl;
+  accepted = omega arith;
   within = omega arith;
 }
 
@@ -21,6 +23,9 @@ rounds-preserved g c =
           c.rounds.invariant.goes_on (c.advance.ensures.goes_on busy);
       same = same-then g.C.Clock g.Q.Tickets g.L.Link c.args.self.now c.rounds.self c.advance.new.self
           c.rounds.invariant.same c.advance.ensures.same;
+      share = c.advance.ensures.share ∙ c.rounds.invariant.share;
+      accepted = let one = c.advance.ensures.one busy in
+          let before = c.rounds.invariant.accepted in omega (arith, one, before);
       within = omega arith;
     }
 
@@ -35,5 +40,9 @@ returns-in_default g c = record {
       c.rounds.invariant.same c.advance.ensures.same;
   memory = c.advance.ensures.memory;
   over = c.advance.ensures.over;
+  share = c.advance.ensures.share ∙ c.rounds.invariant.share;
+  accepted = λ has. let one = c.advance.ensures.one
+      (not-memory c.advance.new.self.memory c.advance.result c.advance.ensures.memory has) in
+      let before = c.rounds.invariant.accepted in omega (arith, one, before);
   fits = record { within = omega arith; whole = c.ending_after.ensures };
 }

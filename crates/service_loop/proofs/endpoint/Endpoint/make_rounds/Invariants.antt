@@ -1,4 +1,4 @@
-use Rattle.std.proofs.Common.{◌≡◌, ◌-◌, ◌≤◌, false}
+use Rattle.std.proofs.Common.{◌≡◌, ◌+◌, ◌-◌, ◌≤◌, false}
 use Rattle.service_loop.specs.Rounds.{GoesOn, IsSame, IsWhole}
 use Rattle.service_loop.proofs.endpoint.Endpoint.make_rounds.Given as goal
 
@@ -8,6 +8,8 @@ invariant-rounds g l = record {
   memory : l.self.memory ≡ false;
   goes_on : GoesOn g.C.Clock g.Q.Tickets g.L.Link l.fn.self l.self;
   same : IsSame g.C.Clock g.Q.Tickets g.L.Link l.fn.self l.self;
+  share : l.self.share ≡ l.fn.self.share;
+  accepted : l.self.submissions.accepted ≤ l.fn.self.submissions.accepted + l.given;
   within : l.given ≤ l.grant;
 }
 

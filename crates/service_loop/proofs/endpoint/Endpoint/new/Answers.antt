@@ -1,8 +1,10 @@
-use Rattle.std.proofs.Common.{◌≡◌, List, sym, ◌∙◌, subst, reverse, true, false}
+use Rattle.std.proofs.Common.{◌≡◌, List, ap, length, refl, sym, ◌∙◌, subst, reverse, true, false}
 use Rattle.std.specs.Prelude.{All, ◌≤◌}
 use Rattle.std.proofs.lemmas.List.Elements.{All-nil}
+use Rattle.call_history.specs.Behind.{taken}
 use Rattle.call_history.specs.declared.happening.Happening.{Happening}
 use Rattle.service_loop.specs.Calls.{moments_at_calls, moments_in}
+use Rattle.service_loop.proofs.Shares.{share-new}
 use Rattle.service_loop.proofs.endpoint.Endpoint.new.Goals as goal
 
 pub returns-clause-whole : goal.returns-clause-whole
@@ -21,3 +23,8 @@ returns-clause-whole g c = record {
   room = c.requires.room;
   most = c.requires.most;
 }
+
+pub returns-clause-has_share : goal.returns-clause-has_share
+returns-clause-has_share g c =
+    share-new 0 c.args.submissions.accepted c.args.share c.requires.share refl (c.requires.served.serving.count
+    ∙ ap (λ (past : List Happening). length (taken (reverse past))) c.requires.nothing)

@@ -71,6 +71,7 @@ returns-in_err-busy-clause-same g c = record {
   clock = refl;
   link = c.round.ensures.same_link;
   tickets = c.round.ensures.same_quotas;
+  weight = refl;
 }
 
 pub returns-then-ended-clause-same : goal.returns-then-ended-clause-same
@@ -80,6 +81,7 @@ returns-then-ended-clause-same g c = record {
   clock = refl;
   link = c.round.ensures.same_link;
   tickets = c.round.ensures.same_quotas;
+  weight = refl;
 }
 
 pub returns-clause-same : goal.returns-clause-same
@@ -89,4 +91,11 @@ returns-clause-same g c = record {
   clock = refl;
   link = c.round.ensures.same_link;
   tickets = c.round.ensures.same_quotas;
+  weight = refl;
 }
+
+pub returns-then-ended-clause-one : goal.returns-then-ended-clause-one
+returns-then-ended-clause-one g c = c.round.ensures.one c.in_ok-busy.ensures
+
+pub returns-clause-one : goal.returns-clause-one
+returns-clause-one g c = c.round.ensures.one c.in_ok-busy.ensures

@@ -1,6 +1,6 @@
-use Rattle.std.proofs.Common.{◌≡◌, false, refl, ap, sym, ◌∙◌}
+use Rattle.std.proofs.Common.{◌≡◌, ◌≤◌, ◌+◌, ℕ, false, refl, ap, arith, sym, ◌∙◌}
 use Rattle.shared_heap.specs.Fresh.{HeapId}
-use Rattle.service_loop.proofs.Going.{serves-call}
+use Rattle.service_loop.proofs.Going.{call-number, serves-call}
 use Rattle.service_loop.proofs.Parts.{read-by}
 use Rattle.service_loop.proofs.Taking.{before-taken, given-up, untrue}
 use Rattle.service_loop.proofs.submissions.Submissions.accept.Goals as goal
@@ -23,3 +23,14 @@ returns-in-Ok-clause-serving c =
     c.accept.ensures.reads)
     h.taken (sym h.closed ∙ c.requires.open) c.requires.open h.ring_heap (c.requires.none_due.later refl)
     (before-taken c.args.call c.args.self.now h)
+
+one-more : (count seq : ℕ) → seq ≡ count + 1 → seq ≤ count + 1
+one-more count seq next = omega (arith, next)
+
+pub returns-in-Ok-clause-one : goal.returns-in-Ok-clause-one
+returns-in-Ok-clause-one c =
+    let h = c.requires.taken in
+    one-more c.args.self.now.accepted c.in-Ok.seq
+    (call-number c.args.self.now.conn c.accept.new.self c.args.self.now.reader h.earlier.calls
+    c.args.self.now.steps.now c.args.self.now.applied c.args.self.now.accepted c.in-Ok.seq
+    c.meet.new.self.heap.words c.args.call _ c.in-Ok.ensures.accepted (before-taken c.args.call c.args.self.now h))

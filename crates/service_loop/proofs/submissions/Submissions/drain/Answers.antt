@@ -56,4 +56,5 @@ returns-in-Done g c =
       same_link = c.drain-drained.ensures.same_link;
       same_quotas = c.drain-drained.ensures.draws.since;
       knows = c.drain-drained.ensures.draws.knows;
+      accepted = refl;
     }

@@ -1,3 +1,4 @@
+use Rattle.std.proofs.Common.{◌≡◌, ◌≤◌, ◌+◌, ℕ, arith}
 use Rattle.service_loop.proofs.Rounds.{calls-through, moments-through}
 use Rattle.service_loop.proofs.submissions.Submissions.take_and_send.Goals as goal
 
@@ -23,3 +24,12 @@ returns-clause-least g c =
       takes = c.in_ok-next.ensures.now;
       drains = c.in_ok-go_on.ensures.drained;
     }) c.now.ensures.least all
+
+one-through : (before stepped shown took after : ℕ) → stepped ≡ before → shown ≡ stepped → took ≤ shown + 1
+    → after ≡ took → after ≤ before + 1
+one-through before stepped shown took after steps shows one on = omega (arith, steps, shows, one, on)
+
+pub returns-clause-one : goal.returns-clause-one
+returns-clause-one g c =
+    one-through _ _ _ _ _ c.in_ok-apply_due.ensures.only.accepted c.show.ensures.accepted c.in_ok-next.ensures.one
+    c.in_ok-go_on.ensures.accepted

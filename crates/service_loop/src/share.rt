@@ -1,0 +1,25 @@
+//! The share of a connection whose rounds go by weight.
+
+ghost use Rattle.service_loop.specs.Within.{CanCount, HasCounted};
+
+use crate::visited::Visited;
+use qos_order::Account;
+
+/// The weight of a connection, the same in all its visits, and what these came to.
+#[derive(Clone, Copy)]
+pub struct Share {
+    /// 1 to 100.
+    pub weight: u64,
+    pub account: Account,
+}
+
+impl Share {
+    // With one visit more in its account.
+    pub(crate) fn counted(mut self, visit: Visited) -> Share
+        requires { CanCount (record { given = visit.given; ending = visit.ending }) self }
+        ensures { HasCounted (record { given = visit.given; ending = visit.ending }) self result }
+    {
+        self.account.visit(self.weight, visit.given, visit.ending);
+        self
+    }
+}
