@@ -18,8 +18,6 @@ mod network;
 mod pieces;
 mod read_ahead;
 mod socket;
-#[cfg(test)]
-mod tests;
 mod wire;
 
 pub use fabric::TcpFabric;

@@ -1,9 +1,9 @@
 // A link over a socket whose answers are listed.
-use super::listed_socket::ListedSocket;
-use crate::{SocketLink, Wrote};
+use crate::listed_socket::ListedSocket;
 use mrpc_base::{Came, Handed, Link};
 use std::alloc::Global;
 use std::process::Abort;
+use tcp_fabric::{SocketLink, Wrote};
 
 // A link whose socket has bytes to give and answers as listed.
 fn link<'r, R: Abort>(

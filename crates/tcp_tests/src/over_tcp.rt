@@ -1,11 +1,11 @@
 // Over the system's TCP.
-use crate::{Ends, Loopback, Network, SocketLink, TcpFabric};
 use mrpc_base::{Came, Fabric, Handed, Link, OpenFault};
 use std::alloc::Global;
 use std::io::ErrorKind;
 use std::net::TcpStream;
 use std::sync::Wait;
 use std::{io, thread};
+use tcp_fabric::{Ends, Loopback, Network, SocketLink, TcpFabric};
 
 #[test]
 fn a_pair_goes_both_ways(rt: HostRuntime) {

@@ -3,9 +3,9 @@ ghost use Rattle.std.specs.Prelude.{◌≡◌, ◌≢◌, ◌<◌, ◌≤◌, �
 ghost use Rattle.mrpc_base.specs.Linking.{OnCame, OnNoneCame};
 ghost use Rattle.tcp_fabric.specs.Sockets.{OnWrote, OnNoneWrote};
 
-use crate::{Socket, Wrote};
 use mrpc_base::Came;
 use std::alloc::Global;
+use tcp_fabric::{Socket, Wrote};
 
 // The k-th write answers the k-th of `writes`, and takes no more bytes than that says; one past the list takes all.
 // Likewise the k-th read; one past the list gives all that fits, and finds the end where nothing is left.
