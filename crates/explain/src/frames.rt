@@ -152,6 +152,21 @@ fn frame_sentence(reason: &[u8]) -> &'static str {
         b"Utf8" => "the payload of a string isn't UTF-8",
         b"PackedLength" => "the payload of packed numbers isn't whole numbers",
         b"Depth" => "32 messages stand in one another at the most, and this is the 33rd",
+        _ => unplayable_sentence(reason),
+    }
+}
+
+// What a reason says of a frame that no replay can send.
+fn unplayable_sentence(reason: &[u8]) -> &'static str {
+    match reason {
+        b"Conn" => "the connections of a replay are 1 to 16",
+        b"Number" =>
+            "in a replay the numbers of requests rise on each connection, and a reply has one",
+        b"Words" => "the heap of a replay has no room for this message",
+        b"Loads" => "a message of a replay takes 16384 loads at the most",
+        b"Work" =>
+            "the calls of a replay times the loads of the largest message are 16777216 at the most",
+        b"Size" => "the script of these frames is too long for a replay",
         _ => "the frame is at fault",
     }
 }

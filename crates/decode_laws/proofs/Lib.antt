@@ -1,0 +1,5 @@
+mod Endings
+mod Frames
+mod Lines
+mod Once
+mod Texts

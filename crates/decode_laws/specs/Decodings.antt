@@ -1,0 +1,19 @@
+-- How `decode` ends with a text.
+use Rattle.std.specs.Prelude.{ℕ, List}
+use Rattle.mrpc_table.specs.declared.table.Table.{Table}
+use Rattle.mrpc_top.specs.Decoding.{IsCutAt, IsDecoded}
+use Rattle.mrpc_top.specs.DecodeInput.{Holds, IsTextFault}
+
+-- the text has this first fault: on a line of its own, or at a byte of the stream behind it
+pub data IsDecodeFault (text : List ℕ) (place : ℕ) (word : List ℕ) : Type 0 where
+  fault_of_text : IsTextFault text place word → IsDecodeFault text place word
+  fault_of_stream : (T : Table) (stream lines : List ℕ) → Holds text T stream → IsCutAt T 0 stream lines place word
+      → IsDecodeFault text place word
+
+-- the text has none: all of it is told
+pub record IsDecodable (text : List ℕ) : Type 0 where
+  pub table : Table
+  pub stream : List ℕ
+  pub holds : Holds text table stream
+  pub lines : List ℕ
+  pub decoded : IsDecoded table stream lines

@@ -1,0 +1,45 @@
+//! What holds of an input that is shown, and of its decoding.
+
+ghost use Rattle.std.specs.Prelude.{◌≡◌, ◌↔◌, ℕ, List, Option, drop};
+ghost use Rattle.mrpc_table.specs.declared.table.Table.{Table};
+ghost use Rattle.frame_transport.specs.declared.format.Frame.{Frame};
+ghost use Rattle.mrpc_top.specs.Decoding.{AreLinesOf, IsCutAt, IsLineOf};
+ghost use Rattle.mrpc_top.specs.DecodeInput.{Holds as DecodeHolds, IsTextFault as IsDecodeTextFault};
+ghost use Rattle.frame_reading.specs.Contents.{IsContentOf};
+ghost use Rattle.frame_reading.specs.Faults.{IsFaultHere};
+ghost use Rattle.frame_reading.specs.Input.{Holds, IsTextFault};
+ghost use Rattle.frame_reading.specs.Walks.{Stands};
+ghost use Rattle.frame_reading.specs.declared.content.Content.{Content};
+ghost use Rattle.frame_view.specs.Written.{CutsView, ViewsText};
+ghost use Rattle.decode_laws.specs.Decodings.{IsDecodable, IsDecodeFault};
+
+use frame_transport::frames_join;
+use mrpc_top::one_decoding;
+
+/// What is read of an input is what `decode` reads: the same table and stream or the same fault of the text, for each
+/// frame that has contents a line, and behind frames with lines a fault at which `decode` ends.
+pub fn what_is_read_is_that_of_decode()
+    ensures parts { (text stream : List ℕ) (T : Table) → Holds text T stream ↔ DecodeHolds text T stream }
+    ensures of_text { (text word : List ℕ) (line : ℕ) → IsTextFault text line word ↔ IsDecodeTextFault text line word }
+    ensures line { (T : Table) (f : Frame) (content : Content) → IsContentOf T f content
+        → (line : List ℕ) × IsLineOf T f line }
+    ensures of_frames { (T : Table) (stream lines word : List ℕ) (to place : ℕ) (fs : List Frame)
+        → Stands stream 0 to fs → AreLinesOf T fs lines → IsFaultHere T to (drop to stream) place word
+        → IsCutAt T 0 stream lines place word }
+{
+    frames_join();
+}
+
+/// Where a view of frames is cut by a fault, this is the first fault for `decode`, and where all frames are shown,
+/// `decode` tells all of them. A text has one first fault for `decode`, and only one that it doesn't tell to its end.
+pub fn views_end_as_decode_does()
+    ensures cut { (text word : List ℕ) (place : ℕ) (out out' : Option (List ℕ)) → CutsView text out out' place word
+        → IsDecodeFault text place word }
+    ensures done { (text : List ℕ) (out out' : Option (List ℕ)) → ViewsText text out out' → IsDecodable text }
+    ensures one_fault { (text word spelled : List ℕ) (place at : ℕ) → IsDecodeFault text place word
+        → IsDecodeFault text at spelled → (place ≡ at) × (word ≡ spelled) }
+    ensures never_both { (text word : List ℕ) (place : ℕ) → IsDecodable text → IsDecodeFault text place word → ⊥ }
+{
+    what_is_read_is_that_of_decode();
+    one_decoding();
+}

@@ -1,0 +1,37 @@
+//! Why an input isn't read further.
+
+ghost use Rattle.std.specs.Prelude.{◌≡◌, ◌≢◌};
+ghost use Rattle.frame_reading.specs.Faults.{OnFault};
+
+use mrpc_table::Memory;
+
+/// Why an input isn't read further.
+#[derive(Drop, Clone, Copy)]
+pub enum ReadFault {
+    /// The input has a fault at this place: a line of the text, from 1, or a byte of the stream, from 0. This is the
+    /// word of its reason.
+    At { place: u64, word: &'static str },
+    /// No memory was found.
+    Memory,
+}
+
+impl ReadFault {
+    /// A fault at a place.
+    pub(crate) fn at(place: u64, word: &'static str) -> ReadFault
+        ensures is { OnFault (λ p w. (p ≡ place) × (w ≡ word.now)) result }
+        ensures not_memory { result ≢ ReadFault.Memory }
+    {
+        ReadFault::At { place, word }
+    }
+}
+
+impl From<Memory> for ReadFault {
+    ghost use Rattle.std.specs.Prelude.{◌≡◌};
+    ghost use Rattle.frame_reading.specs.declared.fault.ReadFault.TheVariants.{Memory as NoMemory};
+
+    ghost from_gives = { λ _ fault. fault ≡ NoMemory };
+
+    fn from(_: Memory) -> ReadFault {
+        ReadFault::Memory
+    }
+}

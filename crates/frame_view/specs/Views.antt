@@ -1,0 +1,40 @@
+-- How frames are shown (this project's own, around the text format of Protocol Buffers).
+use Rattle.std.specs.Prelude.{◌≡◌, ℕ, ◌==◌, List, [], ◌∷◌, ◌++◌, length, codes, option_map, slice_get, unwrap_or}
+use Rattle.std.specs.Prelude.{if◌then◌else◌}
+use Rattle.std.specs.Fmt.{decimal}
+use Rattle.mrpc_table.specs.Node.{Node}
+use Rattle.mrpc_table.specs.Text.{line}
+use Rattle.mrpc_table.specs.declared.table.Table.{Table}
+use Rattle.message_text.specs.Entries.{IsTextOf}
+use Rattle.frame_transport.specs.declared.format.Frame.{Frame}
+use Rattle.frame_transport.specs.declared.format.TheConstants.{HELLO, REQUEST}
+use Rattle.frame_reading.specs.Contents.{IsMessageOf, message_in}
+
+-- the service of a method, and the method
+abbrev pub path_of : Table → ℕ → List ℕ
+path_of T method = unwrap_or (option_map (λ m. m.service ++ (codes "/" ++ m.name)) (slice_get T.methods method)) []
+
+abbrev pub sort_word : ℕ → List ℕ
+sort_word kind = if kind == REQUEST then codes "request" else codes "reply"
+
+-- the line of a hello: its connection, and how many bytes it has
+abbrev pub hello_head : Frame → List ℕ
+hello_head f = line (codes "#" ∷ codes "hello" ∷ codes "conn" ∷ decimal f.conn ∷ codes "bytes" ∷ decimal (length f.payload)
+    ∷ [])
+
+-- the line in front of a message: what it is, of which method, from which connection, and its number
+abbrev pub call_head : Table → Frame → List ℕ
+call_head T f = line (codes "#" ∷ sort_word f.kind ∷ path_of T f.method ∷ codes "conn" ∷ decimal f.conn ∷ codes "number"
+    ∷ decimal f.number ∷ [])
+
+-- how a frame is shown: a hello by a line, and a request or a reply by a line and the text of its message
+pub data IsViewOf (T : Table) (f : Frame) (text : List ℕ) : Type 0 where
+  view_of_hello : f.kind ≡ HELLO → text ≡ hello_head f → IsViewOf T f text
+  view_of_call : (t : Node) (shown : List ℕ) → IsMessageOf T f t → IsTextOf T (message_in T f) t shown
+      → text ≡ call_head T f ++ shown → IsViewOf T f text
+
+-- the text is the views of the frames, in order
+abbrev pub AreViewsOf : Table → List Frame → List ℕ → Type 0
+AreViewsOf T [] text = text ≡ []
+AreViewsOf T (f ∷ fs) text = (first : List ℕ) × (rest : List ℕ) × IsViewOf T f first × AreViewsOf T fs rest
+    × (text ≡ first ++ rest)

@@ -1,0 +1,58 @@
+//! The lines in front of messages.
+
+ghost use Rattle.std.specs.Prelude.{◌≡◌, ◌<◌, ◌++◌, length, OnOk};
+ghost use Rattle.mrpc_table.specs.Valid.{IsValid};
+ghost use Rattle.frame_transport.specs.Standing.{frame_of};
+ghost use Rattle.frame_view.specs.Views.{call_head, hello_head, path_of, sort_word};
+
+use frame_transport::{FrameRef, REQUEST};
+use mrpc_table::{Bytes, Memory, Table};
+
+/// Appends the line of a hello.
+pub(crate) fn put_hello(out: &mut Bytes, frame: &FrameRef) -> Result<(), Memory>
+    ensures { OnOk result (out.new ≡ out.old ++ hello_head (frame_of frame.now)) }
+{
+    out.append(b"# hello conn")?;
+    out.append_word(u64::from(frame.conn))?;
+    out.append(b" bytes")?;
+    out.append_word(frame.payload.len() as u64)?;
+    out.append(b"\n")
+}
+
+/// Appends the line in front of the message of a request or a reply.
+pub(crate) fn put_call(out: &mut Bytes, table: &Table, frame: &FrameRef) -> Result<(), Memory>
+    requires { frame.now.method < length table.now.methods }
+    ensures { OnOk result (out.new ≡ out.old ++ call_head table.now (frame_of frame.now)) }
+{
+    out.append(b"# ")?;
+    out.append(sort_word(frame.kind))?;
+    out.append(b" ")?;
+    put_path(out, table, frame.method)?;
+    out.append(b" conn")?;
+    out.append_word(u64::from(frame.conn))?;
+    out.append(b" number")?;
+    out.append_word(u64::from(frame.number))?;
+    out.append(b"\n")
+}
+
+// Whether it is a request or a reply.
+fn sort_word(kind: u8) -> &'static [u8]
+    ensures { result.now ≡ sort_word kind }
+{
+    if kind == REQUEST {
+        b"request"
+    } else {
+        b"reply"
+    }
+}
+
+// Appends the names of a method's service and of the method.
+fn put_path(out: &mut Bytes, table: &Table, method: u16) -> Result<(), Memory>
+    requires { method < length table.now.methods }
+    ensures { OnOk result (out.new ≡ out.old ++ path_of table.now method) }
+{
+    let method = &table.methods.as_slice()[method as usize];
+    out.append(method.service.as_slice())?;
+    out.append(b"/")?;
+    out.append(method.name.as_slice())
+}

@@ -1,0 +1,5 @@
+pub mod Entries
+pub mod Escapes
+pub mod Lines
+pub mod Numbers
+pub mod Pieces

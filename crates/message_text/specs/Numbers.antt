@@ -1,0 +1,52 @@
+-- The texts of numbers (Protocol Buffers, "Text Format Language Specification", "Numeric Literals" and "Enum Values"),
+-- by their word forms.
+use Rattle.std.specs.Prelude.{◌≡◌, ◌≢◌, ℕ, ℤ, ◌<◌, ◌==◌, List, [], codes, length, Some, option_map, slice_get, slice_index_or, unwrap_or, if◌then◌else◌, from_bits, IsTrue}
+use Rattle.std.specs.Float.{NotNanBits, Format, binary32, binary64}
+use Rattle.std.specs.Float.Ieee.{nan_bits}
+use Rattle.std.specs.Float.Parse.{parse_float}
+use Rattle.std.specs.Fmt.{decimal, signed_decimal}
+use Rattle.std.specs.Int.{w64, cast_signed}
+use Rattle.mrpc_table.specs.declared.table.Kind.{Kind}
+use Rattle.mrpc_table.specs.declared.table.Kind.TheVariants.{Uint32, Uint64, Bool as TheBool, Fixed32, Fixed64, Float, Double, Choice}
+use Rattle.mrpc_table.specs.declared.table.Table.{Table}
+
+-- the values of the enum at a place of the table
+abbrev pub values_of : Table → ℕ → List (ℤ × List ℕ)
+values_of T i = unwrap_or (option_map (λ e. e.values) (slice_get T.enums i)) []
+
+-- this is the first of the names that an enum has for a number
+pub record IsFirstName (values : List (ℤ × List ℕ)) (n : ℤ) (name : List ℕ) : Type 0 where
+  pub at : ℕ
+  pub within : at < length values
+  pub stands : (d : ℤ × List ℕ) → slice_index_or values at d ≡ (n, name)
+  pub first : (k : ℕ) (d : ℤ × List ℕ) → k < at → (slice_index_or values k d).0 ≢ n
+
+-- an enum has no name for a number
+pub record HasNoName (values : List (ℤ × List ℕ)) (n : ℤ) : Type 0 where
+  pub none : (k : ℕ) (d : ℤ × List ℕ) → k < length values → (slice_index_or values k d).0 ≢ n
+
+-- an enum's value is shown by a name, or by its number where there is none
+pub data IsChoiceText (values : List (ℤ × List ℕ)) (n : ℤ) (text : List ℕ) : Type 0 where
+  named : IsFirstName values n text → IsChoiceText values n text
+  unnamed : HasNoName values n → text ≡ signed_decimal n → IsChoiceText values n text
+
+-- a float is shown by a text that reads back as it, and one that is no number by `nan`
+pub data IsFloatText (f : Format) (bits : ℕ) (text : List ℕ) : Type 0 where
+  not_a_number : IsTrue (nan_bits f bits) → text ≡ codes "nan" → IsFloatText f bits text
+  reads_back : NotNanBits f bits → parse_float f text ≡ Some (from_bits f bits) → IsFloatText f bits text
+
+-- a whole number has its decimal digits, behind `-` where it is below 0, and a truth value its name
+abbrev pub whole_text : Kind → ℕ → List ℕ
+whole_text TheBool n = if n == 0 then codes "false" else codes "true"
+whole_text Uint32 n = decimal n
+whole_text Uint64 n = decimal n
+whole_text Fixed32 n = decimal n
+whole_text Fixed64 n = decimal n
+whole_text _ n = signed_decimal (cast_signed w64 n)
+
+-- the text of a number of a kind
+abbrev pub IsNumberText : Table → Kind → ℕ → List ℕ → Type 0
+IsNumberText T (Choice i) n text = IsChoiceText (values_of T i) (cast_signed w64 n) text
+IsNumberText T Float n text = IsFloatText binary32 n text
+IsNumberText T Double n text = IsFloatText binary64 n text
+IsNumberText T k n text = text ≡ whole_text k n

@@ -1,0 +1,11 @@
+-- Which command lines the program answers by itself.
+use Rattle.std.specs.Prelude.{◌≡◌, ◌⊎◌, ℕ, List, [], ◌∷◌, codes, map, String, string_bytes}
+use Rattle.std.specs.declared.alloc.Global.{Global}
+
+-- the word asks for the help text or for the version
+abbrev pub Asks : List ℕ → Type 0
+Asks word = (word ≡ codes "--help") ⊎ (word ≡ codes "--version")
+
+-- it is the only word
+abbrev pub AsksAlone : List (String Global) → Type 0
+AsksAlone words = (map string_bytes words ≡ codes "--help" ∷ []) ⊎ (map string_bytes words ≡ codes "--version" ∷ [])

@@ -1,0 +1,65 @@
+// The words of the command line.
+ghost use Rattle.std.specs.Prelude.{◌≡◌, ◌↔◌, IsSome};
+ghost use Rattle.mrpc_view.specs.CommandLine.{Asks, AsksAlone};
+
+use std::env;
+use std::env::Env;
+use std::io::ErrorKind;
+
+/// What a command line asks the program itself for.
+#[derive(Clone, Copy)]
+pub(crate) enum Asked {
+    /// The usage text.
+    Help,
+    /// The version.
+    Version,
+}
+
+/// Why the words couldn't be read.
+#[derive(Clone, Copy)]
+pub(crate) enum WordsFault {
+    /// A word isn't UTF-8.
+    NotText,
+    /// No memory was found.
+    Memory,
+}
+
+/// The words after the program's name.
+pub(crate) fn words<R: Env + AllocGlobal>(rt: &R) -> Result<Vec<String>, WordsFault> {
+    let mut args = match env::args(rt) {
+        Ok(args) => args,
+        Err(error) if error.kind() == ErrorKind::InvalidData => return Err(WordsFault::NotText),
+        Err(_) => return Err(WordsFault::Memory),
+    };
+    let _name = args.next();
+    let mut words = Vec::new(rt.alloc());
+    for word in args {
+        if words.push(word).is_err() {
+            return Err(WordsFault::Memory);
+        }
+    }
+    Ok(words)
+}
+
+/// What a command line of `--help` or `--version` alone asks for.
+pub(crate) fn asked_alone(words: &[String]) -> Option<Asked>
+    ensures asked { IsSome result ↔ AsksAlone words.now }
+{
+    match words {
+        [word] => asked_by(word.as_str()),
+        _ => None,
+    }
+}
+
+// What the word asks for.
+fn asked_by(word: &str) -> Option<Asked>
+    ensures { IsSome result ↔ Asks word.now }
+{
+    if word == "--help" {
+        Some(Asked::Help)
+    } else if word == "--version" {
+        Some(Asked::Version)
+    } else {
+        None
+    }
+}

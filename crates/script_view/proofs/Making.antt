@@ -1,0 +1,100 @@
+-- What makes one frame after another.
+use Rattle.std.proofs.Common.{◌≡◌, ℕ, ◌+◌, ◌<◌, ◌≤◌, Bool, false, IsTrue, ◌↔◌, inl, inr, arith, List, [], ◌∷◌, ◌++◌, length, drop, codes, refl, sym, ap, subst, ◌∙◌, append_assoc, append-nil, Result, Ok, Err, IfOk, IfErr}
+use Rattle.std.proofs.lemmas.Bool.{false≢true}
+use Rattle.std.proofs.lemmas.Bool.Decides.{leb_tells}
+use Rattle.mrpc_table.specs.declared.table.Table.{Table}
+use Rattle.frame_transport.specs.Frames.{Splits}
+use Rattle.frame_transport.specs.Standing.{StandsAt}
+use Rattle.frame_transport.specs.declared.format.Frame.{Frame}
+use Rattle.frame_reading.specs.Faults.{OnFault}
+use Rattle.frame_reading.specs.Input.{Holds}
+use Rattle.frame_reading.specs.Walks.{Stands}
+use Rattle.frame_reading.specs.declared.fault.ReadFault.{ReadFault}
+use Rattle.frame_reading.specs.declared.fault.ReadFault.TheVariants.{At, Memory}
+use Rattle.script_view.specs.Scripts.{IsScriptOf, nothing_made, script_text}
+use Rattle.script_text.specs.declared.limits.TheConstants.{MAX_CONNECTIONS}
+use Rattle.script_view.specs.Unplayable.{Made, IsConn, IsUnplayable, too_large, hello_too_large}
+use Rattle.script_view.specs.Walks.{PlaysFrame, plays_hello, plays_call, PlaysFrames, Plays}
+use Rattle.script_view.specs.declared.limits.TheConstants.{MAX_BODY}
+
+-- what follows from a property of a fault, holds of it
+pub on_fault : (P Q : ℕ → List ℕ → Type 0) (fault : ReadFault) → ((place : ℕ) (word : List ℕ) → P place word → Q place word) → OnFault P fault → OnFault Q fault
+on_fault P Q (At place word) then h = then place word.now h
+on_fault P Q Memory then h = tt
+
+plays-append : (T : Table) (a b c : Made) (fs gs : List Frame) (x y : List ℕ) → PlaysFrames T a fs x b → PlaysFrames T b gs y c → PlaysFrames T a (fs ++ gs) (x ++ y) c
+plays-append T a b c [] gs x y p q =
+    subst (λ (t : List ℕ). PlaysFrames T a gs (t ++ y) c) (sym p.0) (subst (λ (m : Made). PlaysFrames T m gs y c) p.1 q)
+plays-append T a b c (f ∷ fs) gs x y p q =
+    (p.0, p.1 ++ y, p.2, p.3, plays-append T p.2 b c fs gs p.1 y p.4 q, ap (λ (t : List ℕ). t ++ y) p.5 ∙ append_assoc p.0 p.1 y)
+
+-- what holds of frames that stand one behind another
+pub record WalkLaw : Type 0 where
+  pub none : (stream : List ℕ) (from : ℕ) → Stands stream from from []
+  pub one : (stream : List ℕ) (from to : ℕ) (f : Frame) → StandsAt from (drop from stream) f → to ≡ from + (16 + length f.payload) → Stands stream from to (f ∷ [])
+  pub more : (stream : List ℕ) (from mid to : ℕ) (fs gs : List Frame) → Stands stream from mid fs → Stands stream mid to gs → Stands stream from to (fs ++ gs)
+  pub all : (stream : List ℕ) (to : ℕ) (fs : List Frame) → Stands stream 0 to fs → length stream ≤ to → Splits 0 stream fs []
+
+pub plays_nothing : WalkLaw → (T : Table) (stream : List ℕ) (from : ℕ) (made : Made) → Plays T stream from from made [] made
+plays_nothing law T stream from made = record { frames = []; stands = law.none stream from; plays = (refl, refl) }
+
+pub plays_one : WalkLaw → (T : Table) (stream : List ℕ) (from to : ℕ) (f : Frame) (a b : Made) (text : List ℕ) → StandsAt from (drop from stream) f
+    → PlaysFrame T a f text b → to ≡ from + (16 + length f.payload) → Plays T stream from to a text b
+plays_one law T stream from to f a b text h made behind =
+    record { frames = f ∷ []; stands = law.one stream from to f h behind; plays = (text, [], b, made, (refl, refl), sym (append-nil text)) }
+
+plays_more : WalkLaw → (T : Table) (stream : List ℕ) (from mid to : ℕ) (a b c : Made) (x y : List ℕ) → Plays T stream from mid a x b → Plays T stream mid to b y c
+    → Plays T stream from to a (x ++ y) c
+plays_more law T stream from mid to a b c x y p q = record {
+  frames = p.frames ++ q.frames;
+  stands = law.more stream from mid to p.frames q.frames p.stands q.stands;
+  plays = plays-append T a b c p.frames q.frames x y p.plays q.plays;
+}
+
+-- lines that are too many
+pub large : (T : Table) (before after : Made) (size : ℕ) (f : Frame) (text : List ℕ) (place : ℕ) (word : List ℕ) → PlaysFrame T before f text after → MAX_BODY < size + length text
+    → place ≡ f.place → word ≡ codes "Size" → IsUnplayable T before size f place word
+large T before after size f text place word (plays_hello kind is same) big at is_word =
+    hello_too_large kind (subst (λ (t : List ℕ). MAX_BODY < size + length t) is big) at is_word
+large T before after size f text place word (plays_call blanks placed made is same) big at is_word =
+    too_large blanks placed made (subst (λ (t : List ℕ). MAX_BODY < size + length t) is big) at is_word
+
+pub plays_on : WalkLaw → (T : Table) (stream : List ℕ) (from mid to : ℕ) (a b c : Made) (x y z : List ℕ) → Plays T stream from mid a x b → Plays T stream mid to b y c
+    → z ≡ x ++ y → Plays T stream from to a z c
+plays_on law T stream from mid to a b c x y z p q is = subst (λ (t : List ℕ). Plays T stream from to a t c) (sym is) (plays_more law T stream from mid to a b c x y p q)
+
+pub if_fault : {A : Type 0} (P Q : ℕ → List ℕ → Type 0) (r : Result A ReadFault) → ((place : ℕ) (word : List ℕ) → P place word → Q place word) → IfErr r (OnFault P) → IfErr r (OnFault Q)
+if_fault P Q (Ok a) then h = h
+if_fault P Q (Err fault) then h = on_fault P Q fault then h
+
+-- what plays a whole stream, is the script of the input
+pub script_whole : {E : Type 0} → WalkLaw → (text : List ℕ) (T : Table) (stream : List ℕ) (r : Result (List ℕ) E) → Holds text T stream
+    → IfOk r (λ script. (to : ℕ) × (body : List ℕ) × (made : Made) × (length stream ≤ to) × Plays T stream 0 to nothing_made body made × (script ≡ script_text T made.loads body))
+    → IfOk r (IsScriptOf text)
+script_whole law text T stream (Ok script) holds h = record {
+  table = T;
+  stream = stream;
+  holds = holds;
+  frames = h.4.frames;
+  splits = law.all stream h.0 h.4.frames h.4.stands h.3;
+  body = h.1;
+  made = h.2;
+  plays = h.4.plays;
+  whole = h.5;
+}
+script_whole law text T stream (Err e) holds h = tt
+
+-- a connection that passes the test
+pub conn_is : (conn : ℕ) (b : Bool) → (IsTrue b ↔ ((1 ≤ conn) × (conn ≤ MAX_CONNECTIONS))) → IsTrue b → IsConn conn
+conn_is conn b h passed = let both : (1 ≤ conn) × (conn ≤ MAX_CONNECTIONS) = h.0 passed in record { first = both.0; last = both.1 }
+
+-- what isn't at most a limit, is above it
+pub too_many : (n limit : ℕ) (b : Bool) → (IsTrue b ↔ (n ≤ limit)) → b ≡ false → limit < n
+too_many n limit b h failed = elim (leb_tells n limit) [ inl le ↦ absurd (false≢true (sym failed ∙ h.1 le.1)) | inr above ↦ let gt = above.1 in omega (arith, gt) ]
+
+-- what was made, part by part
+abbrev pub made_of : List ℕ → ℕ → ℕ → Made
+made_of counts calls loads = record { counts = counts; calls = calls; loads = loads }
+
+pub made_is : {counts counts' : List ℕ} {calls calls' loads loads' : ℕ} → counts ≡ counts' → calls ≡ calls' → loads ≡ loads' → made_of counts calls loads ≡ made_of counts' calls' loads'
+made_is p q r = λ i. made_of (p i) (q i) (r i)

@@ -1,0 +1,10 @@
+use Rattle.std.proofs.Common.{◌-◌, length}
+use Rattle.script_view.specs.Walks.{Plays, made_by}
+use Rattle.script_view.proofs.playing.put_stream.Given as goal
+
+-- the lines so far make the frames before the place
+abbrev pub invariant-loop-place : goal.invariant-loop-place
+invariant-loop-place l = Plays l.table l.stream 0 l.place (made_by l.fn.calls) l.body (made_by l.calls)
+
+abbrev pub decreases-loop-place : goal.decreases-loop-place
+decreases-loop-place l = length l.stream - l.place

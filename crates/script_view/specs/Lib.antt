@@ -1,0 +1,4 @@
+pub mod Playing
+pub mod Scripts
+pub mod Unplayable
+pub mod Walks

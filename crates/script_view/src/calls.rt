@@ -1,0 +1,82 @@
+//! How many calls a script has made, by connection and together, and how many loads each may take.
+
+ghost use Rattle.std.specs.Prelude.{◌≡◌, ◌≤◌, ◌<◌, ◌+◌, ◌*◌, ◌^◌, max, replicate, slice_index, slice_set, IsTrue, ◌↔◌, ℕ};
+ghost use Rattle.script_text.specs.declared.limits.TheConstants.{MAX_CONNECTIONS, MAX_WORK};
+
+use script_text::{MAX_CONNECTIONS, MAX_WORK};
+
+/// The calls of a script so far.
+#[derive(Drop)]
+pub(crate) struct Calls {
+    /// The number of the last call of each connection, 0 where it has none. No connection has the place 0.
+    pub counts: [u64; 17],
+    /// How many calls there are together.
+    pub total: u64,
+    /// The most loads that one of them takes, at least 1.
+    pub loads: u64,
+    ghost few: { total ≤ MAX_WORK },
+    ghost within: { (k : ℕ) → slice_index counts k ≤ total },
+    ghost some: { 1 ≤ loads },
+}
+
+impl Calls {
+    /// No call yet.
+    pub(crate) fn new() -> Calls
+        ensures counts { result.counts ≡ replicate 17 0 }
+        ensures total { result.total ≡ 0 }
+        ensures loads { result.loads ≡ 1 }
+    {
+        Calls {
+            counts: [0; 17],
+            total: 0,
+            loads: 1,
+        }
+    }
+
+    /// The number of the last call of a connection.
+    pub(crate) fn last(&self, conn: u32) -> u64
+        requires { conn ≤ MAX_CONNECTIONS }
+        ensures { result ≡ slice_index self.now.counts conn }
+    {
+        self.counts[conn as usize]
+    }
+
+    /// Takes a call of a connection, behind so many others without a message, which takes so many loads; answers whether
+    /// all calls together are as many as a script may have, by the loads that each may take. If not, nothing changes.
+    pub(crate) fn take(&mut self, conn: u32, blanks: u64, loads: u64) -> bool
+        requires conn { conn ≤ MAX_CONNECTIONS }
+        requires blanks { blanks < 2 ^ 32 }
+        ensures few { IsTrue result ↔ ((self.old.total + blanks + 1) * max self.old.loads loads ≤ MAX_WORK) }
+        ensures counts { IsTrue result → self.new.counts
+            ≡ slice_set self.old.counts conn (slice_index self.old.counts conn + blanks + 1) }
+        ensures total { IsTrue result → self.new.total ≡ self.old.total + blanks + 1 }
+        ensures loads { IsTrue result → self.new.loads ≡ max self.old.loads loads }
+    {
+        let total = self.total + blanks + 1;
+        let most = self.loads.max(loads);
+        if !is_work(total, most) {
+            return false;
+        }
+        self.counts[conn as usize] += blanks + 1;
+        self.total = total;
+        self.loads = most;
+        true
+    }
+}
+
+// Whether a script may have so many calls, if each takes so many loads.
+fn is_work(calls: u64, loads: u64) -> bool
+    ensures { IsTrue result ↔ (calls * loads ≤ MAX_WORK) }
+{
+    match calls.checked_mul(loads) {
+        Some(work) => work <= MAX_WORK,
+        None => false,
+    }
+}
+
+/// Whether a script may have a connection of this number.
+pub(crate) fn is_conn(conn: u32) -> bool
+    ensures { IsTrue result ↔ ((1 ≤ conn) × (conn ≤ MAX_CONNECTIONS)) }
+{
+    conn >= 1 && conn as usize <= MAX_CONNECTIONS
+}

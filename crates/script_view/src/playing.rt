@@ -1,0 +1,226 @@
+//! What makes one frame after another.
+
+ghost use Rattle.std.specs.Prelude.{◌≡◌, ◌<◌, ◌≤◌, ◌^◌, ◌++◌, ◌+◌, ◌==◌, ℕ, List, [], length, if◌then◌else◌, IfOk, IfErr, IfSome, IfNone, OnOk};
+ghost use Rattle.mrpc_table.specs.Valid.{IsValid};
+ghost use Rattle.frame_transport.specs.Standing.{frame_of};
+ghost use Rattle.frame_reading.specs.Contents.{IsContentOf, IsMessageOf, message_in};
+ghost use Rattle.frame_reading.specs.Faults.{OnFault};
+ghost use Rattle.script_view.specs.Playing.{IsNumbered, call_lines, conn_line};
+ghost use Rattle.script_view.specs.Unplayable.{IsLaidOut, IsUnplayable, Made};
+ghost use Rattle.script_view.specs.Walks.{Plays, PlaysFrame, StopsAt, StopsHere, made_by};
+
+use crate::calls::{Calls, is_conn};
+use crate::limits::{FIRST_PLACE, MAX_BODY, MAX_REPLAY_WORDS};
+use crate::lines::{put_blanks, put_conn, put_hello, put_send, put_stores, put_submit};
+use frame_reading::{Content, ReadFault, content_of, frame_here, frames_follow};
+use frame_transport::{FrameRef, HEADER_LEN, REQUEST};
+use graph_form::Placed;
+use graph_place::{layout, place_words};
+use mrpc_table::{Bytes, MAX_LOADS, Memory, Table, Tree};
+use std::alloc::Global;
+use wire_decode::Spare;
+
+/// Where the sender's connection, and where the number, stands in a header.
+const CONN_PLACE: u64 = 8;
+
+const NUMBER_PLACE: u64 = 12;
+
+/// Appends what makes the frames of a stream, in order.
+pub(crate) fn put_stream(
+    alloc: Global,
+    table: &Table,
+    stream: &[u8],
+    calls: &mut Calls,
+    body: &mut Bytes,
+) -> Result<(), ReadFault>
+    requires valid { IsValid table.now }
+    requires countable { length stream.now < 2 ^ 63 }
+    requires empty { body.old ≡ [] }
+    ensures made { OnOk result ((to : ℕ) × (text : List ℕ) × (length stream.now ≤ to) × (body.new ≡ body.old ++ text)
+        × Plays table.now stream.now 0 to (made_by calls.old) text (made_by calls.new)) }
+    ensures fault { IfErr result (OnFault (StopsAt table.now stream.now (made_by calls.old))) }
+{
+    frames_follow();
+    let mut spare = Spare::new(alloc);
+    let mut place = 0;
+    while place < stream.len() {
+        place = put_frame(alloc, table, stream, place, &mut spare, calls, body)?;
+    }
+    Ok(())
+}
+
+// Appends what makes the frame at this place of a stream, and answers the place behind it.
+fn put_frame(
+    alloc: Global,
+    table: &Table,
+    stream: &[u8],
+    from: usize,
+    spare: &mut Spare,
+    calls: &mut Calls,
+    body: &mut Bytes,
+) -> Result<usize, ReadFault>
+    requires valid { IsValid table.now }
+    requires countable { length stream.now < 2 ^ 63 }
+    requires some { from < length stream.now }
+    ensures made { IfOk result (λ to. (text : List ℕ) × (body.new ≡ body.old ++ text)
+        × Plays table.now stream.now from to (made_by calls.old) text (made_by calls.new)) }
+    ensures further { IfOk result (λ to. from < to) }
+    ensures fault { IfErr result (OnFault (StopsHere table.now stream.now from (made_by calls.old) (length body.old))) }
+{
+    frames_follow();
+    let frame = frame_here(stream, from)?;
+    let content = content_of(alloc, spare, table, &frame)?;
+    put_content(alloc, table, &frame, content, spare, calls, body)?;
+    if body.len() > MAX_BODY {
+        return Err(unplayable(&frame, 0, "Size"));
+    }
+    Ok(from + HEADER_LEN + frame.payload.len())
+}
+
+// Appends what makes a frame that has this.
+fn put_content(
+    alloc: Global,
+    table: &Table,
+    frame: &FrameRef,
+    content: Content,
+    spare: &mut Spare,
+    calls: &mut Calls,
+    body: &mut Bytes,
+) -> Result<(), ReadFault>
+    requires valid { IsValid table.now }
+    requires near { frame.now.place < 2 ^ 63 }
+    requires content { IsContentOf table.now (frame_of frame.now) content }
+    ensures made { OnOk result ((text : List ℕ) × (body.new ≡ body.old ++ text)
+        × PlaysFrame table.now (made_by calls.old) (frame_of frame.now) text (made_by calls.new)) }
+    ensures fault { IfErr result (OnFault (λ place word. (size : ℕ) → IsUnplayable table.now (made_by calls.old) size
+        (frame_of frame.now) place word)) }
+{
+    match content {
+        Content::Hello => {
+            put_hello(body)?;
+            Ok(())
+        }
+        Content::Call { message, tree } => {
+            put_call(alloc, table, frame, message, &tree, calls, body)?;
+            spare.take_back(tree);
+            Ok(())
+        }
+    }
+}
+
+// Appends what makes the frame of a request or a reply.
+fn put_call(
+    alloc: Global,
+    table: &Table,
+    frame: &FrameRef,
+    message: u32,
+    tree: &Tree,
+    calls: &mut Calls,
+    body: &mut Bytes,
+) -> Result<(), ReadFault>
+    requires valid { IsValid table.now }
+    requires message { message ≡ message_in table.now (frame_of frame.now) }
+    requires near { frame.now.place < 2 ^ 63 }
+    requires of_frame { IsMessageOf table.now (frame_of frame.now) tree.now }
+    ensures made { OnOk result ((text : List ℕ) × (body.new ≡ body.old ++ text)
+        × PlaysFrame table.now (made_by calls.old) (frame_of frame.now) text (made_by calls.new)) }
+    ensures fault { IfErr result (OnFault (λ place word. (size : ℕ) → IsUnplayable table.now (made_by calls.old) size
+        (frame_of frame.now) place word)) }
+{
+    if !is_conn(frame.conn) {
+        return Err(unplayable(frame, CONN_PLACE, "Conn"));
+    }
+    let last = calls.last(frame.conn);
+    let Some(blanks) = blanks_before(frame, last) else {
+        return Err(unplayable(frame, NUMBER_PLACE, "Number"));
+    };
+    let placed = laid_out(alloc, table, frame, message, tree)?;
+    if !calls.take(frame.conn, blanks, placed.words.len() as u64) {
+        return Err(unplayable(frame, 0, "Work"));
+    }
+    put_lines(body, frame, last, blanks, &placed)?;
+    Ok(())
+}
+
+// How many calls without a message go before that of a frame, whose connection has had this number last. None where no
+// call can have the frame's number.
+fn blanks_before(frame: &FrameRef, last: u64) -> Option<u64>
+    ensures some { IfSome result (λ blanks. IsNumbered (frame_of frame.now) last blanks) }
+    ensures small { IfSome result (λ blanks. blanks < 2 ^ 32) }
+    ensures none { IfNone result ((blanks : ℕ) → IsNumbered (frame_of frame.now) last blanks → ⊥) }
+{
+    let number = u64::from(frame.number);
+    if frame.kind == REQUEST {
+        if number <= last {
+            return None;
+        }
+        return Some(number - last - 1);
+    }
+    if number == 0 { None } else { Some(0) }
+}
+
+// The words of a message, each with its place.
+fn laid_out(
+    alloc: Global,
+    table: &Table,
+    frame: &FrameRef,
+    message: u32,
+    tree: &Tree,
+) -> Result<Placed, ReadFault>
+    requires valid { IsValid table.now }
+    requires near { frame.now.place < 2 ^ 63 }
+    requires of_frame { IsMessageOf table.now (frame_of frame.now) tree.now }
+    requires message { message ≡ message_in table.now (frame_of frame.now) }
+    ensures placed { IfOk result (IsLaidOut table.now message tree.now) }
+    ensures fault { IfErr result (OnFault (λ place word. (before : Made) (size : ℕ) → IsUnplayable table.now before size
+        (frame_of frame.now) place word)) }
+{
+    if place_words(tree, table, message) >= MAX_REPLAY_WORDS {
+        return Err(unplayable(frame, HEADER_LEN as u64, "Words"));
+    }
+    let placed = layout(alloc, tree, table, message, FIRST_PLACE)?;
+    if placed.words.len() as u64 > MAX_LOADS {
+        return Err(unplayable(frame, HEADER_LEN as u64, "Loads"));
+    }
+    Ok(placed)
+}
+
+// A fault of a frame that no replay can send, at a place of its own.
+fn unplayable(frame: &FrameRef, at: u64, word: &'static str) -> ReadFault
+    requires near { frame.now.place < 2 ^ 63 }
+    requires inside { at ≤ HEADER_LEN }
+    ensures { OnFault (λ p w. (p ≡ frame.now.place + at) × (w ≡ word.now)) result }
+{
+    ReadFault::At {
+        place: frame.place + at,
+        word,
+    }
+}
+
+// Appends the lines of the frame of a request or a reply.
+fn put_lines(
+    body: &mut Bytes,
+    frame: &FrameRef,
+    last: u64,
+    blanks: u64,
+    placed: &Placed,
+) -> Result<(), Memory>
+    ensures { OnOk result (body.new ≡ body.old ++ call_lines (frame_of frame.now) last blanks placed.now.words) }
+{
+    put_opening(body, frame.conn, last)?;
+    put_blanks(body, frame.conn, blanks)?;
+    put_stores(body, frame.conn, placed.words.as_slice())?;
+    put_submit(body, frame)?;
+    put_send(body, frame.conn)
+}
+
+// Appends the line that opens a connection, in front of its first call.
+fn put_opening(body: &mut Bytes, conn: u32, last: u64) -> Result<(), Memory>
+    ensures { OnOk result (body.new ≡ body.old ++ (if last == 0 then conn_line conn else [])) }
+{
+    if last == 0 {
+        put_conn(body, conn)
+    } else {
+        Ok(())
+    }
+}

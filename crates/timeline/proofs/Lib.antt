@@ -1,0 +1,4 @@
+mod Ascending
+mod Plainness
+mod Reading
+mod Walking

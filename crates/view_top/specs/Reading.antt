@@ -1,0 +1,19 @@
+-- How an input was read.
+use Rattle.std.specs.Prelude.{◌≡◌, ℕ, ◌+◌, List, length, Option, None, Some}
+use Rattle.std.specs.Io.KnownBytes.{Consumes}
+use Rattle.view_top.specs.declared.reading.Input.{Input}
+use Rattle.view_top.specs.declared.reading.Input.TheVariants.{Whole}
+
+-- P holds of the bytes of an input that was read to its end
+abbrev pub OnWhole : Input → (List ℕ → Type 0) → Type 0
+OnWhole (Whole text) P = P text.items
+OnWhole _ P = Unit {0}
+
+-- the text is all that a source had left, where it tells
+abbrev pub IsAllOf : Option (List ℕ) → List ℕ → Type 0
+IsAllOf None text = Unit {0}
+IsAllOf (Some bytes) text = bytes ≡ text
+
+-- one byte more than the limit was read
+abbrev pub ReadsPast : ℕ → Option (List ℕ) → Option (List ℕ) → Type 0
+ReadsPast limit old new = (front : List ℕ) × (length front ≡ limit + 1) × Consumes old new front

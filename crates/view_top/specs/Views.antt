@@ -1,0 +1,60 @@
+-- The views of an input, and what they write.
+use Rattle.std.specs.Prelude.{◌≡◌, ℕ, ◌≤◌, ◌⊎◌, List, [], ◌∷◌, codes, length, map, Option, String, string_bytes}
+use Rattle.std.specs.declared.alloc.Global.{Global}
+use Rattle.std.specs.Io.KnownBytes.{Appends}
+use Rattle.view_top.specs.FaultLines.{fault_line}
+use Rattle.frame_view.specs.Written.{ViewsText, CutsView}
+use Rattle.script_view.specs.Scripts.{IsScriptOf, HasStop}
+use Rattle.timeline.specs.Drawing.{drawing}
+use Rattle.timeline.specs.Lines.{happenings_of}
+use Rattle.timeline.specs.Plain.{IsPlain}
+use Rattle.timeline.specs.Rows.{AreRows, Row}
+use Rattle.view_top.specs.Reading.{IsAllOf, ReadsPast}
+use Rattle.view_top.specs.declared.reading.TheConstants.{INPUT_LIMIT}
+use Rattle.view_top.specs.declared.view.View.{View}
+use Rattle.view_top.specs.declared.view.View.TheVariants.{Frames, Script, Timeline}
+
+-- the word of a view
+abbrev pub view_word : View → List ℕ
+view_word Frames = codes "frames"
+view_word Script = codes "script"
+view_word Timeline = codes "timeline"
+
+-- the words are that of the view alone
+abbrev pub Names : List (String Global) → View → Type 0
+Names words view = map string_bytes words ≡ view_word view ∷ []
+
+abbrev pub IsView : List (String Global) → Type 0
+IsView words = (view : View) × Names words view
+
+-- a text was shown: its frames, the script that makes them, or the drawing of what it tells
+abbrev pub Shows : View → List ℕ → Option (List ℕ) → Option (List ℕ) → Type 0
+Shows Frames text out out' = ViewsText text out out'
+Shows Script text out out' = (script : List ℕ) × IsScriptOf text script × Appends out out' script
+Shows Timeline text out out' = (rows : List Row) × AreRows (happenings_of text) rows × IsPlain (drawing rows)
+    × Appends out out' (drawing rows)
+
+-- a text has a first fault at a place, and what was shown in front of it was written; every text has a drawing
+abbrev pub Cuts : View → List ℕ → Option (List ℕ) → Option (List ℕ) → ℕ → List ℕ → Type 0
+Cuts Frames text out out' place word = CutsView text out out' place word
+Cuts Script text out out' place word = HasStop text place word × Appends out out' []
+Cuts Timeline text out out' place word = ⊥
+
+-- and its line was written behind that
+abbrev pub Refuses : View → List ℕ → Option (List ℕ) → Option (List ℕ) → Type 0
+Refuses view text out out' = (mid : Option (List ℕ)) × (place : ℕ) × (word : List ℕ)
+    × Cuts view text out mid place word × Appends mid out' (fault_line place word)
+
+-- the text is all that the input had left, and no longer than an input may be
+pub record IsInput (left : Option (List ℕ)) (text : List ℕ) : Type 0 where
+  pub all : IsAllOf left text
+  pub short : length text ≤ INPUT_LIMIT
+
+abbrev pub IsShown : View → Option (List ℕ) → Option (List ℕ) → Option (List ℕ) → Type 0
+IsShown view left out out' = (text : List ℕ) × IsInput left text × Shows view text out out'
+
+-- an input is too long, or its text has a fault
+abbrev pub IsRefused : View → Option (List ℕ) → Option (List ℕ) → Option (List ℕ) → Option (List ℕ) → Type 0
+IsRefused view left left' out out' =
+    (ReadsPast INPUT_LIMIT left left' × Appends out out' (fault_line INPUT_LIMIT (codes "Input")))
+    ⊎ ((text : List ℕ) × IsInput left text × Refuses view text out out')

@@ -1,0 +1,60 @@
+//! The line of a fault, and what is said of it.
+
+ghost use Rattle.std.specs.Prelude.{◌≡◌, ◌⊎◌, IfOk};
+ghost use Rattle.std.specs.Io.KnownBytes.{Appends};
+ghost use Rattle.mrpc_base.specs.Faults.{HasCause};
+ghost use Rattle.view_top.specs.FaultLines.{fault_line};
+
+use crate::status::{FAULTY_INPUT, NO_MEMORY, OUTPUT_FAILED};
+use explain::explained;
+use mrpc_base::{Sink, write_all};
+use mrpc_table::{Bytes, Memory};
+use std::alloc::Global;
+
+/// How many bytes of a line of the input are shown beside its fault.
+const WIDTH: usize = 100;
+
+/// Writes the line of a fault at a place or on a line, and on `error` what stands against the text there.
+pub(crate) fn refuse<K: Sink, E: Sink>(
+    alloc: Global,
+    text: &[u8],
+    place: u64,
+    word: &[u8],
+    out: &mut K,
+    error: &mut E,
+) -> u8
+    ensures statuses { (result ≡ FAULTY_INPUT) ⊎ ((result ≡ NO_MEMORY) ⊎ (result ≡ OUTPUT_FAILED)) }
+    ensures written { result ≡ FAULTY_INPUT
+        → Appends (K.written out.old) (K.written out.new) (fault_line place word.now) }
+    ensures cause { HasCause (result ≡ OUTPUT_FAILED) (K.faults out.old) (K.faults out.new) }
+{
+    match fault_text(alloc, place, word) {
+        Ok(line) => {
+            if write_all(out, line.as_slice()) {
+                tell(alloc, text, line.as_slice(), error);
+                FAULTY_INPUT
+            } else {
+                OUTPUT_FAILED
+            }
+        }
+        Err(Memory) => NO_MEMORY,
+    }
+}
+
+fn fault_text(alloc: Global, place: u64, word: &[u8]) -> Result<Bytes, Memory>
+    ensures { IfOk result (λ line. line ≡ fault_line place word.now) }
+{
+    let mut line = Bytes::from_slice(alloc, b"fault ")?;
+    line.append_decimal(place)?;
+    line.append(b" ")?;
+    line.append(word)?;
+    line.append(b"\n")?;
+    Ok(line)
+}
+
+// Says what stands against the text. Where there is no memory for that, or it can't be written, no more is said.
+fn tell<E: Sink>(alloc: Global, text: &[u8], line: &[u8], error: &mut E) {
+    if let Ok(lines) = explained(alloc, b"decode", text, line, WIDTH) {
+        write_all(error, lines.as_slice());
+    }
+}

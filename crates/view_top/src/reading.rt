@@ -1,0 +1,70 @@
+//! The whole input of a command.
+
+ghost use Rattle.std.specs.Prelude.{◌≡◌, ◌<◌, ◌≤◌, length, vec_len, IfOk};
+ghost use Rattle.mrpc_base.specs.Faults.{HasCause};
+ghost use Rattle.view_top.specs.Reading.{OnWhole, IsAllOf, ReadsPast};
+
+use mrpc_base::{Got, Source};
+use std::alloc::{AllocError, Global};
+
+/// The most bytes that an input may have.
+pub(crate) const INPUT_LIMIT: usize = 16_777_216;
+
+/// How many bytes are asked for in one read, at the most.
+const PIECE: usize = 65_536;
+
+/// How reading an input ended.
+#[derive(Drop)]
+pub(crate) enum Input {
+    /// It was read to its end; these are its bytes.
+    Whole(Vec<u8>),
+    /// It has more than `INPUT_LIMIT` bytes: one byte more was read.
+    TooLong,
+    /// The source failed.
+    Failed,
+    /// No memory was found.
+    Memory,
+}
+
+/// Reads an input to its end, or past its limit.
+pub(crate) fn read_input<S: Source>(alloc: Global, input: &mut S) -> Input
+    ensures whole { OnWhole result (λ text. (length text ≤ INPUT_LIMIT) × IsAllOf (S.left input.old) text) }
+    ensures too_long { result ≡ Input.TooLong → ReadsPast INPUT_LIMIT (S.left input.old) (S.left input.new) }
+    ensures cause { HasCause (result ≡ Input.Failed) (S.faults input.old) (S.faults input.new) }
+{
+    match buffer(alloc, PIECE) {
+        Ok(mut piece) => read_pieces(alloc, input, &mut piece),
+        Err(_) => Input::Memory,
+    }
+}
+
+// A buffer of so many bytes.
+fn buffer(alloc: Global, size: usize) -> Result<Vec<u8>, AllocError>
+    requires { 0 < size }
+    ensures { IfOk result (λ buffer. 0 < vec_len buffer) }
+{
+    vec![in alloc; 0; size]
+}
+
+// The same, by pieces of at most the buffer's length.
+fn read_pieces<S: Source>(alloc: Global, input: &mut S, piece: &mut [u8]) -> Input
+    requires { 0 < length piece.old }
+    ensures whole { OnWhole result (λ text. (length text ≤ INPUT_LIMIT) × IsAllOf (S.left input.old) text) }
+    ensures too_long { result ≡ Input.TooLong → ReadsPast INPUT_LIMIT (S.left input.old) (S.left input.new) }
+    ensures cause { HasCause (result ≡ Input.Failed) (S.faults input.old) (S.faults input.new) }
+{
+    let mut text: Vec<u8> = Vec::new(alloc);
+    while text.len() <= INPUT_LIMIT {
+        let room = piece.len().min(INPUT_LIMIT + 1 - text.len());
+        match input.read(&mut piece[..room]) {
+            Got::Bytes(count) => {
+                if text.extend_from_slice(&piece[..count]).is_err() {
+                    return Input::Memory;
+                }
+            }
+            Got::End => return Input::Whole(text),
+            Got::Failed => return Input::Failed,
+        }
+    }
+    Input::TooLong
+}
