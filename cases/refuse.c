@@ -9,6 +9,9 @@
 //   input      read of standard input
 //   output     write, writev on standard output
 //   frames     open, flock and ftruncate of mrpc.wire, and write, writev on it
+//   links      socket, bind, listen, connect, accept, accept4: what opens a connection
+//   sends      write, writev, send on a socket
+//   receives   read, recv of a socket
 #define _GNU_SOURCE
 #include <errno.h>
 #include <fcntl.h>
@@ -16,6 +19,8 @@
 #include <stddef.h>
 #include <stdlib.h>
 #include <string.h>
+#include <sys/socket.h>
+#include <sys/stat.h>
 #include <sys/syscall.h>
 #include <sys/uio.h>
 #include <unistd.h>
@@ -56,13 +61,28 @@ void *realloc(void *old, size_t size) {
     return is_refused('m', ENOMEM) ? NULL : __libc_realloc(old, size);
 }
 
+static int is_socket(int file) {
+    struct stat about;
+    return fstat(file, &about) == 0 && S_ISSOCK(about.st_mode);
+}
+
+static int is_read_refused(int file) {
+    if (file == STDIN_FILENO) return is_refused('i', EIO);
+    return kind == 'r' && is_socket(file) && is_refused('r', ECONNRESET);
+}
+
 ssize_t read(int file, void *bytes, size_t count) {
-    return file == STDIN_FILENO && is_refused('i', EIO) ? -1 : syscall(SYS_read, file, bytes, count);
+    return is_read_refused(file) ? -1 : syscall(SYS_read, file, bytes, count);
+}
+
+ssize_t recv(int file, void *bytes, size_t count, int flags) {
+    return is_read_refused(file) ? -1 : syscall(SYS_recvfrom, file, bytes, count, flags, NULL, NULL);
 }
 
 static int is_write_refused(int file) {
     if (file == STDOUT_FILENO) return is_refused('o', ENOSPC);
-    return file > STDERR_FILENO && is_refused('f', ENOSPC);
+    if (kind == 's') return is_socket(file) && is_refused('s', ECONNRESET);
+    return kind == 'f' && file > STDERR_FILENO && !is_socket(file) && is_refused('f', ENOSPC);
 }
 
 ssize_t write(int file, const void *bytes, size_t count) {
@@ -71,6 +91,34 @@ ssize_t write(int file, const void *bytes, size_t count) {
 
 ssize_t writev(int file, const struct iovec *parts, int count) {
     return is_write_refused(file) ? -1 : syscall(SYS_writev, file, parts, count);
+}
+
+ssize_t send(int file, const void *bytes, size_t count, int flags) {
+    return is_write_refused(file) ? -1 : syscall(SYS_sendto, file, bytes, count, flags, NULL, 0);
+}
+
+int socket(int family, int type, int protocol) {
+    return is_refused('l', EMFILE) ? -1 : syscall(SYS_socket, family, type, protocol);
+}
+
+int bind(int file, const struct sockaddr *address, socklen_t length) {
+    return is_refused('l', EADDRINUSE) ? -1 : syscall(SYS_bind, file, address, length);
+}
+
+int listen(int file, int most) {
+    return is_refused('l', EADDRINUSE) ? -1 : syscall(SYS_listen, file, most);
+}
+
+int connect(int file, const struct sockaddr *address, socklen_t length) {
+    return is_refused('l', ECONNREFUSED) ? -1 : syscall(SYS_connect, file, address, length);
+}
+
+int accept4(int file, struct sockaddr *address, socklen_t *length, int flags) {
+    return is_refused('l', EMFILE) ? -1 : syscall(SYS_accept4, file, address, length, flags);
+}
+
+int accept(int file, struct sockaddr *address, socklen_t *length) {
+    return accept4(file, address, length, 0);
 }
 
 int open(const char *path, int flags, ...) {
