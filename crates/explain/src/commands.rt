@@ -26,14 +26,20 @@ pub fn explained(
     ensures { IfOk result (Explains input.now width) }
 {
     let mut front = Sentence::new(alloc);
-    if input.starts_with(FAULT) {
-        front.say(b"the input is what a command wrote that failed: it begins with \"fault \"")?;
-        front.end_line()?;
-    }
+    say_failed(input, &mut front)?;
     match found(alloc, command, input, fault, &mut front) {
         Ok(finding) => lines_of(alloc, &front, &finding, width),
         Err(fault) => Err(fault),
     }
+}
+
+// That the input is what a command wrote that failed, where it is.
+fn say_failed(input: &[u8], front: &mut Sentence) -> Result<(), Memory> {
+    if !input.starts_with(FAULT) {
+        return Ok(());
+    }
+    front.say(b"the input is what a command wrote that failed: it begins with \"fault \"")?;
+    front.end_line()
 }
 
 // The lines of a finding.
@@ -55,16 +61,26 @@ pub fn no_command(alloc: Global, words: &[String]) -> Result<Bytes, Memory>
     ensures { IfOk result IsPlain }
 {
     let mut line = Sentence::new(alloc);
+    say_no_command(words, &mut line)?;
+    Ok(Bytes::from_slice(alloc, line.as_slice())?)
+}
+
+fn say_no_command(words: &[String], line: &mut Sentence) -> Result<(), Memory> {
     line.say(b"mrpc: \"")?;
+    say_words(words, line)?;
+    line.say(b"\" is no command")?;
+    line.end_line()
+}
+
+// Says words with a blank between two.
+fn say_words(words: &[String], line: &mut Sentence) -> Result<(), Memory> {
     for (place, word) in words.iter().enumerate() {
         if place > 0 {
             line.say(b" ")?;
         }
         line.say(word.as_bytes())?;
     }
-    line.say(b"\" is no command")?;
-    line.end_line()?;
-    Ok(Bytes::from_slice(alloc, line.as_slice())?)
+    Ok(())
 }
 
 // What stands against the input. In front of it goes the path of a file of a set.

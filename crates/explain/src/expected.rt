@@ -1,6 +1,7 @@
 //! What could stand in the place of a token that can't.
 
 use crate::sentence::Sentence;
+use crate::word_table::{Row, text_for};
 use mrpc_table::{Bytes, Memory};
 use proto_schema::{ProtoFault, read_proto};
 use std::alloc::Global;
@@ -15,6 +16,9 @@ const TOKENS: [&[u8]; 24] = [
     b"returns", b"message", b"enum", b"service", b"rpc", b"import", b"package", b"option",
     b"syntax", b"to",
 ];
+
+/// The tokens that stand for all of their sort.
+const SORTS: [Row; 3] = [("x", "a name"), ("1", "a number"), ("'x'", "a string")];
 
 /// The place of the first word among them.
 const FIRST_WORD: usize = 14;
@@ -99,10 +103,8 @@ fn joint(place: usize, count: usize) -> &'static [u8] {
 }
 
 fn say_token(token: &[u8], sentence: &mut Sentence) -> Result<(), Memory> {
-    match token {
-        b"x" => sentence.say(b"a name"),
-        b"1" => sentence.say(b"a number"),
-        b"'x'" => sentence.say(b"a string"),
-        _ => sentence.quote(token),
+    match text_for(&SORTS, token) {
+        Some(words) => sentence.say(words.as_bytes()),
+        None => sentence.quote(token),
     }
 }

@@ -44,8 +44,10 @@ fn say_fields(
         let Some(record) = record_around(rest, place) else {
             return Ok(());
         };
-        sentence.say(if depth == 0 { b", field " } else { b"." })?;
-        sentence.say_number(u64::from(record.number))?;
+        sentence.say_numbered(
+            if depth == 0 { b", field " } else { b"." },
+            u64::from(record.number),
+        )?;
         let Some(inner) = inner_message(table, message, record.number) else {
             return Ok(());
         };

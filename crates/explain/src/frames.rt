@@ -9,6 +9,7 @@ use crate::finding::Finding;
 use crate::frame_path::say_path;
 use crate::lines::{Format, explain_line};
 use crate::sentence::Sentence;
+use crate::word_table::{Row, text_for};
 use frame_transport::{HEADER_LEN, frame_at};
 use mrpc_table::{Memory, Table, is_word};
 use std::alloc::Global;
@@ -19,6 +20,49 @@ const HEAD: &[u8] = b"mrpc-decode 1\ntable\n";
 
 /// How many bytes are shown in front of a byte, and behind it, at the most.
 const AROUND: usize = 12;
+
+/// What a reason says. The last ones are those of frames that no replay can send.
+const SENTENCES: [Row; 18] = [
+    ("Version", "the version of a frame is 1, of a hello 1 or 2"),
+    (
+        "Kind",
+        "the kind of a frame is 1 (a request), 2 (a reply) or 3 (a hello)",
+    ),
+    ("TooLong", "a payload has 262144 bytes at the most"),
+    ("NoMethod", "the table has no method of this index"),
+    ("Varint", "a varint has ten bytes at the most"),
+    ("TagRange", "a tag is below 4294967296"),
+    ("NumberZero", "a field number is at least 1"),
+    ("WireType", "a wire type is 0, 1, 2 or 5"),
+    ("Short", "the bytes end inside of what begins here"),
+    ("Utf8", "the payload of a string isn't UTF-8"),
+    (
+        "PackedLength",
+        "the payload of packed numbers isn't whole numbers",
+    ),
+    (
+        "Depth",
+        "32 messages stand in one another at the most, and this is the 33rd",
+    ),
+    ("Conn", "the connections of a replay are 1 to 16"),
+    (
+        "Number",
+        "in a replay the numbers of requests rise on each connection, and a reply has one",
+    ),
+    ("Words", "the heap of a replay has no room for this message"),
+    (
+        "Loads",
+        "a message of a replay takes 16384 loads at the most",
+    ),
+    (
+        "Work",
+        "the calls of a replay times the loads of the largest message are 16777216 at the most",
+    ),
+    (
+        "Size",
+        "the script of these frames is too long for a replay",
+    ),
+];
 
 /// What stands against an input of `decode`.
 pub(crate) fn explain_decode<'a>(
@@ -49,23 +93,29 @@ fn found_frames<'a>(
     ensures { (input : List ℕ) → IfOk result (λ f. PointsInto input f.part) }
 {
     let mut sentence = Sentence::new(alloc);
+    say_frames(table, stream, fault, &mut sentence)?;
+    Ok(Finding::alone(sentence))
+}
+
+// Says where the fault is and what stands against the frames, and shows the bytes there.
+fn say_frames(
+    table: &Table,
+    stream: &[u8],
+    fault: &FaultLine<'_>,
+    sentence: &mut Sentence,
+) -> Result<(), Memory>
+    requires valid { IsValid table.now }
+{
     let at = if fault.place < stream.len() as u64 {
         fault.place as usize
     } else {
         stream.len()
     };
-    say_where(
-        table,
-        stream,
-        at,
-        byte_within(at, fault.reason),
-        &mut sentence,
-    )?;
+    say_where(table, stream, at, byte_within(at, fault.reason), sentence)?;
     sentence.say(b": ")?;
     sentence.say(frame_sentence(fault.reason).as_bytes())?;
     sentence.end_line()?;
-    say_around(stream, at, &mut sentence)?;
-    Ok(Finding::alone(sentence))
+    say_around(stream, at, sentence)
 }
 
 // A byte of the frame at fault. A message that is too deep starts at the place of the fault, and may be empty and the
@@ -92,12 +142,9 @@ fn say_where(
     requires within { byte ≤ length stream.now }
 {
     let (count, from) = frame_around(stream, byte);
-    sentence.say(b"byte ")?;
-    sentence.say_number(at as u64)?;
-    sentence.say(b" of the frames, in frame ")?;
-    sentence.say_number(count)?;
-    sentence.say(b" at byte ")?;
-    sentence.say_number(from as u64)?;
+    sentence.say_numbered(b"byte ", at as u64)?;
+    sentence.say_numbered(b" of the frames, in frame ", count)?;
+    sentence.say_numbered(b" at byte ", from as u64)?;
     match frame_at(0, &stream[from..]) {
         Ok(Some(frame)) => say_path(table, &frame, byte - from, sentence),
         _ => Ok(()),
@@ -139,36 +186,7 @@ fn frame_end(stream: &[u8], from: usize) -> Option<usize> {
 
 // What a reason says.
 fn frame_sentence(reason: &[u8]) -> &'static str {
-    match reason {
-        b"Version" => "the version of a frame is 1, of a hello 1 or 2",
-        b"Kind" => "the kind of a frame is 1 (a request), 2 (a reply) or 3 (a hello)",
-        b"TooLong" => "a payload has 262144 bytes at the most",
-        b"NoMethod" => "the table has no method of this index",
-        b"Varint" => "a varint has ten bytes at the most",
-        b"TagRange" => "a tag is below 4294967296",
-        b"NumberZero" => "a field number is at least 1",
-        b"WireType" => "a wire type is 0, 1, 2 or 5",
-        b"Short" => "the bytes end inside of what begins here",
-        b"Utf8" => "the payload of a string isn't UTF-8",
-        b"PackedLength" => "the payload of packed numbers isn't whole numbers",
-        b"Depth" => "32 messages stand in one another at the most, and this is the 33rd",
-        _ => unplayable_sentence(reason),
-    }
-}
-
-// What a reason says of a frame that no replay can send.
-fn unplayable_sentence(reason: &[u8]) -> &'static str {
-    match reason {
-        b"Conn" => "the connections of a replay are 1 to 16",
-        b"Number" =>
-            "in a replay the numbers of requests rise on each connection, and a reply has one",
-        b"Words" => "the heap of a replay has no room for this message",
-        b"Loads" => "a message of a replay takes 16384 loads at the most",
-        b"Work" =>
-            "the calls of a replay times the loads of the largest message are 16777216 at the most",
-        b"Size" => "the script of these frames is too long for a replay",
-        _ => "the frame is at fault",
-    }
+    text_for(&SENTENCES, reason).unwrap_or("the frame is at fault")
 }
 
 // Shows the bytes around a place in hexadecimal digits, with a mark under its own.

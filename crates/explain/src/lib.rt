@@ -27,5 +27,6 @@ mod script_words_at_fault;
 mod sentence;
 mod set;
 mod text_lines;
+mod word_table;
 
 pub use commands::{explained, no_command};

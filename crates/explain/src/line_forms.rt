@@ -1,82 +1,81 @@
 //! The forms of lines, by their first words.
 
 use crate::lines::Format;
+use crate::word_table::{Row, text_for};
+
+/// The lines of a table, and those around it.
+const TABLE: [Row; 7] = [
+    ("table", "table"),
+    ("enum", "enum FULLNAME"),
+    ("value", "value NUMBER NAME"),
+    ("message", "message FULLNAME"),
+    ("field", "field NUMBER LABEL KIND NAME"),
+    ("method", "method INDEX SERVICE NAME INPUT OUTPUT"),
+    ("end", "end"),
+];
+
+/// The lines of scripts and of audits that declare something.
+const FRONT: [Row; 6] = [
+    ("loads", "loads N"),
+    ("tenant", "tenant NAME PER"),
+    ("policy", "policy NAME access|redact|rate|quota|count .."),
+    (
+        "rule",
+        "rule NAME allow|deny [method INDEX [reply]] [where PATH OP [VALUE]]",
+    ),
+    ("default", "default allow|deny"),
+    ("clear", "clear method INDEX [reply] PATH"),
+];
+
+/// The lines of scripts that do something.
+const SCRIPT: [Row; 12] = [
+    ("conn", "conn CONN WORDS"),
+    ("store", "store CONN PLACE VALUE"),
+    ("race", "race CONN K PLACE VALUE"),
+    ("submit", "submit CONN METHOD ADDR [NUMBER]"),
+    ("attach", "attach CONN AT NAME POLICY"),
+    ("detach", "detach CONN NAME"),
+    ("upgrade", "upgrade CONN NAME POLICY"),
+    ("moment", "moment CONN MS"),
+    ("turn", "turn CONN AT"),
+    ("send", "send CONN"),
+    ("drain", "drain CONN"),
+    ("close", "close"),
+];
+
+/// The lines of an audit.
+const AUDIT: [Row; 12] = [
+    ("audit", "audit"),
+    (
+        "took",
+        "took CONN SEQ METHOD NUMBER ADDR AFTER COUNT copy HEX|malformed REASON PLACE VALUE",
+    ),
+    ("away", "away CONN METHOD NUMBER ADDR"),
+    (
+        "op",
+        "op CONN attach AT NAME POLICY|detach NAME|upgrade NAME POLICY",
+    ),
+    ("moment", "moment CONN MS"),
+    ("charged", "charged CONN SEQ NAME LEVEL"),
+    ("drawn", "drawn CONN SEQ NAME WINDOW TICKET"),
+    ("counted", "counted CONN SEQ NAME"),
+    ("redacted", "redacted CONN SEQ NAME VERSION"),
+    ("sent", "sent CONN SEQ BYTES"),
+    (
+        "refused",
+        "refused CONN SEQ malformed|access ..|rate ..|quota ..|transport",
+    ),
+    ("stands", "stands CONN SEQ POSITION NAME [held LEVEL COST]"),
+];
 
 /// The form of the lines of a format that begin with a word; None where none does.
 pub(crate) fn line_form(word: &[u8], format: Format) -> Option<&'static str> {
-    match table_form(word) {
+    match text_for(&TABLE, word) {
         Some(form) => Some(form),
         None => match format {
             Format::Decode => None,
-            Format::Replay => front_form(word).or(script_form(word)),
-            Format::Audit => front_form(word).or(audit_form(word)),
+            Format::Replay => text_for(&FRONT, word).or(text_for(&SCRIPT, word)),
+            Format::Audit => text_for(&FRONT, word).or(text_for(&AUDIT, word)),
         },
-    }
-}
-
-// The lines of a table, and those around it.
-fn table_form(word: &[u8]) -> Option<&'static str> {
-    match word {
-        b"table" => Some("table"),
-        b"enum" => Some("enum FULLNAME"),
-        b"value" => Some("value NUMBER NAME"),
-        b"message" => Some("message FULLNAME"),
-        b"field" => Some("field NUMBER LABEL KIND NAME"),
-        b"method" => Some("method INDEX SERVICE NAME INPUT OUTPUT"),
-        b"end" => Some("end"),
-        _ => None,
-    }
-}
-
-// The lines of scripts and of audits that declare something.
-fn front_form(word: &[u8]) -> Option<&'static str> {
-    match word {
-        b"loads" => Some("loads N"),
-        b"tenant" => Some("tenant NAME PER"),
-        b"policy" => Some("policy NAME access|redact|rate|quota|count .."),
-        b"rule" => Some("rule NAME allow|deny [method INDEX [reply]] [where PATH OP [VALUE]]"),
-        b"default" => Some("default allow|deny"),
-        b"clear" => Some("clear method INDEX [reply] PATH"),
-        _ => None,
-    }
-}
-
-// The lines of scripts that do something.
-fn script_form(word: &[u8]) -> Option<&'static str> {
-    match word {
-        b"conn" => Some("conn CONN WORDS"),
-        b"store" => Some("store CONN PLACE VALUE"),
-        b"race" => Some("race CONN K PLACE VALUE"),
-        b"submit" => Some("submit CONN METHOD ADDR [NUMBER]"),
-        b"attach" => Some("attach CONN AT NAME POLICY"),
-        b"detach" => Some("detach CONN NAME"),
-        b"upgrade" => Some("upgrade CONN NAME POLICY"),
-        b"moment" => Some("moment CONN MS"),
-        b"turn" => Some("turn CONN AT"),
-        b"send" => Some("send CONN"),
-        b"drain" => Some("drain CONN"),
-        b"close" => Some("close"),
-        _ => None,
-    }
-}
-
-// The lines of an audit.
-fn audit_form(word: &[u8]) -> Option<&'static str> {
-    match word {
-        b"audit" => Some("audit"),
-        b"took" => Some(
-            "took CONN SEQ METHOD NUMBER ADDR AFTER COUNT copy HEX|malformed REASON PLACE VALUE",
-        ),
-        b"away" => Some("away CONN METHOD NUMBER ADDR"),
-        b"op" => Some("op CONN attach AT NAME POLICY|detach NAME|upgrade NAME POLICY"),
-        b"moment" => Some("moment CONN MS"),
-        b"charged" => Some("charged CONN SEQ NAME LEVEL"),
-        b"drawn" => Some("drawn CONN SEQ NAME WINDOW TICKET"),
-        b"counted" => Some("counted CONN SEQ NAME"),
-        b"redacted" => Some("redacted CONN SEQ NAME VERSION"),
-        b"sent" => Some("sent CONN SEQ BYTES"),
-        b"refused" => Some("refused CONN SEQ malformed|access ..|rate ..|quota ..|transport"),
-        b"stands" => Some("stands CONN SEQ POSITION NAME [held LEVEL COST]"),
-        _ => None,
     }
 }

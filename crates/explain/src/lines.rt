@@ -10,8 +10,16 @@ use crate::line_reasons::reason_sentence;
 use crate::script_words_at_fault::{WordAtFault, word_at_fault};
 use crate::sentence::Sentence;
 use crate::text_lines::TextLine;
+use crate::word_table::{Row, text_for};
 use mrpc_table::{Memory, cut, is_word};
 use std::alloc::Global;
+
+/// What is missing at the end of a text, by the reason.
+const MISSING: [Row; 3] = [
+    ("Default", "the default of a policy"),
+    ("Syntax", "the value 0 of an enum"),
+    ("Number", "the value 0 of an enum"),
+];
 
 /// What a text of lines is.
 #[derive(Clone, Copy)]
@@ -54,20 +62,43 @@ pub(crate) fn explain_line<'a>(
     let mut sentence = Sentence::new(alloc);
     let line = TextLine::of(text, fault.place);
     let found = word_at_fault(&line, fault.reason, format);
-    if line.bytes.is_empty() {
-        say_missing(&line, fault.reason, format, &mut sentence)?;
-    } else if is_word(fault.reason, b"Header") {
-        sentence.say(b"expected the first line to be ")?;
-        sentence.quote(format.first_line().as_bytes())?;
-    } else {
-        say_reason(&line, fault.reason, format, found, &mut sentence)?;
-    }
-    say_end(&line, &mut sentence)?;
+    say_line(&line, fault.reason, format, found, &mut sentence)?;
     let part = match found {
         Some(word) => line.word(word.place),
         None => line.whole(),
     };
     Ok(Finding::in_line(sentence, part))
+}
+
+// What stands against a line, and how it ends.
+fn say_line(
+    line: &TextLine<'_>,
+    reason: &[u8],
+    format: Format,
+    found: Option<WordAtFault>,
+    sentence: &mut Sentence,
+) -> Result<(), Memory> {
+    say_fault(line, reason, format, found, sentence)?;
+    say_end(line, sentence)
+}
+
+fn say_fault(
+    line: &TextLine<'_>,
+    reason: &[u8],
+    format: Format,
+    found: Option<WordAtFault>,
+    sentence: &mut Sentence,
+) -> Result<(), Memory> {
+    if line.bytes.is_empty() {
+        return say_missing(line, reason, format, sentence);
+    }
+    if is_word(reason, b"Header") {
+        return sentence.say_quoted(
+            b"expected the first line to be ",
+            format.first_line().as_bytes(),
+        );
+    }
+    say_reason(line, reason, format, found, sentence)
 }
 
 // What is missing at the end of the text, or that a line is empty.
@@ -85,14 +116,16 @@ fn say_missing(
 }
 
 fn missing_line(text: &[u8], reason: &[u8], format: Format) -> &'static str {
-    match reason {
-        b"Word" if !has_table(text) => "table",
-        b"Header" => format.first_line(),
-        b"Close" => format.last_line(),
-        b"Default" => "the default of a policy",
-        b"Syntax" | b"Number" => "the value 0 of an enum",
-        _ => "the end of the table or of a policy",
+    if is_word(reason, b"Word") && !has_table(text) {
+        return "table";
     }
+    if is_word(reason, b"Header") {
+        return format.first_line();
+    }
+    if is_word(reason, b"Close") {
+        return format.last_line();
+    }
+    text_for(&MISSING, reason).unwrap_or("the end of the table or of a policy")
 }
 
 // Whether the table begins in the line where it may.
@@ -111,13 +144,10 @@ fn say_reason(
     match found {
         Some(word) => word.say(line, sentence)?,
         None if is_of_form(reason) => return say_form(line, reason, format, sentence),
-        None => sentence.say(reason_sentence(reason).as_bytes())?,
+        None => sentence.say(reason_sentence(reason, first_word(line.bytes)).as_bytes())?,
     }
     match line_form(first_word(line.bytes), format) {
-        Some(form) => {
-            sentence.say(b", in ")?;
-            sentence.quote(form.as_bytes())
-        }
+        Some(form) => sentence.say_quoted(b", in ", form.as_bytes()),
         None => Ok(()),
     }
 }
@@ -137,13 +167,11 @@ fn say_form(
     let word = first_word(line.bytes);
     match line_form(word, format) {
         Some(form) => {
-            sentence.say(b"expected ")?;
-            sentence.quote(form.as_bytes())?;
+            sentence.say_quoted(b"expected ", form.as_bytes())?;
             sentence.say(form_rule(reason).as_bytes())
         }
         None => {
-            sentence.say(b"no line begins with ")?;
-            sentence.quote(word)?;
+            sentence.say_quoted(b"no line begins with ", word)?;
             sentence.say(b" here")
         }
     }

@@ -41,8 +41,7 @@ pub(crate) fn say_earlier_name(
 }
 
 fn say_line(span: Span, sentence: &mut Sentence) -> Result<(), Memory> {
-    sentence.say(b" in line ")?;
-    sentence.say_number(span.line)?;
+    sentence.say_numbered(b" in line ", span.line)?;
     sentence.say(b" already")
 }
 

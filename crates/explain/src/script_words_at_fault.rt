@@ -31,8 +31,7 @@ impl WordAtFault {
             Why::NotOf(sort) => {
                 sentence.say(b"expected ")?;
                 say_sort(sort, sentence)?;
-                sentence.say(b", found ")?;
-                sentence.quote(word)
+                sentence.say_quoted(b", found ", word)
             }
             Why::Reason(words) => {
                 sentence.quote(word)?;
@@ -68,7 +67,7 @@ pub(crate) fn word_at_fault(
     let place = place_of(form, line, reason)?;
     Some(WordAtFault {
         place,
-        why: Why::Reason(reason_sentence(reason)),
+        why: Why::Reason(reason_sentence(reason, nth(line.bytes, 0))),
     })
 }
 
@@ -101,14 +100,27 @@ fn is_refused(sort: Sort, word: &[u8], reason: &[u8]) -> bool {
 
 // The word that a reason stands against, in a line whose words are of their sorts.
 fn place_of(form: Form, line: &TextLine<'_>, reason: &[u8]) -> Option<usize> {
-    match reason {
-        b"Known" => Some(1),
-        b"Unknown" => Some(unknown_place(form, line)),
-        b"Place" => Some(place_place(form, line)),
-        b"At" => Some(2),
-        b"NoSuch" | b"Taken" => Some(name_place(form)),
-        b"OtherKind" => Some(3),
-        _ => None,
+    if is_word(reason, b"Unknown") {
+        Some(unknown_place(form, line))
+    } else if is_word(reason, b"Place") {
+        Some(place_place(form, line))
+    } else if is_word(reason, b"NoSuch") || is_word(reason, b"Taken") {
+        Some(name_place(form))
+    } else {
+        fixed_place(reason)
+    }
+}
+
+// The word that a reason stands against in any line.
+fn fixed_place(reason: &[u8]) -> Option<usize> {
+    if is_word(reason, b"Known") {
+        Some(1)
+    } else if is_word(reason, b"At") {
+        Some(2)
+    } else if is_word(reason, b"OtherKind") {
+        Some(3)
+    } else {
+        None
     }
 }
 
@@ -175,14 +187,11 @@ fn say_sort(sort: Sort, sentence: &mut Sentence) -> Result<(), Memory> {
         Sort::Key(word) | Sort::Fixed(word) => sentence.quote(word.spelling()),
         Sort::Either(one, other) => {
             sentence.quote(one.spelling())?;
-            sentence.say(b" or ")?;
-            sentence.quote(other.spelling())
+            sentence.say_quoted(b" or ", other.spelling())
         }
         Sort::Number { least, most } => {
-            sentence.say(b"a number from ")?;
-            sentence.say_number(least)?;
-            sentence.say(b" to ")?;
-            sentence.say_number(most)
+            sentence.say_numbered(b"a number from ", least)?;
+            sentence.say_numbered(b" to ", most)
         }
         Sort::Unbounded => sentence.say(b"a number of decimal digits"),
         Sort::Value => sentence.say(

@@ -113,6 +113,18 @@ impl Sentence {
         self.say(digits.format(number).as_bytes())
     }
 
+    /// Appends words and a number.
+    pub(crate) fn say_numbered(&mut self, before: &[u8], number: u64) -> Result<(), Memory> {
+        self.say(before)?;
+        self.say_number(number)
+    }
+
+    /// Appends words, and a word of the input in quotation marks.
+    pub(crate) fn say_quoted(&mut self, before: &[u8], word: &[u8]) -> Result<(), Memory> {
+        self.say(before)?;
+        self.quote(word)
+    }
+
     /// Appends a word of the input in quotation marks, cut where it is long.
     pub(crate) fn quote(&mut self, word: &[u8]) -> Result<(), Memory> {
         self.say(b"\"")?;

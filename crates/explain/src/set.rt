@@ -13,11 +13,62 @@ use crate::limits::LIMITS;
 use crate::part::Part;
 use crate::sentence::Sentence;
 use crate::text_lines::TextLine;
+use crate::word_table::{Row, text_for};
 use file_bundle::{BundleFault, Packed, read_bundle};
-use mrpc_table::{Memory, is_word};
+use mrpc_table::Memory;
 use proto_file::{File, Import};
 use proto_schema::{ProtoFault, read_proto};
 use std::alloc::Global;
+
+/// What a reason says in front of the path of an import.
+const IMPORTS: [Row; 3] = [
+    ("Missing", "no file of the set has the path "),
+    ("Twice", "an import before this one has the path "),
+    ("Cycle", "imports lead back to this file from "),
+];
+
+/// What a reason says of something in a line.
+const LINES: [Row; 12] = [
+    (
+        "Missing",
+        "no file of the set has the path of an import of this line",
+    ),
+    ("Twice", "an import before has the path of one of this line"),
+    (
+        "Cycle",
+        "imports lead back to this file from one of this line",
+    ),
+    (
+        "UnknownName",
+        "no message or enum that this file sees is named so, or no message as the type of an rpc",
+    ),
+    (
+        "NumberRange",
+        "a number is out of range: fields have 1 to 536870911 without 19000 to 19999, values of enums 32 bits",
+    ),
+    (
+        "DuplicateNumber",
+        "an earlier field of the message has this number",
+    ),
+    (
+        "DuplicateName",
+        "something earlier in the same scope has this name",
+    ),
+    (
+        "Reserved",
+        "a number or a name is reserved by a \"reserved\" statement around it",
+    ),
+    ("FirstEnum", "the first value of an enum is 0 in proto3"),
+    (
+        "MapKey",
+        "expected an integer type, \"bool\" or \"string\" as the key of a map",
+    ),
+    (
+        "MapPlace",
+        "a map can't stand under a label, in a oneof or as the value of a map",
+    ),
+    ("Limit", LIMITS),
+];
 
 /// What stands against a set of files, whose file is named by its path.
 pub(crate) fn explain_set<'a>(
@@ -56,8 +107,7 @@ fn missing_file<'a>(alloc: Global, file: u32) -> Result<Finding<'a>, Memory>
     ensures { (input : List ℕ) → IfOk result (λ f. PointsInto input f.part) }
 {
     let mut sentence = Sentence::new(alloc);
-    sentence.say(b"file ")?;
-    sentence.say_number(u64::from(file))?;
+    sentence.say_numbered(b"file ", u64::from(file))?;
     sentence.say(
         b" of the set: expected a line \"file PATH BYTES\" with as many bytes behind it, for 1 to 64 files",
     )?;
@@ -108,7 +158,7 @@ fn explain_read<'a>(
 ) -> Result<Finding<'a>, Memory>
     ensures { (input : List ℕ) → IsTextOf input text.now → IfOk result (λ f. PointsInto input f.part) }
 {
-    let words = import_words(fault.reason);
+    let words = text_for(&IMPORTS, fault.reason);
     match (words, import_at(file.imports.as_slice(), fault.place)) {
         (Some(words), Some(import)) => found_import(alloc, text, import, words),
         _ => found_line(alloc, text, fault),
@@ -125,8 +175,7 @@ fn found_import<'a>(
     ensures { (input : List ℕ) → IsTextOf input text.now → IfOk result (λ f. PointsInto input f.part) }
 {
     let mut sentence = Sentence::new(alloc);
-    sentence.say(words.as_bytes())?;
-    sentence.quote(import.path.as_slice())?;
+    sentence.say_quoted(words.as_bytes(), import.path.as_slice())?;
     Ok(Finding::in_line(sentence, Part::of(text, import.span.start, import.span.end)))
 }
 
@@ -157,37 +206,7 @@ fn import_at(imports: &[Import], line: u64) -> Option<&Import> {
     found
 }
 
-// What is said in front of the path of an import; None where the reason is none of imports.
-fn import_words(reason: &[u8]) -> Option<&'static str> {
-    if is_word(reason, b"Missing") {
-        Some("no file of the set has the path ")
-    } else if is_word(reason, b"Twice") {
-        Some("an import before this one has the path ")
-    } else if is_word(reason, b"Cycle") {
-        Some("imports lead back to this file from ")
-    } else {
-        None
-    }
-}
-
 // What stands against something in a line, by the word of the reason.
 fn line_sentence(reason: &[u8]) -> &'static str {
-    match reason {
-        b"Missing" => "no file of the set has the path of an import of this line",
-        b"Twice" => "an import before has the path of one of this line",
-        b"Cycle" => "imports lead back to this file from one of this line",
-        b"UnknownName" =>
-            "no message or enum that this file sees is named so, or no message as the type of an rpc",
-        b"NumberRange" => {
-            "a number is out of range: fields have 1 to 536870911 without 19000 to 19999, values of enums 32 bits"
-        }
-        b"DuplicateNumber" => "an earlier field of the message has this number",
-        b"DuplicateName" => "something earlier in the same scope has this name",
-        b"Reserved" => "a number or a name is reserved by a \"reserved\" statement around it",
-        b"FirstEnum" => "the first value of an enum is 0 in proto3",
-        b"MapKey" => "expected an integer type, \"bool\" or \"string\" as the key of a map",
-        b"MapPlace" => "a map can't stand under a label, in a oneof or as the value of a map",
-        b"Limit" => LIMITS,
-        _ => "the file is at fault here",
-    }
+    text_for(&LINES, reason).unwrap_or("the file is at fault here")
 }

@@ -42,8 +42,7 @@ pub(crate) fn double_text(alloc: Global, bits: u64) -> Result<Bytes, Memory>
     double_digits(alloc, bits)
 }
 
-// Six digits, or nine where six don't read back or the float is a subnormal one. Whatever is shown was read back; where
-// neither form reads back, that of `ryu` stands, which always does.
+// Six digits, or nine where six don't read back or the float is a subnormal one. Whatever is shown was read back.
 fn float_digits(alloc: Global, bits: u32) -> Result<Bytes, Memory>
     requires { NotNanBits binary32 bits }
     ensures { IfOk result (λ text. parse_float binary32 text ≡ Some (from_bits binary32 bits)) }
@@ -53,6 +52,15 @@ fn float_digits(alloc: Global, bits: u32) -> Result<Bytes, Memory>
     if reads_as_float(six.as_slice(), bits) && !float.is_subnormal() {
         return Ok(six);
     }
+    long_float_digits(alloc, bits)
+}
+
+// Nine digits, or those of `ryu` where nine don't read back, which always do.
+fn long_float_digits(alloc: Global, bits: u32) -> Result<Bytes, Memory>
+    requires { NotNanBits binary32 bits }
+    ensures { IfOk result (λ text. parse_float binary32 text ≡ Some (from_bits binary32 bits)) }
+{
+    let float = f32::from_bits(bits);
     let nine = nine_digits(alloc, float)?;
     if reads_as_float(nine.as_slice(), bits) {
         return Ok(nine);
@@ -65,11 +73,19 @@ fn double_digits(alloc: Global, bits: u64) -> Result<Bytes, Memory>
     requires { NotNanBits binary64 bits }
     ensures { IfOk result (λ text. parse_float binary64 text ≡ Some (from_bits binary64 bits)) }
 {
-    let double = f64::from_bits(bits);
-    let fifteen = fifteen_digits(alloc, double)?;
+    let fifteen = fifteen_digits(alloc, f64::from_bits(bits))?;
     if reads_as_double(fifteen.as_slice(), bits) {
         return Ok(fifteen);
     }
+    long_double_digits(alloc, bits)
+}
+
+// Seventeen digits, or those of `ryu`.
+fn long_double_digits(alloc: Global, bits: u64) -> Result<Bytes, Memory>
+    requires { NotNanBits binary64 bits }
+    ensures { IfOk result (λ text. parse_float binary64 text ≡ Some (from_bits binary64 bits)) }
+{
+    let double = f64::from_bits(bits);
     let seventeen = seventeen_digits(alloc, double)?;
     if reads_as_double(seventeen.as_slice(), bits) {
         return Ok(seventeen);

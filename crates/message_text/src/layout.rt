@@ -12,23 +12,64 @@ const PLACES: u64 = 4;
 /// The layout of a number that is given as `-d.ddde-x`, in so many digits at the most. Zeros at its end fall away, and an
 /// exponent stands where the point would be far off. Another text stays as it is.
 pub(crate) fn general(alloc: Global, text: &[u8], digits: u64) -> Result<Bytes, Memory> {
-    let Some((mantissa, power)) = cut(text, b'e') else {
-        return Bytes::from_slice(alloc, text);
-    };
     let mut out = Bytes::new(alloc);
-    let unsigned = match mantissa.strip_prefix(MINUS) {
+    put_general(alloc, &mut out, text, digits)?;
+    Ok(out)
+}
+
+fn put_general(alloc: Global, out: &mut Bytes, text: &[u8], digits: u64) -> Result<(), Memory> {
+    match cut(text, b'e') {
+        Some((mantissa, power)) => {
+            let unsigned = put_sign(out, mantissa)?;
+            let shown = without_point(alloc, unsigned)?;
+            put_shown(out, without_zeros(shown.as_slice()), power, digits)
+        }
+        None => out.append(text),
+    }
+}
+
+// Appends the sign of a number, where it has one, and gives what stands behind it.
+fn put_sign<'a>(out: &mut Bytes, number: &'a [u8]) -> Result<&'a [u8], Memory> {
+    match number.strip_prefix(MINUS) {
         Some(unsigned) => {
             out.append(MINUS)?;
-            unsigned
+            Ok(unsigned)
         }
-        None => mantissa,
-    };
-    let shown = significant(alloc, unsigned)?;
-    match power.strip_prefix(MINUS) {
-        Some(power) => put_small(&mut out, shown.as_slice(), small(power))?,
-        None => put_large(&mut out, shown.as_slice(), small(power), digits)?,
+        None => Ok(number),
     }
-    Ok(out)
+}
+
+// The digits of a number without its point.
+fn without_point(alloc: Global, text: &[u8]) -> Result<Bytes, Memory> {
+    let mut digits = Bytes::new(alloc);
+    put_digits(&mut digits, text)?;
+    Ok(digits)
+}
+
+fn put_digits(out: &mut Bytes, text: &[u8]) -> Result<(), Memory> {
+    for byte in text {
+        if *byte != b'.' {
+            out.push(*byte)?;
+        }
+    }
+    Ok(())
+}
+
+// Digits without the zeros at their end; the first one stays.
+fn without_zeros(digits: &[u8]) -> &[u8] {
+    let mut end = digits.len();
+    while end > 1 && digits[end - 1] == b'0' {
+        end -= 1;
+    }
+    &digits[..end]
+}
+
+// Appends a number by its digits and its power of ten.
+fn put_shown(out: &mut Bytes, digits: &[u8], power: &[u8], most: u64) -> Result<(), Memory> {
+    match power.strip_prefix(MINUS) {
+        Some(power) => put_small(out, digits, small(power)),
+        None => put_large(out, digits, small(power), most),
+    }
 }
 
 // The number that a word spells; 0 where it spells none.
@@ -39,35 +80,13 @@ fn small(word: &[u8]) -> u64 {
     }
 }
 
-// The digits of a number without its point and the zeros at its end; the first digit stays.
-fn significant(alloc: Global, text: &[u8]) -> Result<Bytes, Memory> {
-    let mut digits = Bytes::new(alloc);
-    for byte in text {
-        if *byte != b'.' {
-            digits.push(*byte)?;
-        }
-    }
-    let kept = without_zeros(digits.as_slice());
-    Bytes::from_slice(alloc, kept)
-}
-
-fn without_zeros(digits: &[u8]) -> &[u8] {
-    let mut end = digits.len();
-    while end > 1 && digits[end - 1] == b'0' {
-        end -= 1;
-    }
-    &digits[..end]
-}
-
 // Appends a number below 1, whose first digit stands `power` places behind the point.
 fn put_small(out: &mut Bytes, digits: &[u8], power: u64) -> Result<(), Memory> {
     if power > PLACES {
         return put_scientific(out, digits, b"e-", power);
     }
     out.append(b"0.")?;
-    for zero in 1..power {
-        out.append(b"0")?;
-    }
+    put_zeros(out, 1, power)?;
     out.append(digits)
 }
 
@@ -77,31 +96,49 @@ fn put_large(out: &mut Bytes, digits: &[u8], power: u64, most: u64) -> Result<()
     if power >= most {
         return put_scientific(out, digits, b"e+", power);
     }
-    let whole = power as usize;
-    if digits.len() > whole && digits.len() - 1 > whole {
-        out.append(&digits[..whole + 1])?;
-        out.append(b".")?;
-        return out.append(&digits[whole + 1..]);
+    let whole = power.saturating_add(1);
+    if whole < digits.len() as u64 {
+        return put_parts(out, digits.split_at(whole as usize));
     }
     out.append(digits)?;
-    for zero in digits.len()..whole.saturating_add(1) {
+    put_zeros(out, digits.len() as u64, whole)
+}
+
+// Appends the digits in front of a point and those behind it.
+fn put_parts(out: &mut Bytes, parts: (&[u8], &[u8])) -> Result<(), Memory> {
+    out.append(parts.0)?;
+    out.append(b".")?;
+    out.append(parts.1)
+}
+
+// Appends a zero for each number from one up to another.
+fn put_zeros(out: &mut Bytes, from: u64, to: u64) -> Result<(), Memory> {
+    for _ in from..to {
         out.append(b"0")?;
     }
     Ok(())
 }
 
-// Appends a number with its exponent, which has two digits at the least.
+// Appends a number with its exponent.
 fn put_scientific(out: &mut Bytes, digits: &[u8], letter: &[u8], power: u64) -> Result<(), Memory> {
-    if let Some((first, others)) = digits.split_first() {
-        out.push(*first)?;
-        if !others.is_empty() {
-            out.append(b".")?;
-            out.append(others)?;
-        }
-    }
+    put_mantissa(out, digits)?;
     out.append(letter)?;
-    if power < 10 {
-        out.append(b"0")?;
+    put_exponent(out, power)
+}
+
+// Appends digits with a point behind the first one, where others follow.
+fn put_mantissa(out: &mut Bytes, digits: &[u8]) -> Result<(), Memory> {
+    if digits.len() < 2 {
+        return out.append(digits);
     }
+    put_parts(out, digits.split_at(1))
+}
+
+// Appends an exponent, which has two digits at the least.
+fn put_exponent(out: &mut Bytes, power: u64) -> Result<(), Memory> {
+    if power >= 10 {
+        return out.append_decimal(power);
+    }
+    out.append(b"0")?;
     out.append_decimal(power)
 }

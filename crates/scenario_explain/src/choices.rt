@@ -1,9 +1,11 @@
 //! Words of which a few may stand at a key.
 
-use crate::site::{Said, Spot};
+use crate::shapes::say_type;
+use crate::site::{Said, Spot, said_of};
 use crate::words::say_around;
-use mrpc_table::Bytes;
-use toml::Table;
+use mrpc_table::{Bytes, Memory};
+use scenario_values::Shape;
+use toml::{Table, Value};
 
 /// Says what is wrong with the word at a key, where one of a few has to stand.
 pub(crate) fn say_choice(
@@ -12,22 +14,24 @@ pub(crate) fn say_choice(
     key: &'static str,
     choices: &str,
 ) -> Said<'static> {
-    let Some(value) = entry.get(key) else {
-        say_around(out, ": the key ", key.as_bytes(), " is missing")?;
-        return Ok(Some(Spot::nowhere()));
-    };
+    match entry.get(key) {
+        Some(value) => said_of(Spot::at(key), say_no_choice(out, key, choices, value)),
+        None => said_of(
+            Spot::nowhere(),
+            say_around(out, ": the key ", key.as_bytes(), " is missing"),
+        ),
+    }
+}
+
+// Says that a value is none of the words that may stand at the key.
+fn say_no_choice(out: &mut Bytes, key: &str, choices: &str, value: &Value) -> Result<(), Memory> {
     match value.as_str() {
         Some(word) => {
             out.append(b": ")?;
             out.append(key.as_bytes())?;
             say_around(out, " is ", word.as_bytes(), "; it may be ")?;
-            out.append(choices.as_bytes())?;
+            out.append(choices.as_bytes())
         }
-        None => {
-            say_around(out, ": ", key.as_bytes(), " has a value of type ")?;
-            out.append(value.type_str().as_bytes())?;
-            out.append(b", and takes a string")?;
-        }
+        None => say_type(out, key, Shape::Text, value),
     }
-    Ok(Some(Spot::at(key)))
 }

@@ -1,7 +1,8 @@
 //! Keys that are none of an entry's, that are missing, or that have a value of another type.
 
 use crate::choices::say_choice;
-use crate::site::{Said, Site, Spot};
+use crate::shapes::{fits, say_type};
+use crate::site::{Said, Site, Spot, said_of};
 use crate::words::say_around;
 use mrpc_table::{Bytes, Memory};
 use scenario::keys::{kind_of, role_of};
@@ -143,7 +144,7 @@ impl Keys {
     // Appends their names.
     fn say(&self, out: &mut Bytes) -> Result<(), Memory> {
         say_names(out, self.required)?;
-        for names in [
+        for names in &[
             self.texts,
             self.integers,
             self.flags,
@@ -169,34 +170,48 @@ impl Keys {
     // Says what is wrong with the first key that is none of these, or whose value is of another type.
     fn say_against<'a>(&self, out: &mut Bytes, entry: &'a Table) -> Said<'a> {
         for (name, value) in entry.iter() {
-            match self.shape_of(name.as_str()) {
-                None => {
-                    say_around(
-                        out,
-                        ": ",
-                        name.as_bytes(),
-                        " is none of its keys, which are ",
-                    )?;
-                    self.say(out)?;
-                    return Ok(Some(Spot::at(name.as_str())));
-                }
-                Some(shape) => {
-                    if !fits(shape, value) {
-                        say_type(out, name.as_str(), shape, value)?;
-                        return Ok(Some(Spot::at(name.as_str())));
-                    }
-                }
+            if !self.takes(name.as_str(), value) {
+                return said_of(
+                    Spot::at(name.as_str()),
+                    self.say_other(out, name.as_str(), value),
+                );
             }
         }
         self.say_missing(out, entry)
+    }
+
+    // Whether a value may stand at a key.
+    fn takes(&self, name: &str, value: &Value) -> bool {
+        match self.shape_of(name) {
+            Some(shape) => fits(shape, value),
+            None => false,
+        }
+    }
+
+    // Says that a key is none of these, or that its value is of another type.
+    fn say_other(&self, out: &mut Bytes, name: &str, value: &Value) -> Result<(), Memory> {
+        match self.shape_of(name) {
+            Some(shape) => say_type(out, name, shape, value),
+            None => {
+                say_around(
+                    out,
+                    ": ",
+                    name.as_bytes(),
+                    " is none of its keys, which are ",
+                )?;
+                self.say(out)
+            }
+        }
     }
 
     // Says which key is missing.
     fn say_missing(&self, out: &mut Bytes, entry: &Table) -> Said<'static> {
         for name in self.required {
             if entry.get(*name).is_none() {
-                say_around(out, ": the key ", name.as_bytes(), " is missing")?;
-                return Ok(Some(Spot::nowhere()));
+                return said_of(
+                    Spot::nowhere(),
+                    say_around(out, ": the key ", name.as_bytes(), " is missing"),
+                );
             }
         }
         Ok(None)
@@ -215,41 +230,6 @@ fn say_names(out: &mut Bytes, names: &[&'static str]) -> Result<(), Memory> {
         out.append(name.as_bytes())?;
     }
     Ok(())
-}
-
-// Whether a value is of a shape.
-fn fits(shape: Shape, value: &Value) -> bool {
-    match shape {
-        Shape::Text => value.is_str(),
-        Shape::Integer => value.is_integer(),
-        Shape::Flag => value.is_bool(),
-        Shape::Texts => match value.as_array() {
-            Some(items) => items.iter().all(|item| item.is_str()),
-            None => false,
-        },
-        Shape::Tables => match value.as_array() {
-            Some(items) => items.iter().all(|item| item.is_table()),
-            None => false,
-        },
-    }
-}
-
-// Says that the value at a key is of another type.
-fn say_type(out: &mut Bytes, name: &str, shape: Shape, value: &Value) -> Result<(), Memory> {
-    say_around(out, ": ", name.as_bytes(), " has a value of type ")?;
-    out.append(value.type_str().as_bytes())?;
-    out.append(b", and takes ")?;
-    out.append(shape_words(shape).as_bytes())
-}
-
-fn shape_words(shape: Shape) -> &'static str {
-    match shape {
-        Shape::Text => "a string",
-        Shape::Integer => "an integer",
-        Shape::Flag => "true or false",
-        Shape::Texts => "an array of strings",
-        Shape::Tables => "an array of tables",
-    }
 }
 
 const KINDS: &str = "\"access\", \"rate\", \"quota\", \"count\" or \"redact\"";

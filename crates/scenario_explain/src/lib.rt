@@ -20,6 +20,7 @@ mod program;
 mod rules;
 mod schema;
 mod sentence;
+mod shapes;
 mod site;
 mod steps;
 mod told;

@@ -1,6 +1,6 @@
 //! Connections that don't stand in pairs.
 
-use crate::site::{Said, Site, Spot};
+use crate::site::{Said, Site, Spot, said_of};
 use crate::words::say_numbered;
 use mrpc_table::Bytes;
 use scenario::Entry;
@@ -13,8 +13,10 @@ pub(crate) fn say_pair(alloc: Global, out: &mut Bytes, site: &Site<'_>) -> Said<
     match site.at {
         Entry::App(_) => {
             let number = conn().number(site.entry);
-            say_numbered(out, ": connection ", number, " is at an end of no link")?;
-            Ok(Some(Spot::at("conn")))
+            said_of(
+                Spot::at("conn"),
+                say_numbered(out, ": connection ", number, " is at an end of no link"),
+            )
         }
         Entry::Link(_) => {
             let before = site.before(alloc)?;
@@ -28,19 +30,21 @@ fn say_link(out: &mut Bytes, before: &[&Table], entry: &Table) -> Said<'static> 
     let a = end_a().number(entry);
     let b = end_b().number(entry);
     if a == b {
-        say_numbered(out, ": both of its ends are connection ", a, "")?;
-        return Ok(Some(Spot::at("b")));
+        return said_of(
+            Spot::at("b"),
+            say_numbered(out, ": both of its ends are connection ", a, ""),
+        );
     }
     if is_linked(before, a) {
-        say_numbered(out, ": connection ", a, LINKED)?;
-        return Ok(Some(Spot::at("a")));
+        return said_of(Spot::at("a"), say_numbered(out, ": connection ", a, LINKED));
     }
     if is_linked(before, b) {
-        say_numbered(out, ": connection ", b, LINKED)?;
-        return Ok(Some(Spot::at("b")));
+        return said_of(Spot::at("b"), say_numbered(out, ": connection ", b, LINKED));
     }
-    out.append(b": no client is at one of its ends")?;
-    Ok(Some(Spot::nowhere()))
+    said_of(
+        Spot::nowhere(),
+        out.append(b": no client is at one of its ends"),
+    )
 }
 
 const LINKED: &str = " is at an end of a link before it already";

@@ -2,7 +2,7 @@
 
 use crate::declared::{declared_in, say_undeclared};
 use crate::entry::list_of;
-use crate::site::{Said, Site, Spot, key_of_name, names_in};
+use crate::site::{Said, Site, Spot, key_of_name, names_in, said_of};
 use crate::words::{say_around, say_numbered};
 use mrpc_table::{Bytes, Memory, is_full_name, is_name};
 use scenario::Entry;
@@ -35,8 +35,10 @@ fn say_service(out: &mut Bytes, all: &Table) -> Said<'static> {
     if is_full_name(word) {
         return Ok(None);
     }
-    say_around(out, ": service is ", word, FULL_FORM)?;
-    Ok(Some(Spot::at("service")))
+    said_of(
+        Spot::at("service"),
+        say_around(out, ": service is ", word, FULL_FORM),
+    )
 }
 
 // Says that the word at a key is no name, where it is none.
@@ -47,10 +49,13 @@ fn say_no_name(out: &mut Bytes, entry: &Table, key: &'static str) -> Said<'stati
     if is_name(word.as_bytes()) {
         return Ok(None);
     }
+    said_of(Spot::at(key), say_formless(out, key, word.as_bytes()))
+}
+
+fn say_formless(out: &mut Bytes, key: &str, word: &[u8]) -> Result<(), Memory> {
     out.append(b": ")?;
     out.append(key.as_bytes())?;
-    say_around(out, " is ", word.as_bytes(), FORM)?;
-    Ok(Some(Spot::at(key)))
+    say_around(out, " is ", word, FORM)
 }
 
 // Says which word that an application has for a policy is no name.
@@ -58,8 +63,10 @@ fn say_no_policy_name(alloc: Global, out: &mut Bytes, entry: &Table) -> Said<'st
     let names = names_in(alloc, entry)?;
     for name in &names {
         if !is_name(name) {
-            say_around(out, ": it names a policy ", name, FORM)?;
-            return Ok(Some(Spot::at(key_of_name(entry, name))));
+            return said_of(
+                Spot::at(key_of_name(entry, name)),
+                say_around(out, ": it names a policy ", name, FORM),
+            );
         }
     }
     Ok(None)
@@ -77,62 +84,61 @@ pub(crate) fn say_known(alloc: Global, out: &mut Bytes, site: &Site<'_>) -> Said
 
 fn say_known_name(out: &mut Bytes, before: &[&Table], site: &Site<'_>) -> Said<'static> {
     let name = word_at(site.entry, "name");
-    let mut number = 0u64;
-    for entry in before {
-        number = number.saturating_add(1);
-        if word_at(entry, "name") == name {
+    match before
+        .iter()
+        .position(|entry| word_at(entry, "name") == name)
+    {
+        Some(place) => {
             say_around(out, ": the name ", name, " is used")?;
-            say_of(out, site.at, number)?;
-            return Ok(Some(Spot::at("name")));
+            said_of(Spot::at("name"), say_of(out, site.at, place))
         }
+        None => Ok(None),
     }
-    Ok(None)
 }
 
 fn say_known_conn(out: &mut Bytes, before: &[&Table], site: &Site<'_>) -> Said<'static> {
     let own = conn().number(site.entry);
-    let mut number = 0u64;
-    for entry in before {
-        number = number.saturating_add(1);
-        if conn().number(entry) == own {
+    match before.iter().position(|entry| conn().number(entry) == own) {
+        Some(place) => {
             say_numbered(out, ": connection ", own, " is used")?;
-            say_of(out, site.at, number)?;
-            return Ok(Some(Spot::at("conn")));
+            said_of(Spot::at("conn"), say_of(out, site.at, place))
         }
+        None => Ok(None),
     }
-    Ok(None)
 }
 
-// Appends that an entry of the same list has something, by its number.
-fn say_of(out: &mut Bytes, at: Entry, number: u64) -> Result<(), Memory> {
+// Appends that an entry of the same list has something, by its place, from 0.
+fn say_of(out: &mut Bytes, at: Entry, place: usize) -> Result<(), Memory> {
     out.append(b" by ")?;
     out.append(list_of(at).as_bytes())?;
-    say_numbered(out, " ", number, " already")
+    say_numbered(out, " ", (place as u64).saturating_add(1), " already")
 }
 
 /// Says which name or connection of an entry is that of nothing, apart from those in lines.
 pub(crate) fn say_unknown(alloc: Global, out: &mut Bytes, site: &Site<'_>) -> Said<'static> {
     match site.at {
         Entry::Policy(_) => say_unknown_tenant(alloc, out, site),
-        Entry::App(_) => {
-            let names = names_in(alloc, site.entry)?;
-            match declared_in(alloc, site.all)? {
-                None => Ok(None),
-                Some(declared) => say_undeclared(out, &declared, site.entry, names.as_slice()),
-            }
-        }
-        Entry::Link(_) => {
-            let apps = tables_at(alloc, site.all, "app")?;
-            match say_unknown_conn(out, apps.as_slice(), site.entry, end_a(), "a")? {
-                Some(spot) => Ok(Some(spot)),
-                None => say_unknown_conn(out, apps.as_slice(), site.entry, end_b(), "b"),
-            }
-        }
-        Entry::Operator(_) => {
-            let apps = tables_at(alloc, site.all, "app")?;
-            say_unknown_conn(out, apps.as_slice(), site.entry, conn(), "conn")
-        }
+        Entry::App(_) => say_unknown_policy(alloc, out, site),
+        Entry::Link(_) => say_unknown_end(alloc, out, site),
+        Entry::Operator(_) => say_no_app(alloc, out, site, conn(), "conn"),
         _ => Ok(None),
+    }
+}
+
+fn say_unknown_policy(alloc: Global, out: &mut Bytes, site: &Site<'_>) -> Said<'static> {
+    match declared_in(alloc, site.all)? {
+        Some(declared) => {
+            let names = names_in(alloc, site.entry)?;
+            say_undeclared(out, &declared, site.entry, names.as_slice())
+        }
+        None => Ok(None),
+    }
+}
+
+fn say_unknown_end(alloc: Global, out: &mut Bytes, site: &Site<'_>) -> Said<'static> {
+    match say_no_app(alloc, out, site, end_a(), "a")? {
+        Some(spot) => Ok(Some(spot)),
+        None => say_no_app(alloc, out, site, end_b(), "b"),
     }
 }
 
@@ -142,8 +148,10 @@ fn say_unknown_tenant(alloc: Global, out: &mut Bytes, site: &Site<'_>) -> Said<'
     if has_name(tenants.as_slice(), name) {
         return Ok(None);
     }
-    say_around(out, ": no tenant is named ", name, "")?;
-    Ok(Some(Spot::at("tenant")))
+    said_of(
+        Spot::at("tenant"),
+        say_around(out, ": no tenant is named ", name, ""),
+    )
 }
 
 // Whether one of the entries has the name.
@@ -152,19 +160,22 @@ fn has_name(entries: &[&Table], name: &[u8]) -> bool {
 }
 
 // Says that no application is on the connection at a key, where none is.
-fn say_unknown_conn(
+fn say_no_app(
+    alloc: Global,
     out: &mut Bytes,
-    apps: &[&Table],
-    entry: &Table,
+    site: &Site<'_>,
     range: Range,
     key: &'static str,
 ) -> Said<'static> {
-    let number = range.number(entry);
-    if has_conn(apps, number) {
+    let number = range.number(site.entry);
+    let apps = tables_at(alloc, site.all, "app")?;
+    if has_conn(apps.as_slice(), number) {
         return Ok(None);
     }
-    say_numbered(out, ": no app is on connection ", number, "")?;
-    Ok(Some(Spot::at(key)))
+    said_of(
+        Spot::at(key),
+        say_numbered(out, ": no app is on connection ", number, ""),
+    )
 }
 
 // Whether one of the applications is on the connection.

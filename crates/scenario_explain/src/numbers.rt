@@ -1,6 +1,6 @@
 //! Numbers out of their ranges.
 
-use crate::site::{Said, Site, Spot};
+use crate::site::{Said, Site, Spot, said_of};
 use crate::words::{say_integer, say_numbered};
 use mrpc_table::{Bytes, MAX_HEAP, MAX_LOADS, MIN_HEAP, Memory};
 use policy_blocks::MAX_TENANTS;
@@ -50,14 +50,25 @@ impl Limits {
         out.append(b": ")?;
         out.append(self.key.as_bytes())?;
         out.append(b" is ")?;
-        if let Some(value) = entry.get(self.key) {
-            if let Some(number) = value.as_integer() {
-                say_integer(out, number)?;
-            }
+        self.say_there(out, entry)?;
+        self.say_range(out)
+    }
+
+    // Appends the number at the key, if one is there.
+    fn say_there(&self, out: &mut Bytes, entry: &Table) -> Result<(), Memory> {
+        let Some(value) = entry.get(self.key) else {
+            return Ok(());
+        };
+        match value.as_integer() {
+            Some(number) => say_integer(out, number),
+            None => Ok(()),
         }
+    }
+
+    fn say_range(&self, out: &mut Bytes) -> Result<(), Memory> {
         say_numbered(out, "; it may be ", self.least, "")?;
         if self.least < self.most {
-            say_numbered(out, " to ", self.most, "")?;
+            return say_numbered(out, " to ", self.most, "");
         }
         Ok(())
     }
@@ -67,8 +78,7 @@ impl Limits {
 fn say_first(out: &mut Bytes, entry: &Table, limits: &[Limits]) -> Said<'static> {
     for limit in limits {
         if limit.is_out(entry) {
-            limit.say(out, entry)?;
-            return Ok(Some(Spot::at(limit.key)));
+            return said_of(Spot::at(limit.key), limit.say(out, entry));
         }
     }
     Ok(None)
@@ -108,8 +118,10 @@ pub(crate) fn say_number(out: &mut Bytes, site: &Site<'_>) -> Said<'static> {
 
 fn say_tenant_number(out: &mut Bytes, entry: &Table, number: u64) -> Said<'static> {
     if number > MAX_TENANTS as u64 {
-        out.append(b": a scenario has 16 tenants at the most")?;
-        return Ok(Some(Spot::nowhere()));
+        return said_of(
+            Spot::nowhere(),
+            out.append(b": a scenario has 16 tenants at the most"),
+        );
     }
     say_first(out, entry, &[Limits::up_to("per", DAY)])
 }

@@ -1,9 +1,9 @@
 //! Lines of programs.
 
-use crate::site::{Said, Site, Spot};
+use crate::site::{Said, Site, Spot, said_of};
 use crate::words::{say_line, say_numbered};
 use app_program::{MAX_REQUEST_STORES, MAX_STORES};
-use mrpc_table::{Bytes, MAX_HEAP};
+use mrpc_table::{Bytes, MAX_HEAP, Memory};
 use scenario::keys::{heap, role_of};
 use scenario::{RoleWord, ScenarioReason, of_line};
 use scenario_lines::{ProgramRole, read_line};
@@ -20,6 +20,10 @@ const RANGES: &str =
     "a number is out of its range: of METHOD 0 to 65535, of N 0 to 500000, of BLOCK 1 to 9223372036854775808, of \
      others 64 bits";
 
+const STORES: &str = ": its program stores ";
+
+const COUNTED: &str = " times at the most, a \"spin\" counted twice for each N";
+
 /// Says which line of an application's program a reason is of, or what it says of all lines.
 pub(crate) fn say_program(
     alloc: Global,
@@ -34,13 +38,25 @@ pub(crate) fn say_program(
     };
     let lines = texts_at(alloc, site.entry, "program")?;
     let heap = heap().number(site.entry).min(MAX_HEAP) as u32;
+    say_lines(out, role, heap, lines.as_slice(), reason)
+}
+
+fn say_lines(
+    out: &mut Bytes,
+    role: ProgramRole,
+    heap: u32,
+    lines: &[&[u8]],
+    reason: ScenarioReason,
+) -> Said<'static> {
     let mut number = 0u64;
-    for line in &lines {
+    for line in lines {
         number = number.saturating_add(1);
         if is_against(role, heap, line, reason) {
             say_line(out, number, line)?;
-            say_line_reason(out, role, heap, reason)?;
-            return Ok(Some(Spot::line("program", number)));
+            return said_of(
+                Spot::line("program", number),
+                say_line_reason(out, role, heap, reason),
+            );
         }
     }
     say_whole(out, role, reason)
@@ -60,7 +76,7 @@ fn say_line_reason(
     role: ProgramRole,
     heap: u32,
     reason: ScenarioReason,
-) -> Result<(), mrpc_table::Memory> {
+) -> Result<(), Memory> {
     match reason {
         ScenarioReason::Number => out.append(RANGES.as_bytes()),
         ScenarioReason::Place => {
@@ -86,18 +102,15 @@ fn say_whole(out: &mut Bytes, role: ProgramRole, reason: ScenarioReason) -> Said
                 ProgramRole::Client => MAX_STORES,
                 ProgramRole::Server => MAX_REQUEST_STORES,
             };
-            say_numbered(
-                out,
-                ": its program stores ",
-                most,
-                " times at the most, a \"spin\" counted twice for each N",
-            )?;
-            Ok(Some(Spot::at("program")))
+            said_of(
+                Spot::at("program"),
+                say_numbered(out, STORES, most, COUNTED),
+            )
         }
-        ScenarioReason::Word => {
-            out.append(b": the one \"reply ADDR\" of a server's program is its last line")?;
-            Ok(Some(Spot::at("program")))
-        }
+        ScenarioReason::Word => said_of(
+            Spot::at("program"),
+            out.append(b": the one \"reply ADDR\" of a server's program is its last line"),
+        ),
         _ => Ok(None),
     }
 }

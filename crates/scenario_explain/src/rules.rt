@@ -2,7 +2,7 @@
 
 ghost use Rattle.mrpc_table.specs.Valid.{IsValid};
 
-use crate::site::{Said, Site, Spot};
+use crate::site::{Said, Site, Spot, said_of};
 use crate::words::{say_around, say_line};
 use mrpc_table::{Bytes, Lines, Memory, RuleFault, RuleReason, Table as Schema, is_word};
 use policy_access::read_access;
@@ -41,19 +41,50 @@ pub(crate) fn say_own_rules(
     policies: &[&Table],
     reason: ScenarioReason,
 ) -> Said<'static> {
-    let Some(table) = table_in(alloc, word_at(app, "schema"))? else {
-        return Ok(None);
-    };
+    match table_in(alloc, word_at(app, "schema"))? {
+        None => Ok(None),
+        Some(table) => say_first_own(alloc, out, &table, policies, reason),
+    }
+}
+
+fn say_first_own(
+    alloc: Global,
+    out: &mut Bytes,
+    table: &Schema,
+    policies: &[&Table],
+    reason: ScenarioReason,
+) -> Said<'static>
+    requires { IsValid table.now }
+{
     for policy in policies {
-        let mut said = Bytes::new(alloc);
-        if say_under(alloc, &mut said, &table, policy, reason)?.is_some() {
-            let name = word_at(policy, "name");
-            say_around(out, ": under the app's own schema, policy ", name, "")?;
-            out.append(said.as_slice())?;
-            return Ok(Some(Spot::at("schema")));
+        if let Some(spot) = say_own(alloc, out, table, policy, reason)? {
+            return Ok(Some(spot));
         }
     }
     Ok(None)
+}
+
+fn say_own(
+    alloc: Global,
+    out: &mut Bytes,
+    table: &Schema,
+    policy: &Table,
+    reason: ScenarioReason,
+) -> Said<'static>
+    requires { IsValid table.now }
+{
+    let mut said = Bytes::new(alloc);
+    match say_under(alloc, &mut said, table, policy, reason)? {
+        None => Ok(None),
+        Some(_) => said_of(Spot::at("schema"), say_policy(out, policy, said.as_slice())),
+    }
+}
+
+// Says a policy's name, and behind it what was said of the policy.
+fn say_policy(out: &mut Bytes, policy: &Table, said: &[u8]) -> Result<(), Memory> {
+    let name = word_at(policy, "name");
+    say_around(out, ": under the app's own schema, policy ", name, "")?;
+    out.append(said)
 }
 
 // Says which line of a policy a reason is of, under a table.
@@ -66,24 +97,34 @@ fn say_under(
 ) -> Said<'static>
     requires { IsValid table.now }
 {
-    let (key, lines, fault) = match kind_of(entry) {
+    match kind_of(entry) {
         Some(Kind::Access) => {
             let lines = lines_at(alloc, entry, "rules")?;
             let fault = access_fault(alloc, table, &lines)?;
-            ("rules", lines, fault)
+            say_against(out, "rules", &lines, fault, reason)
         }
         Some(Kind::Redact) => {
             let lines = lines_at(alloc, entry, "clears")?;
             let fault = redact_fault(alloc, table, &lines)?;
-            ("clears", lines, fault)
+            say_against(out, "clears", &lines, fault, reason)
         }
-        _ => return Ok(None),
-    };
+        _ => Ok(None),
+    }
+}
+
+// Says the line at fault, where it is at fault for this reason.
+fn say_against(
+    out: &mut Bytes,
+    key: &'static str,
+    lines: &Lines,
+    fault: Option<LineFault>,
+    reason: ScenarioReason,
+) -> Said<'static> {
     match fault {
-        Some(fault) if of_rule(fault.reason).order() == reason.order() => {
-            say_fault(out, key, &lines, fault)?;
-            Ok(Some(Spot::line(key, fault.line)))
-        }
+        Some(fault) if of_rule(fault.reason).order() == reason.order() => said_of(
+            Spot::line(key, fault.line),
+            say_fault(out, key, lines, fault),
+        ),
         _ => Ok(None),
     }
 }
@@ -110,12 +151,20 @@ fn redact_fault(alloc: Global, table: &Schema, lines: &Lines) -> Result<Option<L
 
 // The lines at a key of a policy.
 fn lines_at(alloc: Global, entry: &Table, key: &str) -> Result<Lines, Memory> {
-    let mut lines = Lines::new(alloc);
     let texts = texts_at(alloc, entry, key)?;
-    for text in &texts {
-        lines.push(Bytes::from_slice(alloc, text)?)?;
+    copied(alloc, texts.as_slice())
+}
+
+fn copied(alloc: Global, texts: &[&[u8]]) -> Result<Lines, Memory> {
+    let mut lines = Lines::new(alloc);
+    for text in texts {
+        add_copy(alloc, &mut lines, text)?;
     }
     Ok(lines)
+}
+
+fn add_copy(alloc: Global, lines: &mut Lines, text: &[u8]) -> Result<(), Memory> {
+    lines.push(Bytes::from_slice(alloc, text)?)
 }
 
 // Says the line at fault and what is wrong with it; behind the last line one is missing.

@@ -1,6 +1,6 @@
 //! Schemas that have no table.
 
-use crate::site::{Said, Spot};
+use crate::site::{Said, Spot, said_of};
 use crate::words::say_numbered;
 use mrpc_table::{Bytes, Memory};
 use proto_schema::{ProtoFault, alone_is_ordered, read_proto};
@@ -23,13 +23,14 @@ struct SchemaFault {
 pub(crate) fn say_schema(alloc: Global, out: &mut Bytes, entry: &Table) -> Said<'static> {
     match fault_of(alloc, word_at(entry, "schema"))? {
         None => Ok(None),
-        Some(fault) => {
-            say_numbered(out, ": line ", fault.line, " of its schema has the fault ")?;
-            out.append(fault.word.as_bytes())?;
-            out.append(b", of which \"mrpc check\" says more where the schema is a file")?;
-            Ok(Some(Spot::at("schema")))
-        }
+        Some(fault) => said_of(Spot::at("schema"), say_fault(out, fault)),
     }
+}
+
+fn say_fault(out: &mut Bytes, fault: SchemaFault) -> Result<(), Memory> {
+    say_numbered(out, ": line ", fault.line, " of its schema has the fault ")?;
+    out.append(fault.word.as_bytes())?;
+    out.append(b", of which \"mrpc check\" says more where the schema is a file")
 }
 
 // The first fault of a schema, if it has one.

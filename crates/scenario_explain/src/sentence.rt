@@ -1,6 +1,6 @@
 //! What a reason says of an entry.
 
-use crate::declared::{declared_in, entries_of};
+use crate::declared::entries_of;
 use crate::general::general_words;
 use crate::keys::say_key;
 use crate::links::say_pair;
@@ -83,11 +83,8 @@ fn say_own(
     site: &Site<'_>,
     reason: ScenarioReason,
 ) -> Said<'static> {
-    let Some(declared) = declared_in(alloc, site.all)? else {
-        return Ok(None);
-    };
     let names = names_in(alloc, site.entry)?;
-    let policies = entries_of(alloc, site.all, &declared, names.as_slice())?;
+    let policies = entries_of(alloc, site.all, names.as_slice())?;
     say_own_rules(alloc, out, site.entry, policies.as_slice(), reason)
 }
 

@@ -30,6 +30,14 @@ pub(crate) struct Spot<'a> {
 /// The part of a site of which something was said; none where nothing was.
 pub(crate) type Said<'a> = Result<Option<Spot<'a>>, Memory>;
 
+/// The part of which something was said.
+pub(crate) fn said_of<'a>(spot: Spot<'a>, said: Result<(), Memory>) -> Said<'a> {
+    match said {
+        Ok(()) => Ok(Some(spot)),
+        Err(fault) => Err(fault),
+    }
+}
+
 impl<'a> Spot<'a> {
     /// The value at a key.
     pub(crate) fn at(key: &'a str) -> Spot<'a> {
@@ -67,17 +75,35 @@ impl<'a> Site<'a> {
     /// The entries in front of it in its list.
     pub(crate) fn before(&self, alloc: Global) -> Result<Vec<&'a Table>, Memory> {
         let entries = tables_at(alloc, self.all, list_of(self.at))?;
-        let mut before = Vec::new(alloc);
-        let mut number = 1u64;
-        for entry in entries.as_slice() {
-            if number >= self.at.number() {
-                return Ok(before);
-            }
-            before.push(*entry)?;
-            number = number.saturating_add(1);
-        }
-        Ok(before)
+        first_of(alloc, entries.as_slice(), self.at.number())
     }
+}
+
+// The entries in front of the one of a number, from 1.
+fn first_of<'a>(
+    alloc: Global,
+    entries: &[&'a Table],
+    number: u64,
+) -> Result<Vec<&'a Table>, Memory> {
+    let mut first = Vec::new(alloc);
+    add_first(&mut first, entries, number)?;
+    Ok(first)
+}
+
+fn add_first<'a>(
+    first: &mut Vec<&'a Table>,
+    entries: &[&'a Table],
+    number: u64,
+) -> Result<(), Memory> {
+    let mut left = number;
+    for entry in entries {
+        if left <= 1 {
+            return Ok(());
+        }
+        left -= 1;
+        first.push(*entry)?;
+    }
+    Ok(())
 }
 
 // The entry of a number, from 1.

@@ -2,10 +2,11 @@
 
 use crate::declared::{declared_in, entries_of, say_undeclared_in};
 use crate::rules::say_own_rules;
-use crate::site::{Said, Site, Spot};
-use crate::walk::{Refused, chain_of, refused_of};
+use crate::site::{Said, Site, Spot, said_of};
+use crate::walk::{Refused, chain_at, refused_of};
 use crate::words::{say_around, say_line};
 use mrpc_table::{Bytes, Memory};
+use policy_blocks::Declarations;
 use scenario::keys::conn;
 use scenario::{ScenarioReason, of_line};
 use scenario_lines::{StepText, read_step};
@@ -16,6 +17,16 @@ use toml::Table;
 const FORMS: &str =
     "expected \"COUNT attach AT NAME POLICY\", \"COUNT detach NAME\" or \"COUNT upgrade NAME POLICY\"";
 
+const LOWER: &str = "its count is lower than that of a line before it";
+
+/// A line of an operator, from 1, and what stands against it.
+#[derive(Clone, Copy)]
+struct LineFault<'a> {
+    number: u64,
+    line: &'a [u8],
+    words: &'static str,
+}
+
 /// Says which line of an operator a reason of lines is of.
 pub(crate) fn say_step(
     alloc: Global,
@@ -24,30 +35,58 @@ pub(crate) fn say_step(
     reason: ScenarioReason,
 ) -> Said<'static> {
     let lines = texts_at(alloc, entry, "steps")?;
+    match line_fault(lines.as_slice(), reason) {
+        Some(fault) => {
+            say_line(out, fault.number, fault.line)?;
+            said_of(
+                Spot::line("steps", fault.number),
+                out.append(fault.words.as_bytes()),
+            )
+        }
+        None => Ok(None),
+    }
+}
+
+// The first of the lines that a reason of lines is of.
+fn line_fault<'a>(lines: &[&'a [u8]], reason: ScenarioReason) -> Option<LineFault<'a>> {
     let mut number = 0u64;
     let mut most = 0;
-    for line in &lines {
+    for line in lines {
         number = number.saturating_add(1);
-        match read_step(line) {
-            Err(why) => {
-                if of_line(why).order() == reason.order() {
-                    say_line(out, number, line)?;
-                    out.append(step_words(reason).as_bytes())?;
-                    return Ok(Some(Spot::line("steps", number)));
-                }
-            }
-            Ok(step) => {
-                let count = count_in(&step);
-                if count < most && matches!(reason, ScenarioReason::Number) {
-                    say_line(out, number, line)?;
-                    out.append(b"its count is lower than that of a line before it")?;
-                    return Ok(Some(Spot::line("steps", number)));
-                }
-                most = count;
-            }
+        if let Some(words) = words_against(line, most, reason) {
+            return Some(LineFault {
+                number,
+                line,
+                words,
+            });
         }
+        most = count_of(line).max(most);
     }
-    Ok(None)
+    None
+}
+
+// What stands against a line for a reason, behind lines of these counts at the most.
+fn words_against(line: &[u8], most: u64, reason: ScenarioReason) -> Option<&'static str> {
+    match read_step(line) {
+        Err(why) => if of_line(why).order() == reason.order() {
+            Some(step_words(reason))
+        } else {
+            None
+        },
+        Ok(step) => if count_in(&step) < most && matches!(reason, ScenarioReason::Number) {
+            Some(LOWER)
+        } else {
+            None
+        },
+    }
+}
+
+// The count of a line; 0 where it is none.
+fn count_of(line: &[u8]) -> u64 {
+    match read_step(line) {
+        Ok(step) => count_in(&step),
+        Err(_) => 0,
+    }
 }
 
 fn step_words(reason: ScenarioReason) -> &'static str {
@@ -82,13 +121,16 @@ pub(crate) fn say_unknown_step(alloc: Global, out: &mut Bytes, site: &Site<'_>) 
         return Ok(None);
     };
     let lines = texts_at(alloc, site.entry, "steps")?;
+    say_undeclared_line(out, &declared, lines.as_slice())
+}
+
+fn say_undeclared_line(out: &mut Bytes, declared: &Declarations, lines: &[&[u8]]) -> Said<'static> {
     let mut number = 0u64;
-    for line in &lines {
+    for line in lines {
         number = number.saturating_add(1);
         if let Some(name) = policy_of(line) {
-            let said = say_undeclared_in(out, &declared, number, line, name)?;
-            if said.is_some() {
-                return Ok(said);
+            if declared.policy(name).is_none() {
+                return say_undeclared_in(out, number, line, name);
             }
         }
     }
@@ -113,18 +155,25 @@ pub(crate) fn say_step_rules(
     let Some(app) = app_on(apps.as_slice(), conn().number(site.entry)) else {
         return Ok(None);
     };
+    let policies = policies_of(alloc, site)?;
+    say_own_rules(alloc, out, app, policies.as_slice(), reason)
+}
+
+// The entries of the policies that the lines of an operator name.
+fn policies_of<'a>(alloc: Global, site: &Site<'a>) -> Result<Vec<&'a Table>, Memory> {
     let lines = texts_at(alloc, site.entry, "steps")?;
-    let Some(declared) = declared_in(alloc, site.all)? else {
-        return Ok(None);
-    };
+    let names = names_of(alloc, lines.as_slice())?;
+    entries_of(alloc, site.all, names.as_slice())
+}
+
+fn names_of<'a>(alloc: Global, lines: &[&'a [u8]]) -> Result<Vec<&'a [u8]>, Memory> {
     let mut names = Vec::new(alloc);
-    for line in &lines {
+    for line in lines {
         if let Some(name) = policy_of(line) {
             names.push(name)?;
         }
     }
-    let policies = entries_of(alloc, site.all, &declared, names.as_slice())?;
-    say_own_rules(alloc, out, app, policies.as_slice(), reason)
+    Ok(names)
 }
 
 // The application on a connection.
@@ -144,24 +193,46 @@ pub(crate) fn say_refused(
     site: &Site<'_>,
     reason: ScenarioReason,
 ) -> Said<'static> {
-    let Some(declared) = declared_in(alloc, site.all)? else {
-        return Ok(None);
-    };
-    let apps = tables_at(alloc, site.all, "app")?;
-    let Some(app) = app_on(apps.as_slice(), conn().number(site.entry)) else {
-        return Ok(None);
-    };
-    let names = texts_at(alloc, app, "chain")?;
-    let lines = texts_at(alloc, site.entry, "steps")?;
-    let chain = chain_of(alloc, &declared, names.as_slice())?;
-    match refused_of(chain, &declared, lines.as_slice())? {
+    match declared_in(alloc, site.all)? {
         None => Ok(None),
-        Some(refused) => {
-            say_line(out, refused.number, refused.line)?;
-            say_why(out, &refused, reason)?;
-            Ok(Some(Spot::line("steps", refused.number)))
-        }
+        Some(declared) => say_refused_in(alloc, out, site, &declared, reason),
     }
+}
+
+fn say_refused_in(
+    alloc: Global,
+    out: &mut Bytes,
+    site: &Site<'_>,
+    declared: &Declarations,
+    reason: ScenarioReason,
+) -> Said<'static> {
+    let apps = tables_at(alloc, site.all, "app")?;
+    match app_on(apps.as_slice(), conn().number(site.entry)) {
+        None => Ok(None),
+        Some(app) => say_refused_on(alloc, out, site, declared, app, reason),
+    }
+}
+
+fn say_refused_on(
+    alloc: Global,
+    out: &mut Bytes,
+    site: &Site<'_>,
+    declared: &Declarations,
+    app: &Table,
+    reason: ScenarioReason,
+) -> Said<'static> {
+    let lines = texts_at(alloc, site.entry, "steps")?;
+    let chain = chain_at(alloc, declared, app)?;
+    match refused_of(chain, declared, lines.as_slice())? {
+        None => Ok(None),
+        Some(refused) => say_which(out, &refused, reason),
+    }
+}
+
+fn say_which(out: &mut Bytes, refused: &Refused<'_>, reason: ScenarioReason) -> Said<'static> {
+    say_line(out, refused.number, refused.line)?;
+    say_why(out, refused, reason)?;
+    Ok(Some(Spot::line("steps", refused.number)))
 }
 
 fn say_why(out: &mut Bytes, refused: &Refused<'_>, reason: ScenarioReason) -> Result<(), Memory> {
@@ -196,31 +267,35 @@ pub(crate) fn say_chain(
     reason: ScenarioReason,
 ) -> Said<'static> {
     match reason {
-        ScenarioReason::Taken => {
-            let names = texts_at(alloc, entry, "chain")?;
-            match twice_in(names.as_slice()) {
-                None => Ok(None),
-                Some(name) => {
-                    say_around(out, ": its chain has ", name, " twice")?;
-                    Ok(Some(Spot::at("chain")))
-                }
-            }
-        }
-        ScenarioReason::ChainFull => {
-            out.append(b": its chain has more than 8 entries")?;
-            Ok(Some(Spot::at("chain")))
-        }
+        ScenarioReason::Taken => say_twice(alloc, out, entry),
+        ScenarioReason::ChainFull => said_of(
+            Spot::at("chain"),
+            out.append(b": its chain has more than 8 entries"),
+        ),
         ScenarioReason::OtherKind => {
             let name = word_at(entry, "inbound");
-            say_around(
-                out,
-                ": inbound is ",
-                name,
-                ", which is no policy of kind access",
-            )?;
-            Ok(Some(Spot::at("inbound")))
+            said_of(
+                Spot::at("inbound"),
+                say_around(
+                    out,
+                    ": inbound is ",
+                    name,
+                    ", which is no policy of kind access",
+                ),
+            )
         }
         _ => Ok(None),
+    }
+}
+
+fn say_twice(alloc: Global, out: &mut Bytes, entry: &Table) -> Said<'static> {
+    let names = texts_at(alloc, entry, "chain")?;
+    match twice_in(names.as_slice()) {
+        Some(name) => said_of(
+            Spot::at("chain"),
+            say_around(out, ": its chain has ", name, " twice"),
+        ),
+        None => Ok(None),
     }
 }
 

@@ -14,7 +14,7 @@ use scenario::{Entry, ScenarioFault, ScenarioReason};
 use scenario_reader::read_scenario;
 use std::alloc::Global;
 use toml::de::Error;
-use toml::table_from_slice;
+use toml::{Table, table_from_slice};
 use toml_places::{Sought, Span, place_of};
 
 /// What stands against a scenario.
@@ -77,11 +77,22 @@ fn say_rest(
     at: Entry,
     reason: ScenarioReason,
 ) -> Result<Option<Span>, Memory> {
-    let all = match table_from_slice(alloc, text) {
-        Ok(all) => all,
-        Err(error) => return say_no_toml(out, &error),
-    };
-    match Site::of(alloc, &all, at)? {
+    match table_from_slice(alloc, text) {
+        Ok(all) => say_entry(alloc, out, text, &all, at, reason),
+        Err(error) => say_no_toml(out, &error),
+    }
+}
+
+// Says it of a text that is TOML.
+fn say_entry(
+    alloc: Global,
+    out: &mut Bytes,
+    text: &[u8],
+    all: &Table,
+    at: Entry,
+    reason: ScenarioReason,
+) -> Result<Option<Span>, Memory> {
+    match Site::of(alloc, all, at)? {
         None => {
             out.append(general_words(reason).as_bytes())?;
             Ok(None)

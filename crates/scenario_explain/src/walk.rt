@@ -6,7 +6,9 @@ use policy_blocks::Declarations;
 use scenario::ScenarioReason;
 use scenario_entries::Chain;
 use scenario_lines::{StepText, read_step};
+use scenario_values::texts_at;
 use std::alloc::Global;
+use toml::Table;
 
 /// Where the first step that is refused stands, from 1, and what it tells.
 #[derive(Clone, Copy)]
@@ -16,8 +18,8 @@ pub(crate) struct Refused<'a> {
     pub step: StepText<'a>,
 }
 
-/// The chain with the declared policies of these names, each under its own name; as far as it takes them.
-pub(crate) fn chain_of<'a>(
+// The chain with the declared policies of these names, each under its own name; as far as it takes them.
+fn chain_of<'a>(
     alloc: Global,
     declared: &'a Declarations,
     names: &[&'a [u8]],
@@ -35,6 +37,16 @@ pub(crate) fn chain_of<'a>(
         }
     }
     Ok(chain)
+}
+
+/// The chain that an application begins with.
+pub(crate) fn chain_at<'a>(
+    alloc: Global,
+    declared: &'a Declarations,
+    app: &'a Table,
+) -> Result<Chain<'a>, Memory> {
+    let names = texts_at(alloc, app, "chain")?;
+    chain_of(alloc, declared, names.as_slice())
 }
 
 /// The first of the lines whose step the chain refuses.
