@@ -1,4 +1,4 @@
-// Does what the program crate `app_bench` does, for bench/apps: a client stores messages of one number and sends a
+// Does what `mrpc_bench apps` does, for bench/apps: a client stores messages of one number and sends a
 // descriptor of each, a service copies each descriptor to a notice, and an echo takes the notices, copies each message
 // into a tree of its own, places it into the next slice of its heap and sends a reply, which the service takes. Once its
 // calls are done the client is told of the replies. Each of the two has one ring of calls and one of notices. No locks;

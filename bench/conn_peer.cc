@@ -1,4 +1,4 @@
-// What the program `conn_bench` does, with protobuf's DynamicMessage: a connection whose chain has a std::deque of
+// What `mrpc_bench conn` does, with protobuf's DynamicMessage: a connection whose chain has a std::deque of
 // calls for each engine, and one of those that are ready. A message is copied from the words of a heap by reflection,
 // judged by reflection, and serialized deterministically. bench/conn builds it, and compares what the two programs
 // write.

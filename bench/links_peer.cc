@@ -1,4 +1,4 @@
-// Does what the program crate `link_bench` does, for bench/links: a thread hands frames over to a queue, and another
+// Does what `mrpc_bench links` does, for bench/links: a thread hands frames over to a queue, and another
 // passes them on to a list in memory. The queue is a std::deque under a mutex, with a condition variable for either
 // side, as libraries for remote calls have it.
 #include <condition_variable>

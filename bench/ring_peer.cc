@@ -1,4 +1,4 @@
-// Does what the program crate `ring_bench` does, for bench/ring: a thread stores messages of one number and sends a
+// Does what `mrpc_bench ring` does, for bench/ring: a thread stores messages of one number and sends a
 // descriptor of each through a ring, and another takes the descriptors, copies each message into a tree of its own and
 // adds the numbers up. No locks; every atomic step is sequentially consistent, and each end has its own count, as rings
 // for one sender and one receiver do.

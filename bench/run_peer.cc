@@ -1,6 +1,7 @@
 // Does by gRPC what `mrpc run` does with four clients and four echoes, for bench/run: each client makes so many calls of
 // a message of one number, at most so many of them under way at once, and the service replies to each with its own
-// message. The channels are those in the process, and clients and service use the callback interface.
+// message. Clients and service use the callback interface. Each client has a channel of its own: the third word says
+// whether it is one within the process, `memory`, or a connection over the loopback interface, `tcp`.
 #include <grpcpp/grpcpp.h>
 
 #include <atomic>
@@ -9,6 +10,7 @@
 #include <cstdlib>
 #include <future>
 #include <memory>
+#include <string>
 #include <vector>
 
 #include "run_peer.grpc.pb.h"
@@ -35,7 +37,7 @@ struct Call {
 // A client that begins its next call once one has come back.
 class Client {
  public:
-  Client(grpc::Server* server, uint64_t count) : stub_(S::NewStub(server->InProcessChannel({}))), count_(count) {}
+  Client(std::shared_ptr<grpc::Channel> channel, uint64_t count) : stub_(S::NewStub(channel)), count_(count) {}
 
   void Begin(uint64_t under_way) {
     for (uint64_t k = 0; k < under_way; ++k) Next();
@@ -69,18 +71,33 @@ class Client {
   std::promise<void> done_;
 };
 
+// A connection to a port of the loopback interface that is shared with no other channel.
+std::shared_ptr<grpc::Channel> Connect(int port) {
+  grpc::ChannelArguments own;
+  own.SetInt(GRPC_ARG_USE_LOCAL_SUBCHANNEL_POOL, 1);
+  const std::string address = "127.0.0.1:" + std::to_string(port);
+  return grpc::CreateCustomChannel(address, grpc::InsecureChannelCredentials(), own);
+}
+
 }  // namespace
 
 int main(int count, char** words) {
-  if (count != 3) return 2;
+  if (count != 4) return 2;
   uint64_t calls = std::strtoull(words[1], nullptr, 10);
   uint64_t under_way = std::strtoull(words[2], nullptr, 10);
+  const std::string over = words[3];
+  if (over != "memory" && over != "tcp") return 2;
   Echo echo;
   grpc::ServerBuilder builder;
   builder.RegisterService(&echo);
+  int port = 0;
+  if (over == "tcp") builder.AddListeningPort("127.0.0.1:0", grpc::InsecureServerCredentials(), &port);
   std::unique_ptr<grpc::Server> server = builder.BuildAndStart();
   std::vector<std::unique_ptr<Client>> clients;
-  for (int k = 0; k < kClients; ++k) clients.push_back(std::make_unique<Client>(server.get(), calls));
+  for (int k = 0; k < kClients; ++k) {
+    auto channel = over == "tcp" ? Connect(port) : server->InProcessChannel({});
+    clients.push_back(std::make_unique<Client>(channel, calls));
+  }
   for (auto& client : clients) client->Begin(under_way);
   uint64_t sum = 0;
   for (auto& client : clients) sum += client->Wait();

@@ -1,5 +1,0 @@
-//! Tests of engines on calls, which need a table that was read. It has no code of its own, and nothing stands on it.
-#![tactic(auto)]
-
-#[cfg(test)]
-mod tests;

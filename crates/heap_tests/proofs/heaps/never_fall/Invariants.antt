@@ -1,5 +1,0 @@
-use Rattle.std.proofs.Common.{◌≡◌}
-use Rattle.heap_tests.proofs.heaps.never_fall.Given as goal
-
-abbrev pub invariant-loop : goal.invariant-loop
-invariant-loop l = l.reader.heap ≡ l.initial.reader.heap

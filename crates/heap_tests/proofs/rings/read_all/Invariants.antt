@@ -1,7 +1,0 @@
-use Rattle.std.proofs.Common.{◌≡◌, length}
-use Rattle.heap_tests.proofs.rings.read_all.Given as goal
-
-abbrev pub invariant-loop : goal.invariant-loop
-invariant-loop g l =
-    (l.reader.heap ≡ l.initial.reader.heap) × (l.receiver.heap ≡ l.initial.receiver.heap) × (l.receiver.ring ≡ l.initial.receiver.ring)
-    × (l.found.descriptors ≡ length l.receiver.taken)

@@ -1,5 +1,0 @@
-use Rattle.link_tests.proofs.talks.talk.Given as goal
-
--- it stays the same link
-abbrev pub invariant-loop-length : goal.invariant-loop-length
-invariant-loop-length g l = (first : g.row.L.Denot) → g.L.Link.since first l.initial.link → g.L.Link.since first l.link

@@ -1,0 +1,44 @@
+//! Has a client's calls echoed: a client, an echo and a plain service between them run in a thread each. It prints how
+//! many replies came, and the sum of their numbers. `bench/apps` times it.
+//!
+//!     mrpc_bench apps COUNT
+//!
+//! It measures `app_stub` and what that stands on. A count that is missing or out of range, from 0 to 500000, or running
+//! out of memory ends it with status 1.
+
+mod calling;
+mod plain_service;
+mod taking;
+mod wiring;
+
+use crate::counts::{count_of, line_of};
+use calling::{MAX_CALLS, call};
+use mrpc_table::Bytes;
+use std::alloc::Global;
+use std::sync::Wait;
+use std::thread::Threads;
+use table_text::read_table;
+use taking::Found;
+
+// The table of the messages.
+const TABLE: &[u8] = b"message M\nfield 1 plain uint64 n\nmethod 0 S Get M M\n";
+
+/// Has as many calls echoed as the words ask for, and gives what is printed of it.
+pub(crate) fn told<R>(rt: &R, alloc: Global, words: &[String]) -> Option<Bytes>
+where
+    R: Threads + Wait + Sync,
+{
+    let Found { calls, numbers } = echoed(rt, alloc, count_of(words)?)?;
+    line_of(alloc, &[calls, numbers])
+}
+
+// What comes of so many calls, or none where there is no memory or the count is out of range.
+fn echoed<R: Threads + Wait + Sync>(rt: &R, alloc: Global, count: u32) -> Option<Found> {
+    if count > MAX_CALLS {
+        return None;
+    }
+    match read_table(alloc, TABLE) {
+        Ok(table) => call(rt, alloc, &table, count).ok(),
+        Err(_) => None,
+    }
+}

@@ -1,0 +1,322 @@
+//! A connection with its heap, its tickets and its link, and what is done with them. Where memory or a number runs out, an
+//! answer is `None`.
+
+ghost use Rattle.std.specs.Prelude.{◌≡◌, ◌<◌, All, IfSome};
+ghost use Rattle.std.specs.Bool.{OnTrue};
+ghost use Rattle.mrpc_table.specs.Valid.{IsValid};
+ghost use Rattle.engine_core.specs.Policies.{IsPolicy, KnowsTenantOf};
+ghost use Rattle.conn_core.specs.Steps.{IfPolicy};
+ghost use Rattle.mrpc_bench.specs.Work.{IsYoung};
+
+use chain_upgrade::{Chain, Turned};
+use conn_core::{Ask, Conn, Drained};
+use engine_core::{MAX_CALLS, Op, Policy};
+use mrpc_base::{MemLink, PlainTickets, PlainWords, Room, Stores, Words};
+use mrpc_table::{Bytes, Lines, Name, Table};
+use policy_access::read_access;
+use policy_rate::Rate;
+use std::alloc::Global;
+use std::marker::Model;
+
+/// The table of the messages.
+pub(crate) const TABLE: &[u8] =
+    b"message M\nfield 1 plain uint64 a\nfield 2 plain uint64 b\nfield 3 plain uint64 c\n\
+field 4 plain uint64 d\nfield 5 plain uint64 e\nfield 6 plain uint64 f\nfield 7 plain uint64 g\n\
+field 8 plain uint64 h\nfield 9 plain uint64 i\nfield 10 plain uint64 j\nmethod 0 S Get M M\n";
+
+// Rules none of which denies a message.
+const RULES: [&[u8]; 4] = [
+    b"rule a deny method 0 where 1 eq 1",
+    b"rule b deny method 0 where 5 eq 1",
+    b"rule c deny method 0 where 10 eq 1",
+    b"default allow",
+];
+
+// As many calls as a rate can pay for at one moment.
+const RATE: Rate = Rate {
+    amount: 1,
+    per: 1,
+    burst: 1000000,
+    hold: true,
+};
+
+// A call at each moment, for which the others wait.
+const CALL_A_MOMENT: Rate = Rate {
+    amount: 1,
+    per: 1,
+    burst: 1,
+    hold: true,
+};
+
+/// A connection of number 1, with its heap of 32 words, the tickets of a tenant, and its link.
+pub struct Work<'t> {
+    alloc: Global,
+    table: &'t Table,
+    words: PlainWords,
+    tickets: PlainTickets,
+    link: MemLink,
+    conn: Conn<'t>,
+}
+
+// By hand, so that a drop is one call where it is needed, and not a drop of each part.
+impl<'t> Drop for Work<'t> {
+    fn drop(self) {
+        let Work {
+            alloc: _,
+            table: _,
+            words: _words,
+            tickets: _tickets,
+            link: _link,
+            conn: _conn,
+        } = self;
+    }
+}
+
+impl<'t> Model for Work<'t> {
+    ghost use Rattle.std.specs.Prelude.{ℕ};
+    ghost use Rattle.mrpc_bench.specs.Work.{IsWork};
+
+    ghost Value = { ℕ };
+
+    ghost view = { λ w. w.words.size };
+
+    ghost invariant = { λ w. IsWork w.table.now w.words.size w.tickets.tenants };
+}
+
+// Whether the numbers of a connection have room for one more of each.
+#[tactic(auto, using(crate::proofs::Young::young))]
+fn is_young(conn: &Conn) -> bool
+    ensures { OnTrue result (IsYoung conn.now) }
+{
+    conn.numbers_are_few();
+    conn.history().len() < 1000000000
+}
+
+// Whether a policy is of no other tenant than the first.
+fn knows_tenant(policy: &Policy) -> bool
+    ensures { OnTrue result (KnowsTenantOf (λ t. t ≡ 0) policy.now) }
+{
+    match policy {
+        Policy::Quota { tenant, .. } => *tenant == 0,
+        Policy::Access(_) | Policy::Rate(_) | Policy::Count | Policy::Redact(_) => true,
+    }
+}
+
+// Whether there are tickets of the tenants of all policies.
+fn knows_tenants(chain: &Chain, tickets: &PlainTickets) -> bool
+    requires { 0 < tickets.now.tenants }
+    ensures { OnTrue result (All (λ e. KnowsTenantOf (λ t. t < tickets.now.tenants) e.entry.policy) chain.now.engines) }
+{
+    for at in 0..chain.engines() {
+        if !knows_tenant(chain.engine(at).policy()) {
+            return false;
+        }
+    }
+    true
+}
+
+fn name_of(alloc: Global, name: &[u8]) -> Option<Name> {
+    Bytes::from_slice(alloc, name).ok()
+}
+
+// A policy of the rules.
+fn access(alloc: Global, table: &Table) -> Option<Policy>
+    requires { IsValid table.now }
+    ensures { IfSome result IsPolicy }
+{
+    let mut lines = Lines::new(alloc);
+    for text in RULES {
+        lines.push(name_of(alloc, text)?).ok()?;
+    }
+    Some(Policy::Access(read_access(alloc, &lines, table).ok()?))
+}
+
+impl<'t> Work<'t> {
+    /// A connection without a call, and a message of ten fields at place 2 of its heap.
+    pub(crate) fn open(alloc: Global, table: &'t Table) -> Option<Work<'t>>
+        requires { IsValid table.now }
+    {
+        let Ok(words) = PlainWords::open(alloc, 32) else {
+            return None;
+        };
+        let Ok(tickets) = PlainTickets::new(alloc, 1) else {
+            return None;
+        };
+        let mut work = Work {
+            alloc,
+            table,
+            words,
+            tickets,
+            link: MemLink::new(
+                alloc,
+                Vec::new(alloc),
+                Vec::new(alloc),
+                Vec::new(alloc),
+                Vec::new(alloc),
+            ),
+            conn: Conn::open(alloc, 1, table, 16384).ok()?,
+        };
+        for field in 0..10 {
+            work.store(2 + 2 * field, 1000 * (field + 1))?;
+        }
+        Some(work)
+    }
+
+    fn store(&mut self, place: u64, value: u64) -> Option<()> {
+        let here = 1 <= place && place < self.words.size();
+        let room = self.words.room_stores(1) == Room::Made;
+        if !here || !room || self.words.made() >= 1000 {
+            return None;
+        }
+        self.words.store(place, value);
+        Some(())
+    }
+
+    // ---- steps of an operator
+
+    fn operate(&mut self, step: Op) -> Option<()>
+        requires { IfPolicy step IsPolicy }
+    {
+        if !is_young(&self.conn) {
+            return None;
+        }
+        self.conn.operate(self.alloc, step).ok()
+    }
+
+    fn attach(&mut self, at: u32, name: &[u8], policy: Policy) -> Option<()>
+        requires { IsPolicy policy }
+    {
+        let step = Op::Attach {
+            at,
+            name: name_of(self.alloc, name)?,
+            label: name_of(self.alloc, name)?,
+            policy,
+        };
+        self.operate(step)
+    }
+
+    fn upgrade(&mut self, name: &[u8], policy: Policy) -> Option<()>
+        requires { IsPolicy policy }
+    {
+        let step = Op::Upgrade {
+            name: name_of(self.alloc, name)?,
+            label: name_of(self.alloc, name)?,
+            policy,
+        };
+        self.operate(step)
+    }
+
+    fn attach_access(&mut self, at: u32, name: &[u8]) -> Option<()> {
+        let policy = access(self.alloc, self.table)?;
+        self.attach(at, name, policy)
+    }
+
+    /// Attaches four access policies, a rate and a count.
+    pub(crate) fn attach_all(&mut self) -> Option<()> {
+        self.attach_access(0, b"a")?;
+        self.attach_access(1, b"b")?;
+        self.attach_access(2, b"c")?;
+        self.attach_access(3, b"d")?;
+        self.attach(4, b"rate", Policy::Rate(RATE))?;
+        self.attach(5, b"count", Policy::Count)
+    }
+
+    /// Attaches an access policy, a rate that lets a call go at each moment and holds the others, another access policy and
+    /// a count.
+    pub(crate) fn attach_holding(&mut self) -> Option<()> {
+        self.attach_access(0, b"a")?;
+        self.attach(1, b"rate", Policy::Rate(CALL_A_MOMENT))?;
+        self.attach_access(2, b"b")?;
+        self.attach(3, b"count", Policy::Count)
+    }
+
+    /// Puts the rules once more into the first policy, so that all calls go back to it.
+    pub(crate) fn upgrade_first(&mut self) -> Option<()> {
+        let policy = access(self.alloc, self.table)?;
+        self.upgrade(b"a", policy)
+    }
+
+    /// Attaches a policy in the middle of the chain, upgrades it, and detaches it.
+    pub(crate) fn attach_upgrade_detach(&mut self) -> Option<()> {
+        self.attach(3, b"middle", Policy::Count)?;
+        self.upgrade(b"middle", Policy::Count)?;
+        let name = name_of(self.alloc, b"middle")?;
+        self.operate(Op::Detach { name })
+    }
+
+    // ---- calls
+
+    /// Accepts the message so often.
+    pub(crate) fn accept(&mut self, times: u32) -> Option<()> {
+        for _ in 0..times {
+            self.accept_one()?;
+        }
+        Some(())
+    }
+
+    /// Accepts the message.
+    pub(crate) fn accept_one(&mut self) -> Option<()> {
+        if !is_young(&self.conn) {
+            return None;
+        }
+        let ask = Ask {
+            method: 0,
+            number: 0,
+            addr: 2,
+            after: self.words.made(),
+        };
+        let accepted = self.conn.accept(self.alloc, &mut self.words, ask);
+        accepted.is_ok().then_some(())
+    }
+
+    /// Shows a moment, in milliseconds.
+    pub(crate) fn show(&mut self, moment: u64) -> Option<()> {
+        self.conn.clock(self.alloc, moment).ok()
+    }
+
+    /// Has the engines take turns, from the first on, until no call can go on. Nothing is sent.
+    pub(crate) fn judge(&mut self) -> Option<()> {
+        for at in 0..self.conn.chain().engines() {
+            self.turns(at)?;
+        }
+        Some(())
+    }
+
+    fn turns(&mut self, at: u32) -> Option<()> {
+        for _ in 0..MAX_CALLS {
+            if at >= self.conn.chain().engines()
+                || !knows_tenants(self.conn.chain(), &self.tickets)
+            {
+                return None;
+            }
+            match self.conn.turn(at, &mut self.tickets) {
+                Turned::Idle | Turned::Held { .. } => return Some(()),
+                _ => {}
+            }
+        }
+        Some(())
+    }
+
+    /// Has the engines take turns, and sends the calls that are ready.
+    pub(crate) fn drain(&mut self) -> Option<()> {
+        if !knows_tenants(self.conn.chain(), &self.tickets) {
+            return None;
+        }
+        let drained = self
+            .conn
+            .drain(self.alloc, &mut self.tickets, &mut self.link);
+        (drained == Drained::Done).then_some(())
+    }
+
+    // ---- what came of it
+
+    /// How many happenings there are.
+    pub(crate) fn happenings(&self) -> usize {
+        self.conn.history().len()
+    }
+
+    /// How many frames the link was handed.
+    pub(crate) fn frames(&self) -> usize {
+        self.link.handed().len()
+    }
+}

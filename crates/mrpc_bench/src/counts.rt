@@ -1,0 +1,27 @@
+//! The counts that parts are given, and lines of numbers that they print.
+
+use mrpc_table::{Bytes, Memory};
+use std::alloc::Global;
+
+/// The count that the first word says; none where there is no word, or it says none.
+pub(crate) fn count_of(words: &[String]) -> Option<u32> {
+    words.first()?.as_str().parse().ok()
+}
+
+/// A line of numbers; none where no memory was found.
+pub(crate) fn line_of(alloc: Global, numbers: &[u64]) -> Option<Bytes> {
+    let mut line = Bytes::new(alloc);
+    put_line(&mut line, numbers).ok()?;
+    Some(line)
+}
+
+/// Appends a line of numbers.
+pub(crate) fn put_line(lines: &mut Bytes, numbers: &[u64]) -> Result<(), Memory> {
+    if let [first, behind @ ..] = numbers {
+        lines.append_decimal(*first)?;
+        for number in behind {
+            lines.append_word(*number)?;
+        }
+    }
+    lines.append(b"\n")
+}

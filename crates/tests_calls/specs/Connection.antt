@@ -1,0 +1,15 @@
+-- What holds of a connection with its heap and its tickets, whatever it was asked.
+use Rattle.std.specs.Prelude.{◌≡◌, ℕ, ◌<◌, ◌^◌, ◌+◌, All, length}
+use Rattle.call_history.specs.Behind.{taken}
+use Rattle.conn_core.specs.Connections.{Connection, behind}
+
+-- the heap has 16 words, and there is a tenant
+pub record IsScene (size known : ℕ) : Type 0 where
+  pub words : size ≡ 16
+  pub tenant : 0 < known
+
+-- a connection with room in its numbers for another call, another attachment and another version of each entry
+pub record IsYoung (c : Connection) : Type 0 where
+  pub calls : length (taken (behind c)) + 1 < 2 ^ 32
+  pub attachments : c.chain.attached + 1 < 2 ^ 32
+  pub versions : All (λ e. e.entry.version + 1 < 2 ^ 32) c.chain.engines

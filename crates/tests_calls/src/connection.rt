@@ -1,0 +1,301 @@
+//! A connection with its heap, its tickets and its link.
+
+ghost use Rattle.std.specs.Prelude.{◌≡◌, ◌<◌, All};
+ghost use Rattle.std.specs.Bool.{OnTrue};
+ghost use Rattle.mrpc_table.specs.Valid.{IsValid};
+ghost use Rattle.engine_core.specs.Policies.{IsPolicy, KnowsTenantOf};
+ghost use Rattle.conn_core.specs.Steps.{IfPolicy};
+ghost use Rattle.tests_calls.specs.Connection.{IsYoung};
+
+use crate::given::bytes_of;
+use crate::wanting::{NoFrames, NoLoads};
+use call_history::{Record, Refusal};
+use chain_upgrade::{Chain, ChainFault};
+use conn_core::{AcceptFault, Ask, Conn, Drained};
+use engine_core::{Op, Policy};
+use mrpc_base::{MemLink, PlainTickets, PlainWords, Room, Stores};
+use mrpc_table::Table;
+use policy_rate::Rate;
+use std::alloc::Global;
+use std::marker::Model;
+use std::process::Abort;
+
+/// What came of a step of an operator.
+#[derive(Clone, Copy, PartialEq, Eq)]
+pub enum Stepped {
+    Done,
+    NoSuch,
+    Taken,
+    At(u32),
+    ChainFull(u32),
+    OtherKind,
+    Memory,
+}
+
+fn stepped_by(step: &Result<(), ChainFault>) -> Stepped {
+    match step {
+        Ok(()) => Stepped::Done,
+        Err(ChainFault::NoSuch { .. }) => Stepped::NoSuch,
+        Err(ChainFault::Taken { .. }) => Stepped::Taken,
+        Err(ChainFault::At { position }) => Stepped::At(*position),
+        Err(ChainFault::ChainFull { engines }) => Stepped::ChainFull(*engines),
+        Err(ChainFault::OtherKind { .. }) => Stepped::OtherKind,
+        Err(ChainFault::Memory) => Stepped::Memory,
+    }
+}
+
+/// A connection with its heap of 16 words, the tickets of a tenant, and its link. What its calls require is its
+/// invariant or is tried when they run, so that hardly a helper has a clause.
+pub struct Scene<'t> {
+    alloc: Global,
+    words: PlainWords,
+    tickets: PlainTickets,
+    link: MemLink,
+    conn: Conn<'t>,
+}
+
+// By hand, so that a drop is one call where it is needed, and not a drop of each part.
+impl<'t> Drop for Scene<'t> {
+    fn drop(self) {
+        let Scene {
+            alloc: _,
+            words: _words,
+            tickets: _tickets,
+            link: _link,
+            conn: _conn,
+        } = self;
+    }
+}
+
+impl<'t> Model for Scene<'t> {
+    ghost use Rattle.std.specs.Prelude.{ℕ};
+    ghost use Rattle.tests_calls.specs.Connection.{IsScene};
+
+    ghost Value = { ℕ };
+
+    ghost view = { λ s. s.tickets.tenants };
+
+    ghost invariant = { λ s. IsScene s.words.size s.tickets.tenants };
+}
+
+// A history of fewer than 1000 records leaves room in all numbers.
+#[tactic(auto, using(crate::proofs::Young::young))]
+fn assert_young(rt: &impl Abort, conn: &Conn)
+    ensures { IsYoung conn.now }
+{
+    conn.numbers_are_few();
+    assert!(rt; conn.history().len() < 1000);
+}
+
+// Whether a policy is of no other tenant than the first.
+fn knows_tenant(policy: &Policy) -> bool
+    ensures { OnTrue result (KnowsTenantOf (λ t. t ≡ 0) policy.now) }
+{
+    match policy {
+        Policy::Quota { tenant, .. } => *tenant == 0,
+        Policy::Access(_) | Policy::Rate(_) | Policy::Count | Policy::Redact(_) => true,
+    }
+}
+
+// Whether there are tickets of the tenants of all policies.
+fn knows_tenants(chain: &Chain, tickets: &PlainTickets) -> bool
+    requires { 0 < tickets.now.tenants }
+    ensures { OnTrue result (All (λ e. KnowsTenantOf (λ t. t < tickets.now.tenants) e.entry.policy) chain.now.engines) }
+{
+    for at in 0..chain.engines() {
+        if !knows_tenant(chain.engine(at).policy()) {
+            return false;
+        }
+    }
+    true
+}
+
+// A rate of a call a second, and two at once.
+fn slow_rate() -> Policy
+    ensures { IsPolicy result }
+{
+    Policy::Rate(Rate {
+        amount: 1,
+        per: 1000,
+        burst: 2,
+        hold: true,
+    })
+}
+
+// A link whose send of a number fails, counted from 1; none where it is 0.
+fn link_of(rt: &impl Abort, alloc: Global, failing: u64) -> MemLink {
+    let mut sends = Vec::new(alloc);
+    if failing > 0 {
+        sends.push(failing).expect(rt, "memory");
+    }
+    MemLink::new(
+        alloc,
+        Vec::new(alloc),
+        Vec::new(alloc),
+        sends,
+        Vec::new(alloc),
+    )
+}
+
+impl<'t> Scene<'t> {
+    /// A connection without a call, number 1. The link's send of a number fails, counted from 1; none where it is 0.
+    pub fn open(rt: &impl Abort, alloc: Global, table: &'t Table, failing: u64) -> Scene<'t>
+        requires { IsValid table.now }
+    {
+        Scene {
+            alloc,
+            words: PlainWords::open(alloc, 16).expect(rt, "memory"),
+            tickets: PlainTickets::new(alloc, 1).expect(rt, "memory"),
+            link: link_of(rt, alloc, failing),
+            conn: Conn::open(alloc, 1, table, 16384).expect(rt, "memory"),
+        }
+    }
+
+    // ---- calls
+
+    /// Stores a word.
+    pub fn store(&mut self, rt: &impl Abort, place: u64, value: u64) {
+        assert!(rt; 1 <= place && place < self.words.size());
+        assert!(rt; self.words.made() < 1000);
+        assert!(rt; self.words.room_stores(1) == Room::Made);
+        self.words.store(place, value);
+    }
+
+    // A request of the first method with the message at place 2.
+    fn ask(&self) -> Ask {
+        Ask {
+            method: 0,
+            number: 0,
+            addr: 2,
+            after: self.words.made(),
+        }
+    }
+
+    // Submits the message at place 2 as a request of the first method; why it isn't accepted.
+    fn submit(&mut self, rt: &impl Abort) -> Option<AcceptFault> {
+        assert_young(rt, &self.conn);
+        let ask = self.ask();
+        self.conn.accept(self.alloc, &mut self.words, ask).err()
+    }
+
+    /// The message at place 2 is accepted.
+    pub fn accepts(&mut self, rt: &impl Abort) {
+        assert!(rt; self.submit(rt).is_none());
+    }
+
+    /// It isn't, since the link has failed.
+    pub fn has_ended(&mut self, rt: &impl Abort) {
+        assert!(rt; self.conn.ended());
+        assert!(rt; matches!(self.submit(rt), Some(AcceptFault::Ended)));
+    }
+
+    /// It isn't, where the heap's reader finds no memory.
+    pub fn finds_no_memory(&mut self, rt: &impl Abort) {
+        assert_young(rt, &self.conn);
+        let ask = self.ask();
+        let heap = PlainWords::open(self.alloc, 16).expect(rt, "memory");
+        let fault = self
+            .conn
+            .accept(self.alloc, &mut NoLoads { heap }, ask)
+            .err();
+        assert!(rt; matches!(fault, Some(AcceptFault::Memory)));
+    }
+
+    // ---- operators
+
+    // What a step of an operator comes to.
+    fn operate(&mut self, rt: &impl Abort, step: Op) -> Stepped
+        requires { IfPolicy step IsPolicy }
+    {
+        assert_young(rt, &self.conn);
+        stepped_by(&self.conn.operate(self.alloc, step))
+    }
+
+    /// What the attachment of a policy that counts comes to.
+    pub fn attach(&mut self, rt: &impl Abort, at: u32, name: &[u8]) -> Stepped {
+        let step = Op::Attach {
+            at,
+            name: bytes_of(rt, self.alloc, name),
+            label: bytes_of(rt, self.alloc, name),
+            policy: Policy::Count,
+        };
+        self.operate(rt, step)
+    }
+
+    /// What the detachment of the policy of a name comes to.
+    pub fn detach(&mut self, rt: &impl Abort, name: &[u8]) -> Stepped {
+        let name = bytes_of(rt, self.alloc, name);
+        self.operate(rt, Op::Detach { name })
+    }
+
+    /// What it comes to that a rate is put into the entry of a name.
+    pub fn upgrade(&mut self, rt: &impl Abort, name: &[u8]) -> Stepped {
+        let step = Op::Upgrade {
+            name: bytes_of(rt, self.alloc, name),
+            label: bytes_of(rt, self.alloc, name),
+            policy: slow_rate(),
+        };
+        self.operate(rt, step)
+    }
+
+    // ---- sendings
+
+    /// Turns until no call can go on, and then sendings: what they come to.
+    pub fn drain(&mut self, rt: &impl Abort) -> Drained {
+        assert!(rt; knows_tenants(self.conn.chain(), &self.tickets));
+        self.conn
+            .drain(self.alloc, &mut self.tickets, &mut self.link)
+    }
+
+    /// The same to a link that finds no memory.
+    pub fn drain_without_memory(&mut self, rt: &impl Abort) -> Drained {
+        assert!(rt; knows_tenants(self.conn.chain(), &self.tickets));
+        self.conn
+            .drain(self.alloc, &mut self.tickets, &mut NoFrames {})
+    }
+
+    /// Ends the connection.
+    pub fn fail(&mut self) {
+        self.conn.fail();
+    }
+
+    // ---- what came of it
+
+    /// How many records there are.
+    pub fn records(&self) -> usize {
+        self.conn.history().len()
+    }
+
+    // The record at a place.
+    fn record(&self, rt: &impl Abort, place: usize) -> &Record {
+        let history = self.conn.history();
+        assert!(rt; place < history.len());
+        history.at(place)
+    }
+
+    /// The record at a place tells that a call was sent.
+    pub fn tells_sent(&self, rt: &impl Abort, place: usize, number: u32) {
+        let record = self.record(rt, place);
+        assert!(rt; matches!(record, Record::Sent { seq, .. } if *seq == number));
+    }
+
+    /// The record at a place tells that a call was refused, since the link failed.
+    pub fn tells_lost(&self, rt: &impl Abort, place: usize, number: u32) {
+        let record = self.record(rt, place);
+        assert!(rt;
+            matches!(record, Record::Refused { seq, by: Refusal::Transport } if *seq == number)
+        );
+    }
+
+    /// How many frames were handed over.
+    pub fn frames(&self) -> usize {
+        self.link.handed().len()
+    }
+
+    /// This is the frame at a place among them.
+    pub fn hands(&self, rt: &impl Abort, place: usize, frame: &[u8]) {
+        let frames = self.link.handed();
+        assert!(rt; place < frames.len());
+        assert!(rt; frames[place].as_slice() == frame);
+    }
+}

@@ -1,0 +1,37 @@
+//! The tables, names and messages of several tests.
+
+ghost use Rattle.mrpc_table.specs.Valid.{IsValid};
+
+use mrpc_table::{Bytes, FieldValue, Table, Tree, Value};
+use std::alloc::Global;
+use std::process::Abort;
+use table_text::read_table;
+
+/// A message with one number, and a method on it.
+pub const SMALL: &[u8] = b"message M\nfield 1 plain uint64 a\nmethod 0 S Get M M\n";
+
+/// A message with packed numbers, and a method on it.
+pub const NUMBERS: &[u8] = b"message M\nfield 6 packed uint64 n\nmethod 0 S Get M M\n";
+
+/// The table of a text.
+pub fn table_of(rt: &impl Abort, alloc: Global, text: &[u8]) -> Table
+    ensures { IsValid result }
+{
+    read_table(alloc, text).expect(rt, "a table")
+}
+
+/// A copy of bytes, as a name or a frame.
+pub fn bytes_of(rt: &impl Abort, alloc: Global, bytes: &[u8]) -> Bytes {
+    Bytes::from_slice(alloc, bytes).expect(rt, "memory")
+}
+
+/// A message whose field 1 is this number.
+pub fn with_number(rt: &impl Abort, alloc: Global, number: u64) -> Tree {
+    let mut fields = Vec::new(alloc);
+    let field = (1, FieldValue::One(Value::Number(number)));
+    fields.push(field).expect(rt, "memory");
+    Tree { fields }
+}
+
+/// Tests hand their tables over to be dropped here: what a drop comes to is proved in each function that has one.
+pub fn discard_table(_table: Table) {}

@@ -1,0 +1,160 @@
+//! A receiver with its heap, and what its turns tell.
+
+ghost use Rattle.std.specs.Prelude.{◌≤◌};
+
+use frame_transport::FeedFault;
+use mrpc_base::{PlainWords, Stores};
+use mrpc_table::{Bytes, Lines, Memory, Table};
+use policy_access::{Access, read_access};
+use receive_core::{Arrival, DropCause, Inbound};
+use receive_heap::{Block, NotHeld};
+use std::alloc::Global;
+use std::marker::Model;
+use std::process::Abort;
+use std::test::Fail;
+use table_text::read_table;
+
+/// What a turn told, without its tree.
+#[derive(Clone, Copy, PartialEq, Eq)]
+pub enum Told {
+    Nothing,
+    Arrived(u8, Block),
+    Dropped(u32, DropCause),
+    Waiting { need: u64, largest: u64 },
+}
+
+fn without_tree(arrival: &Arrival) -> Told {
+    match arrival {
+        Arrival::None => Told::Nothing,
+        Arrival::Arrived { kind, block, .. } => Told::Arrived(*kind, *block),
+        Arrival::Dropped { number, why, .. } => Told::Dropped(*number, *why),
+        Arrival::Waiting { need, largest } => Told::Waiting {
+            need: *need,
+            largest: *largest,
+        },
+    }
+}
+
+/// A receiver with its heap. What its calls require of it is its invariant, so that none of them has a clause.
+pub struct Scene {
+    table: Table,
+    heap: PlainWords,
+    inbound: Inbound,
+    // How often it was fed or took a turn.
+    calls: u64,
+}
+
+// By hand, so that a drop is one call where it is needed, and not a drop of each part.
+impl Drop for Scene {
+    fn drop(self) {
+        let Scene {
+            table: _table,
+            heap: _heap,
+            inbound: _inbound,
+            calls: _,
+        } = self;
+    }
+}
+
+impl Model for Scene {
+    ghost use Rattle.std.specs.Prelude.{ℕ};
+    ghost use Rattle.tests_calls.specs.Receiver.{Receives};
+
+    ghost Value = { ℕ };
+
+    ghost view = { λ s. s.calls };
+
+    ghost invariant = { λ s. Receives s.table s.heap s.inbound s.calls };
+}
+
+impl Scene {
+    /// The receiver of connection 1 with so many words.
+    pub fn open(rt: &impl Abort, alloc: Global, table: &[u8], words: u64) -> Scene
+        requires least { 4 ≤ words }
+        requires most { words ≤ 65536 }
+    {
+        Scene {
+            table: read_table(alloc, table).expect(rt, "a table"),
+            heap: PlainWords::open(alloc, words).expect(rt, "a heap"),
+            inbound: Inbound::open(alloc, 1, words).expect(rt, "a receiver"),
+            calls: 0,
+        }
+    }
+
+    /// Feeds a piece of a stream, of 1000 bytes at most; whether there is no fault so far.
+    pub fn feed(&mut self, piece: &[u8]) -> bool {
+        self.fault_at(piece).is_none()
+    }
+
+    /// Feeds a piece of a stream, of 1000 bytes at most; the fault that it answers.
+    pub fn fault_at(&mut self, piece: &[u8]) -> Option<FeedFault> {
+        if self.calls > 1000 || piece.len() > 1000 {
+            return Some(FeedFault::Memory);
+        }
+        self.calls += 1;
+        self.inbound.bytes(piece).err()
+    }
+
+    // What one turn tells.
+    fn turn(&mut self, policy: Option<&Access>) -> Result<Told, Memory> {
+        if self.calls > 1000 || self.heap.made() > 1000 {
+            return Err(Memory);
+        }
+        self.calls += 1;
+        Ok(without_tree(&self.inbound.turn(&self.table, policy, &mut self.heap)?))
+    }
+
+    /// One turn without a policy tells this.
+    pub fn tells(&mut self, rt: &impl Abort, expected: Told) {
+        let told = self.turn(None).expect(rt, "a turn");
+        assert!(rt; told == expected);
+    }
+
+    /// One turn under the policy of a line tells this.
+    pub fn tells_under(
+        &mut self,
+        rt: &impl Abort,
+        alloc: Global,
+        line: &[u8],
+        expected: Told,
+    ) -> Result<(), Fail> {
+        let policy = self.policy_of(alloc, line)?;
+        let told = self.turn(Some(&policy)).expect(rt, "a turn");
+        assert!(rt; told == expected);
+        Ok(())
+    }
+
+    /// Takes a block back.
+    pub fn reclaim(&mut self, block: u64) -> Result<(), NotHeld> {
+        self.inbound.reclaim(block)
+    }
+
+    /// The whole frame behind so many others.
+    pub fn waiting(&self, others: u64) -> Option<(u8, u16, u32)> {
+        self.inbound.waiting(others)
+    }
+
+    /// The version and the length of the payload of the hello in front, which is taken.
+    pub fn take_hello(&mut self) -> Option<(u8, usize)> {
+        let hello = self.inbound.take_hello()?;
+        Some((hello.version, hello.payload.len()))
+    }
+
+    /// The version of the first whole frame.
+    pub fn first_version(&self) -> Option<u8> {
+        let first = self.inbound.first()?;
+        Some(first.version)
+    }
+
+    /// How many bytes lie in no whole frame.
+    pub fn rest(&self) -> u64 {
+        self.inbound.rest()
+    }
+
+    // The policy of a line.
+    fn policy_of(&self, alloc: Global, line: &[u8]) -> Result<Access, Fail> {
+        let mut lines = Lines::new(alloc);
+        lines.push(Bytes::from_slice(alloc, line)?)?;
+        Ok(read_access(alloc, &lines, &self.table)?)
+    }
+}

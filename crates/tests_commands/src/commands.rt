@@ -1,0 +1,4 @@
+//! Commands of `mrpc`.
+
+mod replays;
+mod runs;

@@ -1,0 +1,3 @@
+//! Views of `mrpc-view`.
+
+mod frames;

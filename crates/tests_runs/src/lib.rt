@@ -1,0 +1,22 @@
+//! Tests of whole runs over fabrics, clocks and gates of their own: what no clause of a run says, and no case of the
+//! program can show. It has no code of its own, and nothing stands on it.
+#![tactic(auto)]
+
+#[cfg(test)]
+mod ends;
+#[cfg(test)]
+mod gates;
+#[cfg(test)]
+mod lines;
+#[cfg(test)]
+mod prepared;
+#[cfg(test)]
+mod runs;
+#[cfg(test)]
+mod slow;
+#[cfg(test)]
+mod streams;
+#[cfg(test)]
+mod threads;
+#[cfg(test)]
+mod turns;

@@ -1,0 +1,100 @@
+//! A fabric whose peers are prepared: what each end is given stands from the beginning.
+ghost use Rattle.std.specs.Prelude.{◌≡◌, [], false};
+
+use crate::ends::Ends;
+use mrpc_base::{Fabric, MemLink, OpenFault};
+use std::alloc::Global;
+use std::process::Abort;
+
+/// What one end of a link is given, and which of its sends and receives fail, counted from 1.
+#[derive(Drop)]
+pub(crate) struct Prepared {
+    pub bytes: Vec<u8>,
+    pub failing_sends: Vec<u64>,
+    pub failing_receives: Vec<u64>,
+}
+
+impl Prepared {
+    /// An end that is given these bytes, and then the end.
+    pub(crate) fn giving(alloc: Global, bytes: Vec<u8>) -> Prepared {
+        Prepared {
+            bytes,
+            failing_sends: Vec::new(alloc),
+            failing_receives: Vec::new(alloc),
+        }
+    }
+
+    fn into_link(self, alloc: Global) -> MemLink
+        ensures handed { result.handed ≡ [] }
+        ensures given { result.given ≡ [] }
+        ensures ended { result.ended ≡ false }
+        ensures faults { result.faults ≡ 0 }
+    {
+        let Prepared {
+            bytes,
+            failing_sends,
+            failing_receives,
+        } = self;
+        MemLink::new(
+            alloc,
+            bytes,
+            Vec::new(alloc),
+            failing_sends,
+            failing_receives,
+        )
+    }
+}
+
+/// A fabric that opens one link, of these two ends.
+#[derive(Drop)]
+pub(crate) struct PreparedFabric<'r, R> {
+    rt: &'r R,
+    alloc: Global,
+    prepared: Option<(Prepared, Prepared)>,
+    ends: Ends<MemLink>,
+}
+
+impl<'r, R: Abort> PreparedFabric<'r, R> {
+    pub(crate) fn new(
+        rt: &'r R,
+        alloc: Global,
+        first: Prepared,
+        second: Prepared,
+    ) -> PreparedFabric<'r, R> {
+        PreparedFabric {
+            rt,
+            alloc,
+            prepared: Some((first, second)),
+            ends: Ends::new(alloc),
+        }
+    }
+}
+
+impl<'r, R: Abort> Fabric for PreparedFabric<'r, R> {
+    ghost use Rattle.std.specs.Prelude.{⊤};
+
+    type L = MemLink;
+
+    ghost back = { λ f. f.ends.back.items };
+
+    ghost away = { λ f. f.ends.away };
+
+    ghost faults = { λ _. 0 };
+
+    // The ends tell nothing of each other.
+    ghost pair = { λ _ _. ⊤ };
+
+    ghost stays_pair = { λ _ _ _ _ _ _ _. tt };
+
+    fn open_pair(&mut self, _a: u32, _b: u32) -> Result<(MemLink, MemLink), OpenFault> {
+        let Some((first, second)) = self.prepared.take() else {
+            return Err(OpenFault::Memory);
+        };
+        self.ends.count_pair(self.rt);
+        Ok((first.into_link(self.alloc), second.into_link(self.alloc)))
+    }
+
+    fn keep(&mut self, conn: u32, link: MemLink) {
+        self.ends.keep(self.rt, conn, link);
+    }
+}

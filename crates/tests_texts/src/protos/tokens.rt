@@ -1,0 +1,37 @@
+//! A token of each sort, and what a string stands for.
+
+use mrpc_table::Decimal;
+use proto_tokens::{Kind, Token, next_token, string_value};
+
+fn first(text: &[u8]) -> Token {
+    next_token(text, 0, 1)
+}
+
+fn kind_of(text: &[u8]) -> Kind {
+    first(text).kind
+}
+
+#[test]
+fn tokens_have_their_sorts(rt: HostRuntime) {
+    assert!(rt; kind_of(b"_a9.b") == Kind::Identifier);
+    assert!(rt; matches!(kind_of(b"0X1f;"), Kind::Integer(Decimal::Small(31))));
+    assert!(rt; kind_of(b"1.e3-") == Kind::Number);
+    assert!(rt; kind_of(b"'\\x41\\''") == Kind::Text);
+    assert!(rt; kind_of(b"/ /") == Kind::Mark(b'/'));
+    assert!(rt; kind_of(b" \t\r\n// c") == Kind::End);
+    assert!(rt; kind_of(b"1.5f") == Kind::Bad);
+}
+
+#[test]
+fn a_token_has_its_place(rt: HostRuntime) {
+    let token = first(b"/* a\n*/ // b\n  name ");
+    assert!(rt; token.start == 15);
+    assert!(rt; token.end == 19);
+    assert!(rt; token.line == 3);
+}
+
+#[test]
+fn a_string_stands_for_its_bytes(rt: HostRuntime) {
+    let value = string_value(rt.alloc(), b"'\\x4a\\101\\n\\u00e9\\\"'").expect(&rt, "memory");
+    assert!(rt; value.as_slice() == b"JA\n\xc3\xa9\"".as_slice());
+}

@@ -1,0 +1,3 @@
+//! Scenarios: the plan that one says.
+
+mod plans;

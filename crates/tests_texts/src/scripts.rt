@@ -1,0 +1,4 @@
+//! Lines of scripts, and inputs of `audit`.
+
+mod forms;
+mod inputs;

@@ -1,0 +1,25 @@
+//! What the words of a line say.
+
+use mrpc_table::Decimal;
+use script_words::{Judged, Keyword, form_of, judge, keyword_at, name_at, number_at, unbounded_at};
+use std::process::Abort;
+
+fn judged<'a>(rt: &impl Abort, line: &'a [u8]) -> Judged<'a> {
+    let form = form_of(line).expect(rt, "a form");
+    judge(form.sorts(), line).ok().expect(rt, "no fault")
+}
+
+#[test]
+fn words_say_something(rt: HostRuntime) {
+    let words = judged(&rt, b"store 16 99999999999999999999 -9223372036854775808");
+    assert!(rt; number_at(words.as_slice(), 1) == 16);
+    assert!(rt; unbounded_at(words.as_slice(), 2) == Decimal::Large);
+    assert!(rt; number_at(words.as_slice(), 3) == 1 << 63);
+}
+
+#[test]
+fn names_and_keywords_stand_for_themselves(rt: HostRuntime) {
+    let words = judged(&rt, b"policy a rate 1 per 2 burst 3 deny");
+    assert!(rt; name_at(words.as_slice(), 1) == b"a".as_slice());
+    assert!(rt; matches!(keyword_at(words.as_slice(), 8), Some(Keyword::Deny)));
+}

@@ -1,0 +1,4 @@
+// Queues and links between threads.
+mod queues;
+mod talks;
+mod writers;
