@@ -5,9 +5,13 @@ ghost use Rattle.mrpc_base.specs.Faults.{HasCause};
 ghost use Rattle.mrpc_base.specs.Reading.{OnBytes, OnNoBytes};
 ghost use Rattle.mrpc_base.specs.Writing.{OnTook};
 
+use crate::progress::Progress;
+use crate::told::calls_told;
 use mrpc_base::{Got, Put, Sink, Source};
 use mrpc_table::Bytes;
 use std::alloc::Global;
+use std::io::Eprint;
+use std::time::Clock;
 
 /// How the line of a fault begins.
 const FAULT: &[u8] = b"fault ";
@@ -71,32 +75,35 @@ impl<S: Source + Drop> Source for KeptSource<S> {
     }
 }
 
-/// A sink of which the line of a fault is kept. The commands write it in a piece of its own.
+/// A sink of which the line of a fault is kept, and the number of calls that a run tells of. The commands write a fault
+/// in a piece of its own, and a run all that it tells. What is shown of the run is taken away before that.
 #[derive(Drop)]
-pub(crate) struct KeptSink<K: Sink + Drop> {
+pub(crate) struct KeptSink<'r, R, K: Sink + Drop> {
     sink: K,
     alloc: Global,
     fault: Bytes,
+    calls: Option<u64>,
+    progress: &'r Progress<'r, R>,
 }
 
-impl<K: Sink + Drop> KeptSink<K> {
+impl<'r, R: Eprint + Clock, K: Sink + Drop> KeptSink<'r, R, K> {
     /// Nothing was written yet.
-    pub(crate) fn new(alloc: Global, sink: K) -> KeptSink<K> {
+    pub(crate) fn new(alloc: Global, sink: K, progress: &'r Progress<'r, R>) -> KeptSink<'r, R, K> {
         KeptSink {
             sink,
             alloc,
             fault: Bytes::new(alloc),
+            calls: None,
+            progress,
         }
-    }
-
-    /// The line of a fault that was written last; empty where there is none.
-    pub(crate) fn fault(&self) -> &[u8] {
-        self.fault.as_slice()
     }
 
     fn keep(&mut self, piece: &[u8])
         ensures { self.new.sink ≡ self.old.sink }
     {
+        if let Some(calls) = calls_told(piece) {
+            self.calls = Some(calls);
+        }
         if piece.len() > LONGEST || !piece.starts_with(FAULT) {
             return;
         }
@@ -106,7 +113,19 @@ impl<K: Sink + Drop> KeptSink<K> {
     }
 }
 
-impl<K: Sink + Drop> Sink for KeptSink<K> {
+impl<'r, R, K: Sink + Drop> KeptSink<'r, R, K> {
+    /// The line of a fault that was written last; empty where there is none.
+    pub(crate) fn fault(&self) -> &[u8] {
+        self.fault.as_slice()
+    }
+
+    /// How many calls a run told of that was written.
+    pub(crate) fn calls(&self) -> Option<u64> {
+        self.calls
+    }
+}
+
+impl<'r, R: Eprint + Clock, K: Sink + Drop> Sink for KeptSink<'r, R, K> {
     ghost written = { λ s. K.written s.sink };
 
     ghost faults = { λ s. K.faults s.sink };
@@ -119,6 +138,7 @@ impl<K: Sink + Drop> Sink for KeptSink<K> {
         ensures kept { result ≡ Put.Failed → Keeps (K.written self.old.sink) (K.written self.new.sink) }
         ensures cause { HasCause (result ≡ Put.Failed) (K.faults self.old.sink) (K.faults self.new.sink) }
     {
+        self.progress.clear();
         let put = self.sink.write(piece);
         self.keep(piece);
         put

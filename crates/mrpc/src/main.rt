@@ -1,22 +1,29 @@
 //! The program `mrpc`: the words of the command line, standard input, standard output, the file `mrpc.wire`, links over
 //! TCP and the clock handed to the top call, whose answer is the exit status.
 //!
-//! It stands on `system_io`, which makes a source, sinks and a clock of the system's, on `tcp_fabric` for the links, on
-//! `mrpc_top`, which does all the work, and on `explain`, which says on standard error what stands against a faulty
-//! input.
+//! It stands on `system_io`, which makes a source, sinks and a clock of the system's, on `tcp_fabric` for the links and
+//! `link_tally` for the counts of their frames, on `mrpc_top`, which does all the work, and on `explain`, which says on
+//! standard error what stands against a faulty input.
 #![tactic(auto)]
 
 mod command_line;
 mod kept;
+mod progress;
+mod told;
 mod usage;
 
 use command_line::{Asked, WordsFault, asked_alone, words};
 use explain::{explained, no_command};
 use kept::{KeptSink, KeptSource};
-use mrpc_base::{OpenGate, Sink, Source, write_all};
-use mrpc_top::{DONE, FAULTY_INPUT, NO_COMMAND, NO_MEMORY, OUTPUT_FAILED, run_command};
+use link_tally::TallyFabric;
+use mrpc_base::{Fabric, Sink, Source, write_all};
+use mrpc_top::{
+    DONE, FAULTY_INPUT, LINK_FAILED, NO_COMMAND, NO_MEMORY, OUTPUT_FAILED, run_command,
+};
+use progress::Progress;
 use std::alloc::Global;
 use std::env::Env;
+use std::io::{Eprint, IsTerminal};
 use std::net::{Net, TcpListener, TcpStream};
 use std::process::ExitCode;
 use std::rt::Files;
@@ -32,83 +39,129 @@ const VERSION: &str = "mrpc 0.1.0\n";
 /// How many bytes of a line of the input are shown beside its fault.
 const WIDTH: usize = 100;
 
+/// What is said of a faulty input where there is no memory to say more.
+const SEE_FAULT: &str = "mrpc: the input has a fault, which the last line of the output names\n";
+
 fn main(rt: HostRuntime) -> ExitCode {
-    let mut input = KeptSource::new(rt.alloc(), StandardInput::new(rt.stdin()));
-    let mut out = KeptSink::new(rt.alloc(), StandardOutput::new(rt.stdout()));
     let mut error = StandardOutput::new(rt.stderr());
-    let status = exit_status(&rt, &mut input, &mut out, &mut error);
-    say_status(rt.alloc(), status, &mut error);
-    ExitCode::from(status)
+    let Ok(progress) = Progress::new(&rt, rt.alloc(), rt.stderr().is_terminal()) else {
+        return ExitCode::from(say_status(rt.alloc(), NO_MEMORY, false, &mut error));
+    };
+    let mut input = KeptSource::new(rt.alloc(), StandardInput::new(rt.stdin()));
+    let mut out = KeptSink::new(rt.alloc(), StandardOutput::new(rt.stdout()), &progress);
+    ExitCode::from(exit_status(&rt, &mut input, &mut out, &mut error, &progress))
 }
 
-// Does what the command line asks for, and gives its status.
+// Does what the command line asks for, says how it ended, and gives its status.
 fn exit_status<R, S: Source + Drop, K: Sink + Drop, E: Sink>(
     rt: &R,
     input: &mut KeptSource<S>,
-    out: &mut KeptSink<K>,
+    out: &mut KeptSink<'_, R, K>,
     error: &mut E,
+    progress: &Progress<'_, R>,
 ) -> u8
 where
-    R: Threads + Wait + Sync + Clock + Files + Env + AllocGlobal,
+    R: Threads + Wait + Sync + Clock + Files + Env + Eprint + AllocGlobal,
     R: Net<Stream = TcpStream, Listener = TcpListener>,
     R::File: Lock,
 {
     let words = match words(rt) {
         Ok(words) => words,
-        Err(WordsFault::NotText) => return NO_COMMAND,
-        Err(WordsFault::Memory) => return NO_MEMORY,
+        Err(WordsFault::NotText) => return say_status(rt.alloc(), NO_COMMAND, false, error),
+        Err(WordsFault::Memory) => return say_status(rt.alloc(), NO_MEMORY, false, error),
     };
     if let Some(asked) = asked_alone(&words) {
-        return answer(rt.alloc(), asked, out);
+        let status = answer(rt.alloc(), asked, out);
+        return say_status(rt.alloc(), status, false, error);
     }
-    let status = run_words(rt, &words, input, out);
+    let status = run_words(rt, &words, input, out, progress);
+    progress.clear();
     match words.first() {
         Some(word) if status == FAULTY_INPUT => tell(rt.alloc(), word, input, out, error),
         Some(_) if status == NO_COMMAND => say_words(rt.alloc(), &words, error),
+        Some(_) if status == DONE || status == LINK_FAILED => {
+            if let Some(calls) = out.calls() {
+                progress.close(calls);
+            }
+        }
         _ => {}
     }
-    status
+    say_status(rt.alloc(), status, runs(&words), error)
+}
+
+// Whether it is a run that the words name, if they name a command that sends.
+fn runs(words: &[String]) -> bool {
+    match words.first() {
+        Some(word) => word.as_str() != "replay",
+        None => false,
+    }
 }
 
 // Runs the command that the words name, with the file `mrpc.wire`, over links of 127.0.0.1, by the clock of the system, and
 // gives its status.
-fn run_words<R, S: Source, K: Sink>(rt: &R, words: &Vec<String>, input: &mut S, out: &mut K) -> u8
+fn run_words<R, S: Source, K: Sink>(
+    rt: &R,
+    words: &Vec<String>,
+    input: &mut S,
+    out: &mut K,
+    progress: &Progress<'_, R>,
+) -> u8
 where
-    R: Threads + Wait + Sync + Clock + Files + AllocGlobal,
+    R: Threads + Wait + Sync + Clock + Files + Eprint + AllocGlobal,
     R: Net<Stream = TcpStream, Listener = TcpListener>,
     R::File: Lock,
 {
-    let alloc = rt.alloc();
+    let fabric = TcpFabric::new(rt, rt.alloc(), Loopback::new(rt));
+    run_counted(rt, words, input, out, fabric, progress)
+}
+
+// The same over links of a fabric, whose frames are counted.
+fn run_counted<R, S: Source, K: Sink, F: Fabric + Drop>(
+    rt: &R,
+    words: &Vec<String>,
+    input: &mut S,
+    out: &mut K,
+    fabric: F,
+    progress: &Progress<'_, R>,
+) -> u8
+where
+    R: Threads + Wait + Sync + Clock + Files + Eprint + AllocGlobal,
+    R::File: Lock,
+{
+    let Ok(tally) = progress.tally().try_clone() else {
+        return NO_MEMORY;
+    };
     let mut wire = FileSink::new(rt);
-    let mut fabric = TcpFabric::new(rt, alloc, Loopback::new(rt));
+    let mut fabric = TallyFabric::new(fabric, tally);
     let clock = SystemClock::new(rt);
     run_command(
         rt,
-        alloc,
+        rt.alloc(),
         words,
         input,
         out,
         &mut wire,
         &mut fabric,
         &clock,
-        &OpenGate,
+        progress,
     )
 }
 
-// Writes on standard error what stands against the input. Where there is no memory for that, nothing is said.
-fn tell<S: Source + Drop, K: Sink + Drop, E: Sink>(
+// Writes on standard error what stands against the input. Where there is no memory for that, it says where to look.
+fn tell<R, S: Source + Drop, K: Sink + Drop, E: Sink>(
     alloc: Global,
     word: &String,
     input: &KeptSource<S>,
-    out: &KeptSink<K>,
+    out: &KeptSink<'_, R, K>,
     error: &mut E,
 ) {
-    let Some(text) = input.kept() else {
-        return;
-    };
-    if let Ok(lines) = explained(alloc, word.as_bytes(), text, out.fault(), WIDTH) {
-        write_all(error, lines.as_slice());
+    if let Some(text) = input.kept() {
+        if let Ok(lines) = explained(alloc, word.as_bytes(), text, out.fault(), WIDTH) {
+            write_all(error, lines.as_slice());
+            return;
+        }
     }
+    write_all(error, SEE_FAULT.as_bytes());
 }
 
 // Writes on standard error which words are no command. Where there is no memory for that, nothing is said.
@@ -130,15 +183,16 @@ fn answer<K: Sink>(alloc: Global, asked: Asked, out: &mut K) -> u8 {
     if written { DONE } else { OUTPUT_FAILED }
 }
 
-// Writes on standard error why the command ended so: the usage text where the words are no command, and what failed
-// where something did. Where that can't be written, nothing more is said.
-fn say_status<K: Sink>(alloc: Global, status: u8, error: &mut K) {
+// Writes on standard error why the command ended so: the usage text where the words are no command, and what failed, of
+// a run or not, where something did. Where that can't be written, nothing more is said. It gives the status.
+fn say_status<K: Sink>(alloc: Global, status: u8, is_run: bool, error: &mut K) -> u8 {
     if status == NO_COMMAND {
         if let Ok(text) = usage(alloc) {
             write_all(error, text.as_bytes());
         }
     }
-    if let Some(text) = failure(status) {
+    if let Some(text) = failure(status, is_run) {
         write_all(error, text.as_bytes());
     }
+    status
 }

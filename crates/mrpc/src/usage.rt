@@ -1,7 +1,7 @@
 // What the program says on standard error.
 
 use clap::Command;
-use mrpc_top::{FABRIC_FAILED, INPUT_FAILED, NO_MEMORY, OUTPUT_FAILED, WIRE_FAILED};
+use mrpc_top::{FABRIC_FAILED, INPUT_FAILED, NO_COMMAND, NO_MEMORY, OUTPUT_FAILED, WIRE_FAILED};
 use std::alloc::{AllocError, Global};
 
 const USAGE: &str = "mrpc [COMMAND | --help | --version]";
@@ -10,6 +10,14 @@ const BEHIND: &str = "\
 Options:
   --help     Print this text
   --version  Print the version
+
+Input is standard input; the launcher ./mrpc also takes a file behind a command:
+  mrpc replay < examples/one-call.replay
+  mrpc decode < examples/pets.decode
+  mrpc check < examples/address-book.proto
+  mrpc audit < examples/late-write-audited.audit
+  mrpc run < examples/scenarios/first-run.toml
+  mrpc drill 64
 
 Exit status:
   0  the work is done
@@ -21,50 +29,71 @@ Exit status:
   6  the file mrpc.wire could not be written, or a link of a run failed
   7  a link of a run could not be opened";
 
-/// The usage text of the program, with its commands and exit statuses.
+/// The commands, with what each does.
+const COMMANDS: [(&str, &str); 6] = [
+    (
+        "replay",
+        "Plays a script; writes its audit, and its frames into mrpc.wire",
+    ),
+    (
+        "decode",
+        "Reads a table and frames; writes what each frame means",
+    ),
+    (
+        "check",
+        "Reads a proto file, or a set of them; writes its table",
+    ),
+    (
+        "audit",
+        "Reads an audit; writes whether its history is legal",
+    ),
+    (
+        "run",
+        "Runs a scenario in threads; writes what became of its calls",
+    ),
+    (
+        "drill N",
+        "Runs 4 clients of N calls each, N from 1 to 2048; writes counts",
+    ),
+];
+
+/// The usage text of the program, with an example of each command, and the exit statuses. It fits a screen.
 pub(crate) fn usage(alloc: Global) -> Result<String, AllocError> {
-    let replay = Command::new(alloc, "replay").about(
-        "Reads a script from standard input, and writes its audit and the frames that were sent",
-    );
-    let decode = Command::new(alloc, "decode").about(
-        "Reads a table and frames from standard input, and writes a line for each frame",
-    );
-    let check = Command::new(alloc, "check").about(
-        "Reads a proto file, or a set of them, from standard input, and writes its table",
-    );
-    let audit = Command::new(alloc, "audit").about(
-        "Reads an audit from standard input, and writes whether its history is legal",
-    );
-    let run = Command::new(alloc, "run").about(
-        "Reads a scenario from standard input, runs it in threads, and writes what became of its calls",
-    );
-    let drill = Command::new(alloc, "drill N").about(
-        "Runs four clients with N calls each, N from 1 to 2048, and writes how many were taken and sent",
-    );
     let mut program = Command::new(alloc, "mrpc")
         .override_usage(USAGE)
         .disable_help_subcommand(true)
         .disable_help_flag(true)
-        .after_help(BEHIND)
-        .subcommand(replay)?
-        .subcommand(decode)?
-        .subcommand(check)?
-        .subcommand(audit)?
-        .subcommand(run)?
-        .subcommand(drill)?;
+        .after_help(BEHIND);
+    for (name, about) in COMMANDS {
+        program = program.subcommand(Command::new(alloc, name).about(about))?;
+    }
     program.render_help()
 }
 
-/// What failed, for the statuses that say that something did.
-pub(crate) fn failure(status: u8) -> Option<&'static str> {
+/// What failed, of a run or of another command, and what to do about it, for the statuses that say that something did.
+pub(crate) fn failure(status: u8, is_run: bool) -> Option<&'static str> {
     match status {
-        NO_MEMORY => Some("mrpc: out of memory\n"),
-        INPUT_FAILED => Some("mrpc: standard input could not be read\n"),
-        OUTPUT_FAILED => Some("mrpc: standard output could not be written\n"),
-        WIRE_FAILED => Some(
-            "mrpc: the file mrpc.wire could not be written, or a link of the run failed\n",
+        NO_COMMAND => Some(
+            "mrpc: give one of these commands alone, and its input as in the examples\n",
         ),
-        FABRIC_FAILED => Some("mrpc: a link of the run could not be opened\n"),
+        NO_MEMORY => Some(
+            "mrpc: out of memory; let the program have more (ulimit -v), or give a smaller input\n",
+        ),
+        INPUT_FAILED => Some(
+            "mrpc: standard input could not be read; give a file or a pipe, as in: mrpc replay < FILE\n",
+        ),
+        OUTPUT_FAILED => Some(
+            "mrpc: standard output could not be written; see that there is room, and that its reader goes on\n",
+        ),
+        WIRE_FAILED if is_run => Some(
+            "mrpc: a link of the run failed; what the run came to was written: look there, or run it again\n",
+        ),
+        WIRE_FAILED => Some(
+            "mrpc: the file mrpc.wire could not be written; see that this folder may be written and has room, and that no other replay runs in it\n",
+        ),
+        FABRIC_FAILED => Some(
+            "mrpc: a link of the run could not be opened; see that 127.0.0.1 can be reached, and that enough files may be open (ulimit -n)\n",
+        ),
         _ => None,
     }
 }
