@@ -3,7 +3,8 @@
 //   LD_PRELOAD=refuse.so REFUSE_KIND=KIND REFUSE_NUMBER=N REFUSED=FILE PROGRAM WORD..
 //
 // Of the calls of a kind the N-th fails, counted from 1, as it would where there is no memory or a device fails. FILE
-// is made where that call came. KIND is one of these, by its first letter:
+// is made where that call came. The file that STARTED names gets a byte for each thread that was started. KIND is one of
+// these, by its first letter:
 //
 //   memory     malloc, calloc, realloc
 //   input      read of standard input
@@ -13,8 +14,10 @@
 //   sends      write, writev, send on a socket
 //   receives   read, recv of a socket
 #define _GNU_SOURCE
+#include <dlfcn.h>
 #include <errno.h>
 #include <fcntl.h>
+#include <pthread.h>
 #include <stdarg.h>
 #include <stddef.h>
 #include <stdlib.h>
@@ -31,7 +34,7 @@ void *__libc_realloc(void *, size_t);
 
 static char kind;
 static long left;
-static const char *mark;
+static const char *mark, *threads;
 
 // What the loader and the C library allocate before isn't the program's.
 __attribute__((constructor)) static void begin(void) {
@@ -39,12 +42,19 @@ __attribute__((constructor)) static void begin(void) {
     mark = getenv("REFUSED");
     left = number ? atol(number) : 0;
     kind = which && mark ? which[0] : 0;
+    threads = getenv("STARTED");
+}
+
+static void append(const char *path, size_t count) {
+    long file = syscall(SYS_openat, AT_FDCWD, path, O_WRONLY | O_CREAT | O_APPEND, 0600);
+    if (file < 0) return;
+    syscall(SYS_write, file, "x", count);
+    syscall(SYS_close, file);
 }
 
 static int is_refused(char which, int error) {
     if (which != kind || __atomic_sub_fetch(&left, 1, __ATOMIC_RELAXED) != 0) return 0;
-    long file = syscall(SYS_openat, AT_FDCWD, mark, O_WRONLY | O_CREAT, 0600);
-    if (file >= 0) syscall(SYS_close, file);
+    append(mark, 0);
     errno = error;
     return 1;
 }
@@ -59,6 +69,13 @@ void *calloc(size_t count, size_t size) {
 
 void *realloc(void *old, size_t size) {
     return is_refused('m', ENOMEM) ? NULL : __libc_realloc(old, size);
+}
+
+int pthread_create(pthread_t *thread, const pthread_attr_t *how, void *(*body)(void *), void *given) {
+    int (*create)(pthread_t *, const pthread_attr_t *, void *(*)(void *), void *) = dlsym(RTLD_NEXT, "pthread_create");
+    int error = create(thread, how, body, given);
+    if (error == 0 && threads) append(threads, 1);
+    return error;
 }
 
 static int is_socket(int file) {
