@@ -6,8 +6,8 @@ use descriptor_ring::{
     Descriptor, Full, NumberReceiver, NumberSender, NumberTaken, NumbersSent, Receiver, Sender,
     Sent, Taken,
 };
+use pauses::Pauses;
 use std::sync::Wait;
-use std::thread;
 use stop_flag::StopFlag;
 
 // The stop flag was seen set.
@@ -28,6 +28,7 @@ pub(crate) fn send<R: Wait, F: StopFlag>(
     ensures ring { sender.new.ring ≡ sender.old.ring }
     ensures heap { sender.new.heap ≡ sender.old.heap }
 {
+    let mut pauses = Pauses::new();
     for _ in rt.forever() {
         match sender.send(rt, descriptor) {
             Ok(()) => return Ok(()),
@@ -36,7 +37,7 @@ pub(crate) fn send<R: Wait, F: StopFlag>(
         if stop.is_set() {
             return Err(Stopped);
         }
-        thread::yield_now();
+        pauses.pause(rt);
     }
     unreachable!()
 }
@@ -60,6 +61,7 @@ pub(crate) fn close<R: Wait, F: StopFlag>(
     ensures sent { IfOk result (λ sent. (sent.items ≡ sender.sent) × (sent.ring ≡ sender.ring)) }
     ensures seen { OnErr result (F.may_be_set stop.now) }
 {
+    let mut pauses = Pauses::new();
     for _ in rt.forever() {
         match sender.close(rt) {
             Ok(sent) => return Ok(sent),
@@ -68,7 +70,7 @@ pub(crate) fn close<R: Wait, F: StopFlag>(
         if stop.is_set() {
             return Err(Stopped);
         }
-        thread::yield_now();
+        pauses.pause(rt);
     }
     unreachable!()
 }
@@ -85,6 +87,7 @@ pub(crate) fn reclaim<R: Wait, F: StopFlag>(
     ensures seen { OnErr result (F.may_be_set stop.now) }
     ensures ring { reclaims.new.ring ≡ reclaims.old.ring }
 {
+    let mut pauses = Pauses::new();
     for _ in rt.forever() {
         match reclaims.send(rt, block) {
             Ok(()) => return Ok(()),
@@ -93,7 +96,7 @@ pub(crate) fn reclaim<R: Wait, F: StopFlag>(
         if stop.is_set() {
             return Err(Stopped);
         }
-        thread::yield_now();
+        pauses.pause(rt);
     }
     unreachable!()
 }
@@ -107,6 +110,7 @@ pub(crate) fn close_reclaims<R: Wait, F: StopFlag>(
     ensures sent { IfOk result (λ sent. (sent.items ≡ reclaims.sent) × (sent.ring ≡ reclaims.ring)) }
     ensures seen { OnErr result (F.may_be_set stop.now) }
 {
+    let mut pauses = Pauses::new();
     for _ in rt.forever() {
         match reclaims.close(rt) {
             Ok(sent) => return Ok(sent),
@@ -115,7 +119,7 @@ pub(crate) fn close_reclaims<R: Wait, F: StopFlag>(
         if stop.is_set() {
             return Err(Stopped);
         }
-        thread::yield_now();
+        pauses.pause(rt);
     }
     unreachable!()
 }
@@ -135,6 +139,7 @@ pub(crate) fn next_notice<R: Wait, F: StopFlag>(
     ensures ring { notices.new.ring ≡ notices.old.ring }
     ensures heap { notices.new.heap ≡ notices.old.heap }
 {
+    let mut pauses = Pauses::new();
     for _ in rt.forever() {
         match notices.take(rt) {
             Taken::Item(notice) => return Ok(Some(notice)),
@@ -144,7 +149,7 @@ pub(crate) fn next_notice<R: Wait, F: StopFlag>(
         if stop.is_set() {
             return Err(Stopped);
         }
-        thread::yield_now();
+        pauses.pause(rt);
     }
     unreachable!()
 }
@@ -161,6 +166,7 @@ pub(crate) fn next_block<R: Wait, F: StopFlag>(
     ensures seen { OnErr result (F.may_be_set stop.now) }
     ensures ring { blocks.new.ring ≡ blocks.old.ring }
 {
+    let mut pauses = Pauses::new();
     for _ in rt.forever() {
         match blocks.take(rt) {
             NumberTaken::Item(number) => return Ok(Some(number)),
@@ -170,7 +176,7 @@ pub(crate) fn next_block<R: Wait, F: StopFlag>(
         if stop.is_set() {
             return Err(Stopped);
         }
-        thread::yield_now();
+        pauses.pause(rt);
     }
     unreachable!()
 }

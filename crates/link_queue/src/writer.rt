@@ -1,4 +1,4 @@
-ghost use Rattle.std.specs.Prelude.{◌≡◌, ◌<◌, IfOk, length, true, false};
+ghost use Rattle.std.specs.Prelude.{◌≡◌, ◌<◌, ◌≤◌, IfOk, length, take, true, false};
 ghost use Rattle.one_way_queue.specs.Ends.{put_of, taken_of};
 ghost use Rattle.link_queue.specs.Inners.{passed_on};
 ghost use Rattle.link_queue.specs.Marks.{PassesOn, BringsBack};
@@ -9,12 +9,16 @@ use crate::marks::{Health, News, Order};
 use mrpc_base::Link;
 use mrpc_table::Bytes;
 use one_way_queue::{Consumer, Piece, Producer};
+use pauses::Pauses;
 use std::alloc::{AllocError, Global};
+use std::mem;
 use std::sync::Wait;
-use std::{mem, thread};
 
 // How many bytes a receive takes at most.
 const MOST_BYTES: usize = 4096;
+
+// How many orders are followed in a row at most, before it looks for what comes.
+const MOST_ORDERS: usize = 64;
 
 /// What passes the frames of a queue on to the inner link, in a thread of its own.
 pub struct QueueWriter<'r, R, L: Link> {
@@ -92,31 +96,49 @@ impl<'r, R: Wait, L: Link> QueueWriter<'r, R, L> {
     {
         let rt = self.rt;
         let mut writer = self;
+        let mut pauses = Pauses::new();
         for _ in rt.forever() {
             if writer.closed {
                 return writer.end();
             }
-            if !writer.turn() {
-                thread::yield_now();
+            if writer.turn() {
+                pauses.reset();
+            } else {
+                pauses.pause(rt);
             }
         }
         unreachable!()
     }
 
-    // Passes on what comes from the link, and what comes for it, and answers whether anything came from the link.
+    // Passes on what comes from the link, and what comes for it, and answers whether anything came.
     fn turn(&mut self) -> bool
         requires { self.old.closed ≡ false }
         ensures start { writer_start self.new ≡ writer_start self.old }
         ensures forward { writer_forward self.new ≡ writer_forward self.old }
         ensures backward { writer_backward self.new ≡ writer_backward self.old }
     {
-        let busy = self.follow();
-        if !self.closed {
-            self.bring();
-            self.tell();
-            self.receive();
+        let followed = self.follow_some();
+        if self.closed {
+            return followed;
         }
-        busy
+        self.bring();
+        self.tell();
+        self.receive() || followed
+    }
+
+    // Follows the orders that wait, as many as it may in a row, and answers whether there was one.
+    fn follow_some(&mut self) -> bool
+        requires { self.old.closed ≡ false }
+        ensures start { writer_start self.new ≡ writer_start self.old }
+        ensures forward { writer_forward self.new ≡ writer_forward self.old }
+        ensures backward { writer_backward self.new ≡ writer_backward self.old }
+    {
+        for count in 0..MOST_ORDERS {
+            if self.closed || !self.follow() {
+                return count > 0;
+            }
+        }
+        true
     }
 
     // Follows the next order, and answers whether there was one.
@@ -189,21 +211,22 @@ impl<'r, R: Wait, L: Link> QueueWriter<'r, R, L> {
         }
     }
 
-    // Receives once, unless it holds something or nothing comes any more.
-    fn receive(&mut self)
+    // Receives once, unless it holds something or nothing comes any more, and answers whether bytes or the end came.
+    fn receive(&mut self) -> bool
         ensures closed { self.new.closed ≡ self.old.closed }
         ensures start { writer_start self.new ≡ writer_start self.old }
         ensures forward { writer_forward self.new ≡ writer_forward self.old }
         ensures backward { writer_backward self.new ≡ writer_backward self.old }
     {
         if self.inner.health != Health::Working || self.inner.ended || self.held.is_some() {
-            return;
+            return false;
         }
         let kept = mem::replace(&mut self.buffer, Vec::new(self.alloc));
         match with_room(self.alloc, kept) {
             Ok(buffer) => self.take_bytes(buffer),
             Err(_) => self.inner.health = Health::Memory,
         }
+        self.held.is_some()
     }
 
     // Receives into the buffer, and holds what came.
@@ -219,8 +242,9 @@ impl<'r, R: Wait, L: Link> QueueWriter<'r, R, L> {
     {
         let count = self.inner.receive(buffer.as_mut_slice());
         if count > 0 {
-            buffer.truncate(count);
-            self.held = Some(Piece::Bytes(Bytes::from_vec(buffer)));
+            let (piece, left) = piece_of(self.alloc, buffer, count);
+            self.buffer = left;
+            self.held = Some(Piece::Bytes(piece));
         } else {
             self.buffer = buffer;
             if self.inner.ended {
@@ -248,6 +272,20 @@ impl<'r, R: Wait, L: Link> QueueWriter<'r, R, L> {
             closed: _,
         } = self;
         WriterEnd::new(inner, orders, out)
+    }
+}
+
+// The first bytes of a buffer as a piece of their own, and the buffer. Without memory for a copy the buffer is the piece.
+fn piece_of(alloc: Global, mut buffer: Vec<u8>, count: usize) -> (Bytes, Vec<u8>)
+    requires within { count ≤ length buffer.items }
+    ensures piece { result.0 ≡ take count buffer.items }
+{
+    match Bytes::from_slice(alloc, &buffer[..count]) {
+        Ok(copy) => (copy, buffer),
+        Err(_) => {
+            buffer.truncate(count);
+            (Bytes::from_vec(buffer), Vec::new(alloc))
+        }
     }
 }
 

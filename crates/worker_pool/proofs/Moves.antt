@@ -52,7 +52,7 @@ module _ {T : Type 0} where
 
 module _ {T : Type 0} (since : T → T → Type 0) where
   one_more : (firsts more : List T) (x : Numbered T) → IsOneOf since firsts x → IsOneOf since (firsts ++ more) x
-  one_more firsts more x h = get_more firsts more x.number (λ first. IsLater since first x.item) h
+  one_more firsts more x h = get_more firsts more x.number (λ first. IsLater since first x.item.value) h
 
   pub begins : IsPooled since [] (hand all_parts [] [] ∷ [])
   begins = record {
@@ -102,28 +102,28 @@ module _ {T : Type 0} (since : T → T → Type 0) where
       (same_once h.firsts _ _ (ap (λ l. l ++ numbers_of items) alone) h.once)
 
   pub enters : (n pass : ℕ) (v : Hand T) (x : Numbered T) → v.parts ≡ all_parts → x.number ≡ length v.firsts → length v.firsts < MOST_ITEMS
-      → Pushes (IsPooled since) n pass v x (λ w. w ≡ hand v.parts v.held (v.firsts ++ x.item ∷ []))
+      → Pushes (IsPooled since) n pass v x (λ w. w ≡ hand v.parts v.held (v.firsts ++ x.item.value ∷ []))
   enters n pass v x all next few items views _ h at =
-      let w : Hand T = hand v.parts v.held (v.firsts ++ x.item ∷ []) in
+      let w : Hand T = hand v.parts v.held (v.firsts ++ x.item.value ∷ []) in
       let same : v.firsts ≡ h.firsts = (h.passes pass v at).knows (omega (arith, all)) in
-      let firsts : List T = h.firsts ++ x.item ∷ [] in
+      let firsts : List T = h.firsts ++ x.item.value ∷ [] in
       let number : x.number ≡ length h.firsts = next ∙ ap length same in
       let out : numbers_out (set views pass w) ≡ numbers_out views = out_same (λ (u : Hand T). u.held) views pass v w at refl in
       let queue : numbers_of (items ++ x ∷ []) ≡ numbers_of items ++ x.number ∷ [] = map-append (λ (y : Numbered T). y.number) items (x ∷ []) in
       let list : (numbers_out views ++ numbers_of items) ++ x.number ∷ [] ≡ numbers_out (set views pass w) ++ numbers_of (items ++ x ∷ [])
       = append_assoc (numbers_out views) (numbers_of items) (x.number ∷ []) ∙ (λ i. sym out i ++ sym queue i) in
-      let long : length firsts ≡ length v.firsts + 1 = length-append h.firsts (x.item ∷ []) ∙ ap (λ (l : List T). length l + 1) (sym same) in
+      let long : length firsts ≡ length v.firsts + 1 = length-append h.firsts (x.item.value ∷ []) ∙ ap (λ (l : List T). length l + 1) (sym same) in
       let sums = sum_set (λ (u : Hand T). u.parts) views pass v w at in
       let whole = h.parts in (
         w,
         record {
           firsts = firsts;
-          once = same_once firsts _ _ list (once_more h.firsts x.item x.number _ number h.once);
-          queued = every_append (IsOneOf since firsts) items (x ∷ []) (every_implies (IsOneOf since h.firsts) (IsOneOf since firsts) (one_more h.firsts (x.item ∷ [])) items h.queued)
-              (get_here h.firsts x.item [] x.number (λ first. IsLater since first x.item) number (λ first since_first. since_first), tt);
+          once = same_once firsts _ _ list (once_more h.firsts x.item.value x.number _ number h.once);
+          queued = every_append (IsOneOf since firsts) items (x ∷ []) (every_implies (IsOneOf since h.firsts) (IsOneOf since firsts) (one_more h.firsts (x.item.value ∷ [])) items h.queued)
+              (get_here h.firsts x.item.value [] x.number (λ first. IsLater since first x.item.value) number (λ first since_first. since_first), tt);
           few = omega (arith, long, few);
           parts = omega (arith, sums, whole);
-          passes = fits_set firsts views pass w (record { knows = λ _. ap (λ l. l ++ x.item ∷ []) same; idle = λ none. absurd (omega (arith, none, all)) })
+          passes = fits_set firsts views pass w (record { knows = λ _. ap (λ l. l ++ x.item.value ∷ []) same; idle = λ none. absurd (omega (arith, none, all)) })
               (λ j u other e. let none : u.parts ≡ 0 = others_none (λ (y : Hand T). y.parts) views pass v at (all ∙ sym h.parts) j u e other in
               record { knows = λ some_part. absurd (omega (arith, none, some_part)); idle = (h.passes j u e).idle });
         },

@@ -117,7 +117,7 @@ module _ {T : Type 0} where
   pub every_permutation : (P : Numbered T → Type 0) (xs ys : List (Numbered T)) → IsPermutation xs ys → Every P xs → Every P ys
   every_permutation P xs ys same p = every_from_all P ys (All-permutation P xs ys same (all_from_every P xs p))
 
-  pub all_of_items : (P : T → Type 0) (xs : List (Numbered T)) → Every (λ x. P x.item) xs → All P (map (λ x. x.item) xs)
+  pub all_of_items : (P : T → Type 0) (xs : List (Numbered T)) → Every (λ x. P x.item.value) xs → All P (map (λ x. x.item.value) xs)
   all_of_items P [] p k d lt = absurd (omega (arith, lt))
   all_of_items P (x ∷ xs) p zero d lt = p.0
   all_of_items P (x ∷ xs) p (suc k) d lt = all_of_items P xs p.1 k d (omega (arith, lt))
@@ -134,7 +134,7 @@ module _ {T : Type 0} where
   module _ (since : T → T → Type 0) where
     -- items with the numbers from so many on are those that were handed in behind so many
     placed : (before firsts : List T) (xs : List (Numbered T)) (a : ℕ) → a ≡ length before → numbers_of xs ≡ range_with_len a (length firsts) → Every (IsOneOf since (before ++ firsts)) xs
-        → AllZip (IsLater since) firsts (map (λ x. x.item) xs)
+        → AllZip (IsLater since) firsts (map (λ x. x.item.value) xs)
     placed before [] [] a at numbers ones = tt
     placed before [] (x ∷ xs) a at numbers ones = let e = ap length numbers in absurd (omega (arith, e))
     placed before (f ∷ fs) [] a at numbers ones = let e = ap length numbers in absurd (omega (arith, e))
@@ -142,13 +142,13 @@ module _ {T : Type 0} where
         let head : x.number ≡ a = cc numbers in
         let tail : numbers_of xs ≡ range_with_len (a + 1) (length fs) = cc numbers in
         let next : a + 1 ≡ length (before ++ f ∷ []) = omega (arith, at, length-append before (f ∷ [])) in (
-          got_here before f fs x.number (λ first. IsLater since first x.item) (head ∙ at) ones.0,
+          got_here before f fs x.number (λ first. IsLater since first x.item.value) (head ∙ at) ones.0,
           placed (before ++ f ∷ []) fs xs (a + 1) next tail (subst (λ l. Every (IsOneOf since l) xs) (sym (append_assoc before (f ∷ []) fs)) ones.1),
         )
 
     -- the items by number are those that were handed in, each at its place
     pub in_place : (firsts : List T) (kept xs : List (Numbered T)) → StandOnce firsts (numbers_of kept) → IsPermutation kept xs → IsNonDecreasingBy (λ x. x.number) xs → Every (IsOneOf since firsts) kept
-        → AllZip (IsLater since) firsts (map (λ x. x.item) xs)
+        → AllZip (IsLater since) firsts (map (λ x. x.item.value) xs)
     in_place firsts kept xs once same order ones =
         let numbers = numbers_by_number (length firsts) xs (IsPermutation-trans _ _ _ once (IsPermutation-map (λ (x : Numbered T). x.number) kept xs same)) order in
         placed [] firsts xs 0 refl numbers (every_permutation (IsOneOf since firsts) kept xs same ones)

@@ -1,5 +1,5 @@
 -- The rule of a pool on two items, which are numbers that may grow.
-use Rattle.std.proofs.Common.{◌≡◌, ◌≤◌, ◌+◌, ℕ, zero, suc, List, [], ◌∷◌, length, refl, sym, ap, subst, arith}
+use Rattle.std.proofs.Common.{Box, Global, ◌≡◌, ◌≤◌, ◌+◌, ℕ, zero, suc, List, [], ◌∷◌, length, refl, sym, ap, subst, arith}
 use Rattle.std.proofs.lemmas.List.FromFn.{length-range_with_len}
 use Rattle.std.proofs.lemmas.List.Sorted.{IsPermutation-refl, length_permutation}
 use mathlib.Core.Option.{some, some-injective, some-ne-none}
@@ -16,9 +16,6 @@ grows old new = old ≤ new
 abbrev two : List ℕ
 two = 7 ∷ 8 ∷ []
 
-abbrev numbered : ℕ → ℕ → Numbered ℕ
-numbered number item = record { number = number; item = item }
-
 -- the caller has all parts but one, and a worker has the first item in hand
 abbrev passes : List (Hand ℕ)
 passes = hand 1023 [] two ∷ hand 1 (0 ∷ []) two ∷ []
@@ -28,38 +25,43 @@ each zero v e = subst (Fits two) (some-injective _ _ e) (record { knows = λ _. 
 each (suc zero) v e = subst (Fits two) (some-injective _ _ e) (record { knows = λ _. refl; idle = λ none. absurd (omega (arith, none)) })
 each (suc (suc pass)) v e = absurd (some-ne-none v (sym e))
 
--- the second waits, and has grown
-one_waits : IsPooled grows (numbered 1 9 ∷ []) passes
-one_waits = record {
-  firsts = two;
-  once = IsPermutation-refl (0 ∷ 1 ∷ []);
-  queued = ((λ first least. omega (arith, least)), tt);
-  few = omega arith;
-  parts = refl;
-  passes = each;
-}
+-- a box of each number
+module _ (boxed : ℕ → Box ℕ Global) (holds : (n : ℕ) → (boxed n).value ≡ n) where
+  abbrev numbered : ℕ → ℕ → Numbered ℕ
+  numbered number item = record { number = number; item = boxed item }
 
--- a pass with all parts knows what was handed in
-knows : (items : List (Numbered ℕ)) (held : List ℕ) (rule : IsPooled grows items (hand 1024 held two ∷ [])) → two ≡ rule.firsts
-knows items held rule = (rule.passes 0 (hand 1024 held two) refl).knows (omega arith)
+  -- the second waits, and has grown
+  one_waits : IsPooled grows (numbered 1 9 ∷ []) passes
+  one_waits = record {
+    firsts = two;
+    once = IsPermutation-refl (0 ∷ 1 ∷ []);
+    queued = ((λ first least. let nine = holds 9 in omega (arith, least, nine)), tt);
+    few = omega arith;
+    parts = refl;
+    passes = each;
+  }
 
--- no item is lost, or stands twice
-none_lost : IsPooled grows [] (hand 1024 (0 ∷ []) two ∷ []) → ⊥
-none_lost rule =
-    let all : 2 ≡ length rule.firsts = ap length (knows [] (0 ∷ []) rule) in
-    let held = length_permutation _ _ rule.once in
-    let range = length-range_with_len 0 (length rule.firsts) in
-    omega (arith, all, held, range)
+  -- a pass with all parts knows what was handed in
+  knows : (items : List (Numbered ℕ)) (held : List ℕ) (rule : IsPooled grows items (hand 1024 held two ∷ [])) → two ≡ rule.firsts
+  knows items held rule = (rule.passes 0 (hand 1024 held two) refl).knows (omega arith)
 
-none_twice : IsPooled grows (numbered 1 9 ∷ []) (hand 1024 (1 ∷ []) two ∷ []) → ⊥
-none_twice rule =
-    let all : 2 ≡ length rule.firsts = ap length (knows (numbered 1 9 ∷ []) (1 ∷ []) rule) in
-    let once : 1 + 1 ≡ 1 = stand_once (length rule.firsts) (1 ∷ []) (1 ∷ []) rule.once 1 (omega (arith, all)) in
-    omega (arith, once)
+  -- no item is lost, or stands twice
+  none_lost : IsPooled grows [] (hand 1024 (0 ∷ []) two ∷ []) → ⊥
+  none_lost rule =
+      let all : 2 ≡ length rule.firsts = ap length (knows [] (0 ∷ []) rule) in
+      let held = length_permutation _ _ rule.once in
+      let range = length-range_with_len 0 (length rule.firsts) in
+      omega (arith, all, held, range)
 
--- an item in the queue is the one of its number, later on: no other one, and not an earlier one
-none_earlier : IsOneOf grows two (numbered 1 6) → ⊥
-none_earlier one = let least = one 8 (omega arith) in omega (arith, least)
+  none_twice : IsPooled grows (numbered 1 9 ∷ []) (hand 1024 (1 ∷ []) two ∷ []) → ⊥
+  none_twice rule =
+      let all : 2 ≡ length rule.firsts = ap length (knows (numbered 1 9 ∷ []) (1 ∷ []) rule) in
+      let once : 1 + 1 ≡ 1 = stand_once (length rule.firsts) (1 ∷ []) (1 ∷ []) rule.once 1 (omega (arith, all)) in
+      omega (arith, once)
 
-none_unknown : IsOneOf grows two (numbered 2 9) → ⊥
-none_unknown one = one
+  -- an item in the queue is the one of its number, later on: no other one, and not an earlier one
+  none_earlier : IsOneOf grows two (numbered 1 6) → ⊥
+  none_earlier one = let least = one 8 (omega arith) in omega (arith, least)
+
+  none_unknown : IsOneOf grows two (numbered 2 9) → ⊥
+  none_unknown one = one

@@ -43,7 +43,7 @@ module _ {T : Type 0} where
 
   -- the number of the item is that of one that was handed in, and it is that one, later on
   abbrev pub IsOneOf : (T → T → Type 0) → List T → Numbered T → Type 0
-  IsOneOf since firsts x = IsSomeAnd (slice_get firsts x.number) (λ first. IsLater since first x.item)
+  IsOneOf since firsts x = IsSomeAnd (slice_get firsts x.number) (λ first. IsLater since first x.item.value)
 
   -- a pass with a part knows all items as they were handed in, and one without holds nothing
   pub record Fits (firsts : List T) (v : Hand T) : Type 0 where

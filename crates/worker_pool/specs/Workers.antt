@@ -26,7 +26,7 @@ module _ {T : Type 0} where
     pub held : (view w.pass).held ≡ numbers_of w.kept.items
     pub room : length (view w.pass).firsts ≤ vec_capacity w.kept
     pub ones : Every (IsOneOf since (view w.pass).firsts) w.kept.items
-    pub ends : w.stopped ≡ false → Every (λ x. over x.item) w.kept.items
+    pub ends : w.stopped ≡ false → Every (λ x. over x.item.value) w.kept.items
 
   -- a worker later on: it has the same pass, with as many parts, and knows the same items as they were handed in
   pub record GoesOn (old new : Worker T) : Type 0 where

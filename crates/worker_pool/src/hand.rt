@@ -4,11 +4,12 @@ use crossbeam_queue::protocol::{Join, Lesson, Outcome, Protocol, Split};
 use crossbeam_queue::{Pass, RuledArrayQueue};
 use std::collections::LinkedList;
 
-// An item with its number: its place among the items of the run.
+// An item with its number: its place among the items of the run. It is boxed, since each visit moves it out of the queue
+// and back.
 #[derive(Drop)]
 pub struct Numbered<T> {
     pub number: usize,
-    pub item: T,
+    pub item: Box<T>,
 }
 
 // What one pass has of the right to know the whole, in parts; the numbers of the items that it holds, one in hand last,
@@ -43,7 +44,7 @@ impl<T> Outcome<Numbered<T>, Hand<T>> for Enters {
     ghost use Rattle.std.specs.Prelude.{◌≡◌, [], ◌∷◌, ◌++◌};
     ghost use Rattle.worker_pool.specs.Rule.{hand};
 
-    ghost then = { λ v x w. w ≡ hand v.parts v.held (v.firsts ++ x.item ∷ []) };
+    ghost then = { λ v x w. w ≡ hand v.parts v.held (v.firsts ++ x.item.value ∷ []) };
 }
 
 impl<T> Lesson<Numbered<T>, Hand<T>> for Enters {

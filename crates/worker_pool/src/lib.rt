@@ -3,9 +3,9 @@
 //! [`run`] takes some items, each a connection with everything that belongs to it, and starts workers. A worker takes
 //! an item from the one queue, by value, makes one visit, by a closure that the run is given, and puts it back unless it is
 //! over; no lock holds an item.
-//! Where nothing is to be done, a worker spins a little, then yields, and then sleeps in growing steps. The run ends once
-//! all items are over, or once the stop flag is set. It stands on the ruled array queue of `crossbeam_queue` and on
-//! `stop_flag`.
+//! Where nothing is to be done, a worker gives its processor away, and then sleeps in growing steps. The run ends once all
+//! items are over, or once the stop flag is set. It stands on the ruled array queue of `crossbeam_queue`, on `stop_flag`
+//! and on `pauses`.
 //!
 //! The layer above uses one contract: each item comes back once, at its place, and is then the item that was handed in,
 //! later on, as the item's own trait [`Visited`] says this; and where the run wasn't stopped, each is over. Behind it
@@ -16,9 +16,9 @@
 #![tactic(auto)]
 
 mod hand;
+mod idle;
 mod laws;
 mod limits;
-mod pauses;
 mod pool;
 mod visited;
 mod worker;

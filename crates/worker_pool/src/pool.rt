@@ -58,7 +58,7 @@ pub fn run<
     let count = items.len();
     let back = Vec::with_capacity(alloc, count)?;
     let (line, mut pass) = Line::<T>::ruled(alloc, MOST_ITEMS)?;
-    enter_all(rt, &line, &mut pass, items);
+    enter_all(rt, alloc, &line, &mut pass, items)?;
     let jobs = start(alloc, &line, &mut pass, workers, count)?;
     let mut all = Worker {
         pass,
@@ -75,22 +75,25 @@ pub fn run<
 // Puts the items into the queue, each with its place for its number.
 fn enter_all<R: Wait, T: Visited + Drop>(
     rt: &R,
+    alloc: Global,
     line: &Line<T>,
     pass: &mut LinePass<T>,
     items: Vec<T>,
-)
+) -> Result<(), AllocError>
     requires pass { IsLinePass line.now pass.old }
     requires view { view pass.old ≡ hand all_parts [] [] }
     requires few { length items.items ≤ MOST_ITEMS }
     ensures pass { IsSamePass pass.old pass.new }
-    ensures view { view pass.new ≡ hand all_parts [] items.items }
+    ensures view { OnOk result (view pass.new ≡ hand all_parts [] items.items) }
 {
     let mut rest = items.into_iter();
     let mut number = 0;
     while let Some(item) = rest.next() {
+        let item = Box::new(alloc, item)?;
         enter(rt, line, pass, Numbered { number, item });
         number += 1;
     }
+    Ok(())
 }
 
 // Puts an item into the queue, with the next number.
@@ -101,7 +104,7 @@ fn enter<R: Wait, T: Visited>(rt: &R, line: &Line<T>, pass: &mut LinePass<T>, nu
     requires few { length (view pass.old).firsts < MOST_ITEMS }
     ensures pass { IsSamePass pass.old pass.new }
     ensures view { view pass.new
-        ≡ hand (view pass.old).parts (view pass.old).held ((view pass.old).firsts ++ numbered.item ∷ []) }
+        ≡ hand (view pass.old).parts (view pass.old).held ((view pass.old).firsts ++ numbered.item.value ∷ []) }
 {
     match line.push_as::<Enters, R>(rt, pass, numbered) {
         Ok(()) => (),

@@ -10,8 +10,8 @@ ghost use Rattle.worker_pool.specs.Rule.{IsOneOf, StandOnce, Took, all_parts, ha
 ghost use Rattle.worker_pool.specs.Workers.{GoesOn, HasEnded, IsLinePass, IsWorker};
 
 use crate::hand::{Line, LinePass, Numbered, Returns, Shares, Takes};
+use crate::idle::Idle;
 use crate::limits::MOST_ITEMS;
-use crate::pauses::Pauses;
 use crate::pool::Ran;
 use crate::visited::{Visit, Visited};
 use std::sync::Wait;
@@ -95,7 +95,7 @@ impl<T: Visited + Drop> Worker<T> {
         let Some(mut numbered) = take(rt, line, &mut self.pass) else {
             return Turn::Empty;
         };
-        match visit(&mut numbered.item) {
+        match visit(&mut *numbered.item) {
             Visit::Over => {
                 self.kept.push_reserved(numbered);
                 Turn::Kept
@@ -148,7 +148,7 @@ impl<T: Visited + Drop> Worker<T> {
         ensures ended { HasEnded T.since T.over (S.may_be_set stop.now) result }
         ensures goes_on { GoesOn self result }
     {
-        let mut pauses = Pauses::new();
+        let mut idle = Idle::new();
         for _ in rt.forever() {
             if stop.is_set() {
                 self.stopped = true;
@@ -157,12 +157,12 @@ impl<T: Visited + Drop> Worker<T> {
             match self.turn(rt, line, visit) {
                 Turn::Kept => {
                     left.fetch_sub(1, Ordering::SeqCst);
-                    pauses.reset();
+                    idle.reset();
                 }
-                Turn::Worked => pauses.reset(),
-                Turn::Idle => pauses.after_idle(rt, left.load(Ordering::SeqCst)),
+                Turn::Worked => idle.reset(),
+                Turn::Idle => idle.after_visit(rt, left.load(Ordering::SeqCst)),
                 Turn::Empty if left.load(Ordering::SeqCst) == 0 => break,
-                Turn::Empty => pauses.pause(rt),
+                Turn::Empty => idle.pause(rt),
             }
         }
         self
@@ -185,15 +185,15 @@ impl<T: Visited + Drop> Worker<T> {
         ensures firsts { (view self.new.pass).firsts ≡ (view self.old.pass).firsts }
         ensures once { StandOnce (view self.new.pass).firsts (numbers_of self.new.kept.items) }
     {
-        let mut pauses = Pauses::new();
+        let mut idle = Idle::new();
         for _ in rt.forever() {
             if stop.is_set() {
                 self.stopped = true;
             }
             match self.turn_unless_stopped(rt, line, visit) {
                 Turn::Empty => return,
-                Turn::Idle => pauses.after_idle(rt, MOST_ITEMS as u64),
-                Turn::Worked | Turn::Kept => pauses.reset(),
+                Turn::Idle => idle.after_visit(rt, MOST_ITEMS as u64),
+                Turn::Worked | Turn::Kept => idle.reset(),
             }
         }
         unreachable!()
@@ -287,11 +287,11 @@ fn by_number<T>(mut kept: Vec<Numbered<T>>) -> Vec<Numbered<T>>
 fn put_items<T: Drop>(kept: Vec<Numbered<T>>, mut items: Vec<T>) -> Vec<T>
     requires none { items.items ≡ [] }
     requires room { length kept.items ≤ vec_capacity items }
-    ensures { result.items ≡ map (λ x. x.item) kept.items }
+    ensures { result.items ≡ map (λ x. x.item.value) kept.items }
 {
     let mut rest = kept.into_iter();
     while let Some(numbered) = rest.next() {
-        items.push_reserved(numbered.item);
+        items.push_reserved(Box::into_inner(numbered.item));
     }
     items
 }

@@ -19,5 +19,5 @@ returns-clause-each g c =
 
 pub returns-clause-over : goal.returns-clause-over
 returns-clause-over g c on =
-    let ends = every_permutation (λ x. g.T.Visited.over x.item) c.args.self.kept.items c.by_number.result.items c.by_number.ensures.same (c.requires.worker.ends on) in
+    let ends = every_permutation (λ x. g.T.Visited.over x.item.value) c.args.self.kept.items c.by_number.result.items c.by_number.ensures.same (c.requires.worker.ends on) in
     subst (λ items. All g.T.Visited.over items) (sym c.put_items.ensures) (all_of_items g.T.Visited.over c.by_number.result.items ends)
