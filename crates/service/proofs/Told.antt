@@ -1,5 +1,5 @@
 -- What became of connections, and the tickets that their seats tell once they come together.
-use Rattle.std.proofs.Common.{◌≡◌, ℕ, ◌<◌, ◌^◌, List, [], ◌∷◌, ◌++◌, length, map, All, Option, Some, None, refl, sym, ap, subst, ◌∙◌, arith}
+use Rattle.std.proofs.Common.{◌≡◌, ℕ, ◌<◌, ◌^◌, List, [], ◌∷◌, ◌++◌, length, map, All, Option, Some, None, refl, sym, ap, append-nil, subst, ◌∙◌, arith}
 use Rattle.std.specs.Prelude.{IsPermutation, slice_get}
 use Rattle.std.specs.List.{AllZip, flat_map, range_with_len}
 use Rattle.std.proofs.lemmas.List.Elements.{All-cons, All-get_or, All-head, All-nil, All-tail, All-weaker}
@@ -16,13 +16,12 @@ use Rattle.service_run.specs.Closings.{Opening}
 use Rattle.service_run.specs.Joining.{SplitInto, all_told}
 use Rattle.service_run.specs.Served.{HasServed}
 use Rattle.service_run.specs.declared.meeting.Met.{Met}
-use Rattle.service.specs.Concluding.{AreDone, WasServedAt, outcomes_of}
+use Rattle.service.specs.Concluding.{WasServedAt, left_of, outcomes_of}
 use Rattle.service.specs.Ends.{Opened}
 use Rattle.service.specs.Served.{all_tickets}
 use Rattle.service.specs.Standing.{AreStanding}
 use Rattle.service.specs.declared.beginning.Standing.{Standing}
 use Rattle.service.specs.declared.beginning.Standing.TheVariants.{Bound, Unbound}
-use Rattle.service.specs.declared.concluding.Done.{Done}
 
 -- ---- quotas
 
@@ -167,38 +166,59 @@ module _ {C L : Type 0} (of_clock : ClockMembers C) (of_link : LinkMembers L) (p
   later-seats (o ∷ openings) [] ran = absurd ran
   later-seats (o ∷ openings) (m ∷ met) ran = (ran.0.same_seats, later-seats openings met ran.1)
 
+  -- all that were met are taken
+  pub none-over : (ends : List (Opened L)) (standings : List (Standing L)) (met : List (Met L))
+      (openings : List (Opening C L)) → AreStanding of_link plan clock ends standings openings
+      → AllZip Ran openings met → left_of standings met ≡ []
+  none-over [] [] [] openings are ran = refl
+  none-over [] [] (m ∷ met) openings are ran = absurd (subst (λ os. AllZip Ran os (m ∷ met)) are ran)
+  none-over [] (s ∷ standings) met openings are ran = absurd are
+  none-over (e ∷ ends) [] met openings are ran = absurd are
+  none-over (e ∷ ends) (Unbound conn link why ∷ standings) met openings are ran =
+      none-over ends standings met openings are.1 ran
+  none-over (e ∷ ends) (Bound conn ∷ standings) [] openings are ran = refl
+  none-over (e ∷ ends) (Bound conn ∷ standings) (m ∷ met) openings are ran =
+      none-over ends standings met are.1 are.4 (subst (λ os. AllZip Ran os (m ∷ met)) are.2 ran).1
+
+  -- so all seats are put together
+  pub seats-of-all : (ends : List (Opened L)) (standings : List (Standing L)) (met : List (Met L))
+      (openings : List (Opening C L)) (others : List (List Drawing))
+      → AreStanding of_link plan clock ends standings openings → AllZip Ran openings met
+      → others ++ map (λ m. m.seats) (left_of standings met) ≡ map (λ m. m.seats) met
+      → others ≡ map (λ m. m.seats) met
+  seats-of-all ends standings met openings others are ran same =
+      sym (append-nil others)
+      ∙ sym (ap (λ (ms : List (Met L)). others ++ map (λ m. m.seats) ms) (none-over ends standings met openings are ran))
+      ∙ same
+
   -- the tickets of all connections are those of the connections that were met
   pub tickets-of-all : (tenant window : ℕ) (ends : List (Opened L)) (standings : List (Standing L))
-      (met : List (Met L)) (done : List (Done L)) (openings : List (Opening C L))
-      → AreStanding of_link plan clock ends standings openings → AllZip Ran openings met → AllZip AreDone met done
-      → all_tickets tenant window (outcomes_of standings done)
+      (met : List (Met L)) (openings : List (Opening C L)) → AreStanding of_link plan clock ends standings openings
+      → AllZip Ran openings met
+      → all_tickets tenant window (outcomes_of standings met)
       ≡ flat_map (λ tickets. tickets) (map (tickets_met tenant window) met)
-  tickets-of-all tenant window [] [] [] done openings are ran dones = refl
-  tickets-of-all tenant window [] [] (m ∷ met) done openings are ran dones =
+  tickets-of-all tenant window [] [] [] openings are ran = refl
+  tickets-of-all tenant window [] [] (m ∷ met) openings are ran =
       absurd (subst (λ os. AllZip Ran os (m ∷ met)) are ran)
-  tickets-of-all tenant window [] (s ∷ standings) met done openings are ran dones = absurd are
-  tickets-of-all tenant window (e ∷ ends) [] met done openings are ran dones = absurd are
-  tickets-of-all tenant window (e ∷ ends) (Unbound conn link why ∷ standings) met done openings are ran dones =
-      tickets-of-all tenant window ends standings met done openings are.1 ran dones
-  tickets-of-all tenant window (e ∷ ends) (Bound conn ∷ standings) [] done openings are ran dones =
+  tickets-of-all tenant window [] (s ∷ standings) met openings are ran = absurd are
+  tickets-of-all tenant window (e ∷ ends) [] met openings are ran = absurd are
+  tickets-of-all tenant window (e ∷ ends) (Unbound conn link why ∷ standings) met openings are ran =
+      tickets-of-all tenant window ends standings met openings are.1 ran
+  tickets-of-all tenant window (e ∷ ends) (Bound conn ∷ standings) [] openings are ran =
       absurd (subst (λ os. AllZip Ran os []) are.2 ran)
-  tickets-of-all tenant window (e ∷ ends) (Bound conn ∷ standings) (m ∷ met) [] openings are ran dones = absurd dones
-  tickets-of-all tenant window (e ∷ ends) (Bound conn ∷ standings) (m ∷ met) (d ∷ done) openings are ran dones =
-      ap (λ b. tickets_behind tenant window (behind b.submissions.conn)
-      ++ all_tickets tenant window (outcomes_of standings done)) dones.0.bound
-      ∙ ap (λ ts. tickets_met tenant window m ++ ts)
-      (tickets-of-all tenant window ends standings met done are.1 are.4
-      (subst (λ os. AllZip Ran os (m ∷ met)) are.2 ran).1 dones.1)
+  tickets-of-all tenant window (e ∷ ends) (Bound conn ∷ standings) (m ∷ met) openings are ran =
+      ap (λ ts. tickets_met tenant window m ++ ts)
+      (tickets-of-all tenant window ends standings met are.1 are.4
+      (subst (λ os. AllZip Ran os (m ∷ met)) are.2 ran).1)
 
   -- each connection was served as it stood
-  pub were-served : (ends : List (Opened L)) (standings : List (Standing L)) (met : List (Met L)) (done : List (Done L))
+  pub were-served : (ends : List (Opened L)) (standings : List (Standing L)) (met : List (Met L))
       (openings : List (Opening C L)) → AreStanding of_link plan clock ends standings openings
-      → AllZip Ran openings met → AllZip AreDone met done
-      → AllZip (WasServedAt of_clock of_link plan clock) ends (outcomes_of standings done)
-  were-served [] [] met done openings are ran dones = tt
-  were-served [] (s ∷ standings) met done openings are ran dones = absurd are
-  were-served (e ∷ ends) [] met done openings are ran dones = absurd are
-  were-served (e ∷ ends) (Unbound conn link why ∷ standings) met done openings are ran dones = (
+      → AllZip Ran openings met → AllZip (WasServedAt of_clock of_link plan clock) ends (outcomes_of standings met)
+  were-served [] [] met openings are ran = tt
+  were-served [] (s ∷ standings) met openings are ran = absurd are
+  were-served (e ∷ ends) [] met openings are ran = absurd are
+  were-served (e ∷ ends) (Unbound conn link why ∷ standings) met openings are ran = (
     record {
       served = record {
         app = are.0.app;
@@ -211,16 +231,15 @@ module _ {C L : Type 0} (of_clock : ClockMembers C) (of_link : LinkMembers L) (p
       };
       same_link = are.0.same_link;
     },
-    were-served ends standings met done openings are.1 ran dones,
+    were-served ends standings met openings are.1 ran,
   )
-  were-served (e ∷ ends) (Bound conn ∷ standings) [] done openings are ran dones =
+  were-served (e ∷ ends) (Bound conn ∷ standings) [] openings are ran =
       absurd (subst (λ os. AllZip Ran os []) are.2 ran)
-  were-served (e ∷ ends) (Bound conn ∷ standings) (m ∷ met) [] openings are ran dones = absurd dones
-  were-served (e ∷ ends) (Bound conn ∷ standings) (m ∷ met) (d ∷ done) openings are ran dones =
+  were-served (e ∷ ends) (Bound conn ∷ standings) (m ∷ met) openings are ran =
       let zip = (subst (λ os. AllZip Ran os (m ∷ met)) are.2 ran) in
       let begun = are.3 in
-      let same : (first : L) → of_link.since first e.link → of_link.since first d.link = λ first since.
-      subst (λ l. of_link.since first l) (sym dones.0.link) (zip.0.same_link first (begun.same_link first since)) in (
+      let same : (first : L) → of_link.since first e.link → of_link.since first m.link = λ first since.
+      zip.0.same_link first (begun.same_link first since) in (
         record {
           served = record {
             app = begun.app;
@@ -229,15 +248,9 @@ module _ {C L : Type 0} (of_clock : ClockMembers C) (of_link : LinkMembers L) (p
             start = e.link;
             is_new = begun.is_new;
             same_link = same;
-            became = record {
-              opening = are.0;
-              seats = m.seats;
-              bound = begun.bound;
-              served = subst (λ b. HasServed of_clock of_link are.0 b m.seats d.link) (sym dones.0.bound)
-                  (subst (λ l. HasServed of_clock of_link are.0 m.bound m.seats l) (sym dones.0.link) zip.0);
-            };
+            became = record { opening = are.0; seats = m.seats; bound = begun.bound; served = zip.0 };
           };
           same_link = same;
         },
-        were-served ends standings met done are.1 are.4 zip.1 dones.1,
+        were-served ends standings met are.1 are.4 zip.1,
       )

@@ -14,23 +14,24 @@ use Rattle.service.specs.Served.{WasServed}
 use Rattle.service.specs.Standing.{AreStanding}
 use Rattle.service.specs.declared.beginning.Standing.{Standing}
 use Rattle.service.specs.declared.beginning.Standing.TheVariants as standing
-use Rattle.service.specs.declared.concluding.Done.{Done}
 use Rattle.service.specs.declared.served.Outcome.TheVariants as outcome
 use Rattle.service.specs.declared.served.ServedConn.{ServedConn}
 
--- each connection that was bound, with the next of what was done
-abbrev pub outcomes_of : {L : Type 0} → List (Standing L) → List (Done L) → List (ServedConn L)
-outcomes_of [] done = []
-outcomes_of (standing.Unbound conn link why ∷ standings) done =
-    record { conn = conn; link = link; outcome = outcome.Unbound why } ∷ outcomes_of standings done
+-- each connection that was bound, with the next of those that were met
+abbrev pub outcomes_of : {L : Type 0} → List (Standing L) → List (Met L) → List (ServedConn L)
+outcomes_of [] met = []
+outcomes_of (standing.Unbound conn link why ∷ standings) met =
+    record { conn = conn; link = link; outcome = outcome.Unbound why } ∷ outcomes_of standings met
 outcomes_of (standing.Bound conn ∷ standings) [] = []
-outcomes_of (standing.Bound conn ∷ standings) (d ∷ done) =
-    record { conn = conn; link = d.link; outcome = outcome.Bound d.bound } ∷ outcomes_of standings done
+outcomes_of (standing.Bound conn ∷ standings) (m ∷ met) =
+    record { conn = conn; link = m.link; outcome = outcome.Bound m.bound } ∷ outcomes_of standings met
 
--- what was done, without the seats
-pub record AreDone {L : Type 0} (met : Met L) (done : Done L) : Type 0 where
-  pub bound : done.bound ≡ met.bound
-  pub link : done.link ≡ met.link
+-- those that were met, and are left over
+abbrev pub left_of : {L : Type 0} → List (Standing L) → List (Met L) → List (Met L)
+left_of [] met = met
+left_of (standing.Unbound conn link why ∷ standings) met = left_of standings met
+left_of (standing.Bound conn ∷ standings) [] = []
+left_of (standing.Bound conn ∷ standings) (m ∷ met) = left_of standings met
 
 module _ {C L : Type 0} (of_clock : ClockMembers C) (of_link : LinkMembers L) (plan : Plan) (clock : C) where
   -- what a run did on the connection of an end that was opened, whose link is that end's, later on

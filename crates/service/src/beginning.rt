@@ -68,12 +68,13 @@ pub(crate) fn begin_all<'t, R: Wait, L: Link + Drop, C: Clock, G, O: ReadyOrder>
 {
     shares_suffice();
     let alloc = common.alloc;
+    let seats = all_seats(alloc, common.plan)?;
     let mut begun = Begun {
         standings: Vec::new(alloc),
         items: Vec::new(alloc),
         jobs: Vec::new(alloc),
         writers: Vec::new(alloc),
-        seats: all_seats(alloc, common.plan)?,
+        seats,
     };
     let mut rest = greeted.into_iter();
     while let Some(end) = rest.next() {
@@ -174,9 +175,27 @@ fn take_up<'t, R: Wait, L: Link + Drop, C: Clock, G, O: ReadyOrder>(
 {
     let own = begun.seats.split(common.alloc)?;
     let (item, job, writer) = wire(common, app, steps, arrivals, reader, own, link)?;
-    begun.items.push(item)?;
+    take_in(begun, app.conn, item, job, writer)
+}
+
+// Keeps what the threads of a bound connection get.
+fn take_in<'t, R: Wait, L: Link + Drop, C: Clock, G, O: ReadyOrder>(
+    begun: &mut Begun<'t, R, L, C, G, O>,
+    conn: u32,
+    item: Turned<'t, R, C, Seats, QueueLink<'t, R>, G, O>,
+    job: Job<'t>,
+    writer: QueueWriter<'t, R, L>,
+) -> Result<(), Memory>
+    ensures added { OnOk result ((begun.new.standings.items ≡ begun.old.standings.items ++ Standing.Bound conn ∷ [])
+        × (begun.new.items.items ≡ begun.old.items.items ++ item.entry ∷ [])
+        × (begun.new.jobs.items ≡ begun.old.jobs.items ++ job.entry ∷ [])
+        × (begun.new.writers.items ≡ begun.old.writers.items ++ writer.entry ∷ [])) }
+    ensures seats { begun.new.seats ≡ begun.old.seats }
+{
+    // The job first: it has many parts, which would be dropped one by one behind each push before its own.
     begun.jobs.push(job)?;
+    begun.items.push(item)?;
     begun.writers.push(writer)?;
-    begun.standings.push(Standing::Bound { conn: app.conn })?;
+    begun.standings.push(Standing::Bound { conn })?;
     Ok(())
 }

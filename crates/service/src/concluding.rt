@@ -1,12 +1,12 @@
 //! What became of the connections of a run.
 
-ghost use Rattle.std.specs.Prelude.{◌≡◌, ◌<◌, ◌^◌, ◌∷◌, [], ℕ, IfOk, List, OnOk, length, map};
+ghost use Rattle.std.specs.Prelude.{◌≡◌, ◌<◌, ◌^◌, ◌∷◌, ◌++◌, [], ℕ, IfOk, List, OnOk, length, map};
 ghost use Rattle.std.specs.List.{AllZip};
 ghost use Rattle.mrpc_base.specs.declared.tickets.TheConstants.{WINDOWS};
 ghost use Rattle.tenant_quota.specs.Drawing.{EachOnce};
 ghost use Rattle.std.specs.Vec.Iter.{into_iter_items};
 ghost use Rattle.service.specs.declared.beginning.Standing.{Standing as TheStanding};
-ghost use Rattle.service.specs.Concluding.{AreDone, WasServedAt, HaveRun, outcomes_of};
+ghost use Rattle.service.specs.Concluding.{WasServedAt, HaveRun, left_of, outcomes_of};
 ghost use Rattle.service.specs.Ends.{Opened};
 ghost use Rattle.service.specs.Served.{all_tickets};
 
@@ -14,18 +14,11 @@ use crate::beginning::Standing;
 use crate::served::{Outcome, Served, ServedConn};
 use mrpc_base::{Clock, Link};
 use mrpc_table::Memory;
-use service_run::{BoundConn, Met, join_all, seats_join_again};
+use service_run::{Met, join_all, seats_join_again};
 use service_wiring::Common;
 use std::alloc::Global;
 use std::vec::IntoIter;
 use tenant_quota::{Seats, seats_come_together};
-
-// A connection that was served, without its seats.
-#[derive(Drop)]
-pub(crate) struct Done<'t, L> {
-    pub bound: BoundConn<'t>,
-    pub link: L,
-}
 
 // What became of each connection, once the seats of all have come together.
 pub(crate) fn conclude<'t, R, L: Link + Drop, C: Clock, G, O>(
@@ -48,58 +41,46 @@ pub(crate) fn conclude<'t, R, L: Link + Drop, C: Clock, G, O>(
     seats_come_together();
     let alloc = common.alloc;
     let mut others = Vec::new(alloc);
-    let done = take_seats(alloc, met, &mut others)?;
-    let conns = outcomes(alloc, standings, done)?;
+    let conns = outcomes(alloc, standings, met, &mut others)?;
     join_all(&mut seats, others);
     seats.tickets_are_distinct();
     Ok(Served { conns })
 }
 
-// Takes the seats of connections that were served.
-fn take_seats<'t, L: Drop>(
-    alloc: Global,
-    met: Vec<Met<'t, L>>,
-    others: &mut Vec<Seats>,
-) -> Result<Vec<Done<'t, L>>, Memory>
-    requires { others.old.items ≡ [] }
-    ensures seats { OnOk result (others.new.items ≡ map (λ one. one.seats) met.entry.items) }
-    ensures done { IfOk result (λ done. AllZip AreDone met.entry.items done.items) }
-{
-    let mut done = Vec::with_capacity(alloc, met.len())?;
-    let mut rest = met.into_iter();
-    while let Some(one) = rest.next() {
-        let Met { bound, seats, link } = one;
-        others.push(seats)?;
-        done.push(Done { bound, link })?;
-    }
-    Ok(done)
-}
-
-// What became of each connection, in their order.
+// What became of each connection, in their order. The seats of those that were served are put together.
 fn outcomes<'t, L: Drop>(
     alloc: Global,
     standings: Vec<Standing<L>>,
-    done: Vec<Done<'t, L>>,
+    met: Vec<Met<'t, L>>,
+    others: &mut Vec<Seats>,
 ) -> Result<Vec<ServedConn<'t, L>>, Memory>
-    ensures { IfOk result (λ conns. conns.items ≡ outcomes_of standings.items done.entry.items) }
+    requires { others.old.items ≡ [] }
+    ensures conns { IfOk result (λ conns. conns.items ≡ outcomes_of standings.items met.entry.items) }
+    ensures seats { OnOk result (others.new.items ++ map (λ m. m.seats) (left_of standings.items met.entry.items)
+        ≡ map (λ m. m.seats) met.entry.items) }
 {
     let mut conns = Vec::with_capacity(alloc, standings.len())?;
-    let mut done = done.into_iter();
+    let mut met = met.into_iter();
     let mut rest = standings.into_iter();
     while let Some(one) = rest.next() {
-        let conn = outcome_of(one, &mut done)?;
+        let conn = outcome_of(one, &mut met, others)?;
         conns.push(conn)?;
     }
     Ok(conns)
 }
 
-// What became of the next connection: of one that was bound, the next of what was done.
+// What became of the next connection: of one that was bound, the next of those that were met, whose seats are kept.
 fn outcome_of<'t, L: Drop>(
     one: Standing<L>,
-    done: &mut IntoIter<Done<'t, L>>,
+    met: &mut IntoIter<Met<'t, L>>,
+    others: &mut Vec<Seats>,
 ) -> Result<ServedConn<'t, L>, Memory>
-    ensures { (rest : List (TheStanding L)) → IfOk result (λ conn.
-        outcomes_of (one ∷ rest) (into_iter_items done.old) ≡ conn ∷ outcomes_of rest (into_iter_items done.new)) }
+    ensures conn { (rest : List (TheStanding L)) → IfOk result (λ conn.
+        outcomes_of (one ∷ rest) (into_iter_items met.old) ≡ conn ∷ outcomes_of rest (into_iter_items met.new)) }
+    ensures left { (rest : List (TheStanding L)) → OnOk result (left_of (one ∷ rest) (into_iter_items met.old)
+        ≡ left_of rest (into_iter_items met.new)) }
+    ensures seats { OnOk result (others.new.items ++ map (λ m. m.seats) (into_iter_items met.new)
+        ≡ others.old.items ++ map (λ m. m.seats) (into_iter_items met.old)) }
 {
     match one {
         Standing::Unbound { conn, link, why } => Ok(ServedConn {
@@ -107,13 +88,16 @@ fn outcome_of<'t, L: Drop>(
             link,
             outcome: Outcome::Unbound(why),
         }),
-        Standing::Bound { conn } => match done.next() {
+        Standing::Bound { conn } => match met.next() {
             None => Err(Memory),
-            Some(Done { bound, link }) => Ok(ServedConn {
-                conn,
-                link,
-                outcome: Outcome::Bound(bound),
-            }),
+            Some(Met { bound, seats, link }) => {
+                others.push(seats)?;
+                Ok(ServedConn {
+                    conn,
+                    link,
+                    outcome: Outcome::Bound(bound),
+                })
+            }
         },
     }
 }

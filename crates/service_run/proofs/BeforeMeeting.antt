@@ -1,5 +1,5 @@
 -- What is known of the parts that were left of a connection, before they are put together.
-use Rattle.std.proofs.Common.{◌≡◌, true, false, List, Option, Some, None, sym, ap, subst, ◌∙◌}
+use Rattle.std.proofs.Common.{◌≡◌, false, List, Option, Some, sym, ap, subst, ◌∙◌}
 use Rattle.std.specs.Prelude.{IfSome}
 use Rattle.mrpc_base.specs.declared.clock.Clock.{Ghosts as ClockMembers}
 use Rattle.mrpc_base.specs.declared.link.Link.{Ghosts as LinkMembers}
@@ -12,7 +12,6 @@ use Rattle.run_plan.specs.declared.application.Role.TheVariants as role
 use Rattle.app_stub.specs.declared.port.AppEnd.{AppEnd}
 use Rattle.app_stub.specs.declared.port.AppPort.{AppPort}
 use Rattle.app_stub.specs.declared.port.AppSent.{AppSent}
-use Rattle.app_stub.specs.Ports.{TookAll}
 use Rattle.link_queue.specs.Queueing.{Queueing}
 use Rattle.link_queue.specs.Writers.{end_backward, end_forward}
 use Rattle.link_queue.specs.declared.writer_end.WriterEnd.{WriterEnd}
@@ -21,6 +20,7 @@ use Rattle.service_loop.specs.Serving.{IsServed}
 use Rattle.service_wiring.specs.Applications.{Did, HasDone}
 use Rattle.service_wiring.specs.declared.closed.Closed.{Closed}
 use Rattle.service_run.specs.Closings.{IsLeft, Opening}
+use Rattle.service_run.specs.Parts.{MayMeet}
 use Rattle.service_run.proofs.Members.{IsQueue}
 
 -- the rings of what an application left are those of its port
@@ -39,22 +39,6 @@ reclaims-ring role.Echo T port end sent did = did.sent.reclaims_ring
 -- the rest of a fact on what there is
 pub on-some : {T : Type 0} (P : T → Type 0) (o : Option T) (x : T) → o ≡ Some x → IfSome o P → P x
 on-some P o x is h = subst (λ o. IfSome o P) is h
-
--- what the parts have to be before they meet
-pub record MayMeet (closed : Closed) (end : AppEnd) (sent : AppSent) : Type 0 where
-  pub served : IsServed closed.submissions
-  pub heap : end.note.heap ≡ closed.submissions.reader.heap
-  pub last : end.note.last ≡ true
-  pub calls : sent.calls.ring ≡ closed.submissions.calls.ring
-  pub calls_closed : closed.submissions.calls.closed ≡ true
-  pub no_notices : closed.deliveries.notices.notices ≡ None
-  pub no_blocks : closed.deliveries.notices.blocks ≡ None
-  pub notices : ring_of closed.deliveries.notices.notices closed.deliveries.notices.noticed ≡ Some end.notices.ring
-  pub blocks : number_ring_of closed.deliveries.notices.blocks closed.deliveries.notices.numbered
-      ≡ Some end.blocks.ring
-  pub took : TookAll end
-  pub reclaims : sent.reclaims.ring ≡ closed.deliveries.reclaims.numbers.ring
-  pub reclaims_closed : closed.deliveries.reclaims.numbers.closed ≡ true
 
 module _ {C L : Type 0} {of_clock : ClockMembers C} {of_quotas : TicketMembers (List Drawing)}
     {of_link : LinkMembers Queueing} {g : LinkMembers L} (o : Opening C L) (closed : Closed) (end : AppEnd)
@@ -87,7 +71,7 @@ module _ {C L : Type 0} {of_clock : ClockMembers C} {of_quotas : TicketMembers (
     pub over-is : IsOver of_clock of_quotas of_link left.closed_of.last
     over-is = left.closed_of.done no-memory
 
-    pub may-meet : (sent : AppSent) → end.sent ≡ Some sent → MayMeet closed end sent
+    pub may-meet : (sent : AppSent) → end.sent ≡ Some sent → MayMeet closed.submissions closed.deliveries end sent
     may-meet sent is =
         let c = left.closed_of in
         let last = c.last in

@@ -1,6 +1,6 @@
 -- What was left of several connections, one behind the other.
 use Rattle.std.proofs.Common.{◌≡◌, List, [], ◌∷◌, ◌++◌, length, Option, None, Some, arith, refl, sym, ap, subst, ◌∙◌, append_assoc, append-nil}
-use Rattle.std.specs.Prelude.{MatchOption, unwrap_or}
+use Rattle.std.specs.Prelude.{MatchOption}
 use Rattle.std.specs.List.{AllZip}
 use Rattle.mrpc_base.specs.declared.clock.Clock.{Ghosts as ClockMembers}
 use Rattle.mrpc_base.specs.declared.link.Link.{Ghosts as LinkMembers}
@@ -40,14 +40,6 @@ zip-push Served (p ∷ os) (y ∷ xs) o x zip here = (zip.0, zip-push Served os 
 
 module _ {C L : Type 0} (of_clock : ClockMembers C) (of_quotas : TicketMembers (List Drawing))
     (of_link : LinkMembers Queueing) {g : LinkMembers L} where
-  -- it is the same where it is said of the same end and the same writer
-  pub left-same : (o : Opening C L) (closed : Closed) (end end' : AppEnd) (writer writer' : WriterEnd L g)
-      → Some end ≡ Some end' → Some writer ≡ Some writer' → IsLeft of_clock of_quotas of_link o closed end writer
-      → IsLeft of_clock of_quotas of_link o closed end' writer'
-  left-same o closed end end' writer writer' same same-writer left =
-      subst (λ e. IsLeft of_clock of_quotas of_link o closed e writer') (ap (λ x. unwrap_or x end) same)
-      (subst (λ w. IsLeft of_clock of_quotas of_link o closed end w) (ap (λ x. unwrap_or x writer) same-writer) left)
-
   -- what is left of the next connection, and of those behind it
   pub record Next (openings : List (Opening C L)) (closed : Closed) (end : AppEnd) (writer : WriterEnd L g)
       (more : List Closed) (ends : List AppEnd) (writers : List (WriterEnd L g)) : Type 0 where
@@ -64,6 +56,20 @@ module _ {C L : Type 0} (of_clock : ClockMembers C) (of_quotas : TicketMembers (
   next-left [] closed end writer more ends writers left = absurd left
   next-left (o ∷ openings) closed end writer more ends writers left =
       record { o = o; later = openings; are = refl; is_left = left.0; are_left = left.1 }
+
+  -- where a connection is left, an end and a writer are left with it
+  no-end : (openings : List (Opening C L)) (closed : Closed) (more : List Closed) (writers : List (WriterEnd L g))
+      → AreLeft of_clock of_quotas of_link openings (closed ∷ more) [] writers → ⊥
+  no-end [] closed more writers left = left
+  no-end (o ∷ openings) closed more writers left = left
+
+  no-writer : (openings : List (Opening C L)) (closed : Closed) (more : List Closed) (ends : List AppEnd)
+      (writers : List (WriterEnd L g)) → writers ≡ []
+      → AreLeft of_clock of_quotas of_link openings (closed ∷ more) ends writers → ⊥
+  no-writer [] closed more ends writers none left = left
+  no-writer (o ∷ openings) closed more [] writers none left = left
+  no-writer (o ∷ openings) closed more (end ∷ ends) [] none left = left
+  no-writer (o ∷ openings) closed more (end ∷ ends) (writer ∷ writers) none left = absurd cc
 
   no-more : (openings : List (Opening C L)) (ends : List AppEnd) (writers : List (WriterEnd L g))
       → AreLeft of_clock of_quotas of_link openings [] ends writers → openings ≡ []
@@ -89,6 +95,19 @@ module _ {C L : Type 0} (of_clock : ClockMembers C) (of_quotas : TicketMembers (
           (subst (λ es. AreLeft of_clock of_quotas of_link openings closed es writers') (sym same-ends)
           (subst (λ ws. AreLeft of_clock of_quotas of_link openings closed ends ws) (sym same-writers) left));
     }
+
+    pub some-end : (openings : List (Opening C L)) (met : List X) (one : Closed) (closed closed' : List Closed)
+        (ends : List AppEnd) (writers : List (WriterEnd L g)) → closed ≡ one ∷ closed' → ends ≡ []
+        → SoFar openings met closed ends writers → ⊥
+    some-end openings met one closed closed' ends writers same none h = no-end h.rest one closed' writers
+        (subst (λ cs. AreLeft of_clock of_quotas of_link h.rest cs [] writers) same
+        (subst (λ es. AreLeft of_clock of_quotas of_link h.rest closed es writers) none h.left))
+
+    pub some-writer : (openings : List (Opening C L)) (met : List X) (one : Closed) (closed closed' : List Closed)
+        (ends : List AppEnd) (writers : List (WriterEnd L g)) → closed ≡ one ∷ closed' → writers ≡ []
+        → SoFar openings met closed ends writers → ⊥
+    some-writer openings met one closed closed' ends writers same none h = no-writer h.rest one closed' ends writers none
+        (subst (λ cs. AreLeft of_clock of_quotas of_link h.rest cs ends writers) same h.left)
 
     pub next-of : (openings : List (Opening C L)) (met : List X) (one : Closed) (end : AppEnd)
         (writer : WriterEnd L g) (closed closed' : List Closed) (ends ends' : List AppEnd)

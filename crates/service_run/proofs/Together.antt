@@ -36,33 +36,15 @@ use Rattle.link_queue.specs.declared.writer_end.WriterEnd.{WriterEnd}
 use Rattle.service_loop.specs.Calls.{moments_at_calls, moments_in}
 use Rattle.service_loop.specs.Delivering.{HaveGoneOn, held_numbers, message_blocks, messages_of}
 use Rattle.service_loop.specs.Rounds.{GoesOn, IsOver, IsWhole, weight_of_share}
-use Rattle.service_loop.specs.declared.submissions.Submissions.{Submissions}
 use Rattle.service_wiring.specs.Applications.{Did, HasDone}
 use Rattle.service_wiring.specs.declared.closed.Closed.{Closed}
 use Rattle.service_run.specs.Closings.{IsLeft, Opening}
-use Rattle.service_run.specs.Parts.{FailsWith, HasPassed, KnowsAll}
+use Rattle.service_run.specs.Parts.{HasMet, HasPassed}
 use Rattle.service_run.specs.Served.{Arrived, DidAs, HasServed, WasDelivered, WasHanded, echo_on}
 use Rattle.service_run.specs.declared.served.BoundConn.{BoundConn}
 use Rattle.service_run.proofs.Accounts.{account-of}
 use Rattle.service_run.proofs.BeforeMeeting.{goes-on, on-some, over-is, share-is, whole-is}
 use Rattle.service_run.proofs.Members.{AreSeats, IsQueue, told-later}
-
--- what the parts are, once they were put together
-pub record HasMet (closed : Closed) (end : AppEnd) (sent : AppSent) (failed : Bool) (b : BoundConn) : Type 0 where
-  pub mid : Submissions
-  pub fails : FailsWith failed closed.submissions mid
-  pub knows : KnowsAll end.note sent.calls mid b.submissions
-  pub note : b.note ≡ end.note
-  pub reader : b.reader ≡ end.reader
-  pub arrivals : b.arrivals ≡ closed.deliveries.arrivals
-  pub share : b.share ≡ closed.share
-  pub notices : b.notices.taken ≡ end.notices.taken
-  pub told : end.notices.taken ≡ notices_of closed.deliveries.notices
-  pub blocks : b.blocks.taken ≡ end.blocks.taken
-  pub numbers : end.blocks.taken ≡ numbers_of closed.deliveries.notices
-  pub returned : b.reclaims.numbers.taken ≡ sent.reclaims.items
-  pub reclaiming : (numbers back : List ℕ) → IsReclaiming numbers back closed.deliveries.reclaims
-      → IsReclaiming numbers back b.reclaims
 
 -- ---- lists
 
@@ -155,7 +137,7 @@ module _ {C L : Type 0} {of_clock : ClockMembers C} {of_quotas : TicketMembers (
     (w : WriterEnd L g) (left : IsLeft of_clock of_quotas of_link o closed end w) (queue : IsQueue of_link)
     (quotas : AreSeats of_quotas) (memory : closed.memory ≡ false) (sent : AppSent) (is : end.sent ≡ Some sent)
     (failed : Bool) (now : L) (passed : HasPassed g (start_of w) closed.passed failed now) (b : BoundConn)
-    (met : HasMet closed end sent failed b) where
+    (met : HasMet closed.submissions closed.deliveries closed.share end sent failed b) where
   on : GoesOn of_clock of_quotas of_link left.first left.closed_of.last
   on = goes-on o closed end w left queue memory
 

@@ -1,23 +1,30 @@
 -- The code's own: what the parts of a connection come to when they are put together.
-use Rattle.std.specs.Prelude.{◌≡◌, ◌++◌, ℕ, Bool, List, true, false}
+use Rattle.std.specs.Prelude.{◌≡◌, ◌++◌, ℕ, Bool, List, Option, Some, None, true, false}
 use mathlib.Core.List.{IsPrefix}
 use Rattle.mrpc_base.specs.Faults.{Rose}
 use Rattle.mrpc_base.specs.declared.clock.Clock.{Ghosts as ClockMembers}
 use Rattle.mrpc_base.specs.declared.link.Link.{Ghosts as LinkMembers}
 use Rattle.mrpc_base.specs.declared.tickets.Tickets.{Ghosts as TicketMembers}
 use Rattle.tenant_quota.specs.Drawing.{Drawing}
+use Rattle.app_stub.specs.Ports.{TookAll}
+use Rattle.app_stub.specs.declared.port.AppEnd.{AppEnd}
+use Rattle.app_stub.specs.declared.port.AppSent.{AppSent}
 use Rattle.call_history.specs.Tickets.{tickets_behind}
 use Rattle.conn_core.specs.Connections.{behind, frames}
+use Rattle.deliveries.specs.Telling.{IsReclaiming, notices_of, number_ring_of, numbers_of, ring_of}
 use Rattle.descriptor_ring.specs.Rings.{AllSent}
 use Rattle.link_queue.specs.Known.{TellsMore}
 use Rattle.link_queue.specs.Queueing.{PassedOn, Queueing}
 use Rattle.service_loop.specs.Calls.{moments_at_calls, moments_in}
 use Rattle.service_loop.specs.Rounds.{IsEndpoint}
 use Rattle.service_loop.specs.Serving.{AreSame, IsServed}
+use Rattle.service_loop.specs.declared.delivering.Deliveries.{Deliveries}
+use Rattle.service_loop.specs.declared.share.Share.{Share}
 use Rattle.service_loop.specs.declared.submissions.Submissions.{Submissions}
 use Rattle.service_wiring.specs.Closing.{IsLeftOf}
 use Rattle.service_wiring.specs.declared.closed.Closed.{Closed}
 use Rattle.service_run.specs.Closings.{Item}
+use Rattle.service_run.specs.declared.served.BoundConn.{BoundConn}
 use Rattle.shared_heap.specs.Fresh.{Noting}
 
 -- What an inner link has to do with the closed link of its queue, and whether it failed.
@@ -61,6 +68,40 @@ pub record FailsWith (failed : Bool) (old new : Submissions) : Type 0 where
   pub accepted : new.accepted ≡ old.accepted
   pub ends : failed ≡ true → new.conn.ended ≡ true
   pub works : failed ≡ false → new.conn ≡ old.conn
+
+-- What was left of a connection and of its application, before it is put together: the rings are theirs, and were
+-- closed and taken to their ends.
+pub record MayMeet (submissions : Submissions) (deliveries : Deliveries) (end : AppEnd) (sent : AppSent) : Type 0 where
+  pub served : IsServed submissions
+  pub heap : end.note.heap ≡ submissions.reader.heap
+  pub last : end.note.last ≡ true
+  pub calls : sent.calls.ring ≡ submissions.calls.ring
+  pub calls_closed : submissions.calls.closed ≡ true
+  pub no_notices : deliveries.notices.notices ≡ None
+  pub no_blocks : deliveries.notices.blocks ≡ None
+  pub notices : ring_of deliveries.notices.notices deliveries.notices.noticed ≡ Some end.notices.ring
+  pub blocks : number_ring_of deliveries.notices.blocks deliveries.notices.numbered ≡ Some end.blocks.ring
+  pub took : TookAll end
+  pub reclaims : sent.reclaims.ring ≡ deliveries.reclaims.numbers.ring
+  pub reclaims_closed : deliveries.reclaims.numbers.closed ≡ true
+
+-- What they are, once they were put together.
+pub record HasMet (submissions : Submissions) (deliveries : Deliveries) (began : Option Share) (end : AppEnd)
+    (sent : AppSent) (failed : Bool) (b : BoundConn) : Type 0 where
+  pub mid : Submissions
+  pub fails : FailsWith failed submissions mid
+  pub knows : KnowsAll end.note sent.calls mid b.submissions
+  pub note : b.note ≡ end.note
+  pub reader : b.reader ≡ end.reader
+  pub arrivals : b.arrivals ≡ deliveries.arrivals
+  pub share : b.share ≡ began
+  pub notices : b.notices.taken ≡ end.notices.taken
+  pub told : end.notices.taken ≡ notices_of deliveries.notices
+  pub blocks : b.blocks.taken ≡ end.blocks.taken
+  pub numbers : end.blocks.taken ≡ numbers_of deliveries.notices
+  pub returned : b.reclaims.numbers.taken ≡ sent.reclaims.items
+  pub reclaiming : (numbers back : List ℕ) → IsReclaiming numbers back deliveries.reclaims
+      → IsReclaiming numbers back b.reclaims
 
 -- These are the parts of a connection that holds.
 pub record WasClosed {C : Type 0} (of_clock : ClockMembers C) (of_quotas : TicketMembers (List Drawing))

@@ -1,14 +1,13 @@
 //! What the threads left of one connection is put together.
 
-ghost use Rattle.std.specs.Prelude.{◌≡◌, ℕ, List, None, Some, IfOk, OnOk, IsTrue, true, false};
+ghost use Rattle.std.specs.Prelude.{◌≡◌, ℕ, List, None, Some, IfOk, IsTrue, true, false};
 ghost use Rattle.std.specs.List.{AllZip};
-ghost use Rattle.app_stub.specs.declared.port.AppEnd.{AppEnd as TheEnd};
+ghost use Rattle.app_stub.specs.declared.port.AppSent.{AppSent as TheSent};
 ghost use Rattle.deliveries.specs.Telling.{IsReclaiming, notices_of, number_ring_of, numbers_of, ring_of};
-ghost use Rattle.link_queue.specs.declared.writer_end.WriterEnd.{WriterEnd as TheWriterEnd};
 ghost use Rattle.link_queue.specs.Writers.{end_backward, end_forward, start_of};
 ghost use Rattle.service_loop.specs.Serving.{IsServed};
 ghost use Rattle.service_run.specs.Closings.{AreLeft, IsLeft, Opening};
-ghost use Rattle.service_run.specs.Parts.{FailsWith, HasPassed, KnowsAll};
+ghost use Rattle.service_run.specs.Parts.{FailsWith, HasMet, HasPassed, KnowsAll, MayMeet};
 ghost use Rattle.service_run.specs.Served.{HasServed};
 
 use crate::served::BoundConn;
@@ -18,7 +17,7 @@ use descriptor_ring::{NumberReceiver, NumbersSent, Receiver, Sent};
 use link_queue::{Passed, QueueLink, WriterEnd};
 use mrpc_base::{Clock, Link, Tickets};
 use mrpc_table::Memory;
-use service_loop::{Deliveries, Submissions};
+use service_loop::{Deliveries, Share, Submissions};
 use service_wiring::Closed;
 use shared_heap::{Note, calls_are_fresh};
 use std::alloc::Global;
@@ -57,34 +56,14 @@ pub fn meet_each<'t, R: Wait + 't, C: Clock, L: Link + Drop>(
     let mut writers = writers.into_iter();
     let mut rest = closed.into_iter();
     while let Some(one) = rest.next() {
-        let met = meet_next(rt, clock, one, ends.next(), writers.next())?;
+        let end = ends.next();
+        let writer = writers.next();
+        let Some(end) = end else { unreachable!() };
+        let Some(writer) = writer else { unreachable!() };
+        let met = meet(rt, clock, one, end, writer)?;
         all.push(met)?;
     }
     Ok(all)
-}
-
-// Puts together what was left of the next connection, where its application's end and its writer's are there.
-fn meet_next<'t, R: Wait + 't, C: Clock, L: Link + Drop>(
-    rt: &R,
-    clock: &C,
-    closed: Closed<'t>,
-    end: Option<AppEnd>,
-    writer: Option<WriterEnd<L>>,
-) -> Result<Met<'t, L>, Memory>
-    requires left { (e : TheEnd) (w : TheWriterEnd L L.Link) → end ≡ Some e → writer ≡ Some w → (o : Opening C L)
-        × IsLeft C.Clock ⟦<Seats as Tickets>⟧ ⟦<QueueLink<'t, R> as Link>⟧ o closed e w }
-    ensures there { OnOk result ((e : TheEnd) × (w : TheWriterEnd L L.Link) × (end ≡ Some e) × (writer ≡ Some w)) }
-    ensures served { (o : Opening C L) (e : TheEnd) (w : TheWriterEnd L L.Link) → end ≡ Some e → writer ≡ Some w
-        → IsLeft C.Clock ⟦<Seats as Tickets>⟧ ⟦<QueueLink<'t, R> as Link>⟧ o closed.entry e w
-        → IfOk result (λ met. HasServed C.Clock L.Link o met.bound met.seats met.link) }
-{
-    let Some(end) = end else {
-        return Err(Memory);
-    };
-    let Some(writer) = writer else {
-        return Err(Memory);
-    };
-    meet(rt, clock, closed, end, writer)
 }
 
 /// Puts together what was left of one connection behind the joins of its threads: the rings are met by what their
@@ -104,9 +83,73 @@ pub fn meet<'t, R: Wait + 't, C: Clock, L: Link + Drop>(
         → IsLeft C.Clock ⟦<Seats as Tickets>⟧ ⟦<QueueLink<'t, R> as Link>⟧ o closed.entry end writer
         → IfOk result (λ met. HasServed C.Clock L.Link o met.bound met.seats met.link) }
 {
-    if closed.memory {
+    if closed.memory || end.sent.is_none() {
+        // Both have many parts, each of which would be dropped here by itself.
+        drop(closed);
+        drop(end);
         return Err(Memory);
     }
+    let Closed {
+        submissions,
+        deliveries,
+        seats,
+        passed,
+        share,
+        memory: _,
+    } = closed;
+    let met = meet_link(writer, passed);
+    let bound = put_together(met.failed, submissions, deliveries, share, end);
+    if met.memory {
+        return Err(Memory);
+    }
+    Ok(Met {
+        bound,
+        seats,
+        link: met.link,
+    })
+}
+
+// An inner link whose writer met what is left of the link of its queue.
+#[derive(Drop)]
+struct MetLink<L> {
+    link: L,
+    // Whether it failed.
+    failed: bool,
+    // Whether its writer found no memory.
+    memory: bool,
+}
+
+// Has the writer of a link meet what is left of the link of its queue.
+fn meet_link<L: Link + Drop>(mut writer: WriterEnd<L>, passed: Passed) -> MetLink<L>
+    requires forward { passed.forward ≡ end_forward writer }
+    requires backward { passed.backward ≡ end_backward writer }
+    ensures { result.memory ≡ false → HasPassed L.Link (start_of writer) passed result.failed result.link }
+{
+    writer.meet(passed);
+    let failed = writer.failed();
+    let memory = writer.memory();
+    let link = writer.into_link();
+    MetLink {
+        link,
+        failed,
+        memory,
+    }
+}
+
+// Puts together what was left of a connection and of its application, which both came to their ends. The link failed, or
+// it didn't.
+fn put_together<'t>(
+    failed: bool,
+    mut submissions: Submissions<'t>,
+    deliveries: Deliveries<'t>,
+    share: Option<Share>,
+    end: AppEnd,
+) -> BoundConn<'t>
+    requires sent { (sent : TheSent) × (end.sent ≡ Some sent) }
+    requires met { (sent : TheSent) → end.sent ≡ Some sent → MayMeet submissions deliveries end sent }
+    ensures { (sent : TheSent) × (end.sent ≡ Some sent)
+        × HasMet submissions.entry deliveries.entry share end sent failed result }
+{
     let AppEnd {
         mut note,
         reader,
@@ -115,59 +158,30 @@ pub fn meet<'t, R: Wait + 't, C: Clock, L: Link + Drop>(
         memory: _,
         sent,
     } = end;
-    let Some(sent) = sent else {
-        return Err(Memory);
-    };
-    let Closed {
-        mut submissions,
-        deliveries,
-        seats,
-        passed,
-        share,
-        memory: _,
-    } = closed;
-    let (failed, link) = meet_link(writer, passed)?;
+    let Some(sent) = sent else { unreachable!() };
+    let AppSent {
+        calls,
+        reclaims: returned,
+    } = sent;
     let Deliveries {
         arrivals,
         notices: told,
         mut reclaims,
     } = deliveries;
-    let AppSent {
-        calls,
-        reclaims: returned,
-    } = sent;
     fail_with(failed, &mut submissions);
     meet_calls(&mut submissions, &mut note, calls);
     meet_notices(&mut notices, &mut blocks, told);
     meet_reclaims(&mut reclaims, returned);
-    Ok(Met {
-        bound: BoundConn {
-            submissions,
-            arrivals,
-            reclaims,
-            share,
-            note,
-            reader,
-            notices,
-            blocks,
-        },
-        seats,
-        link,
-    })
-}
-
-// Has the writer of a link meet what is left of the link of its queue, and answers whether the inner link failed.
-fn meet_link<L: Link + Drop>(mut writer: WriterEnd<L>, passed: Passed) -> Result<(bool, L), Memory>
-    requires forward { passed.forward ≡ end_forward writer }
-    requires backward { passed.backward ≡ end_backward writer }
-    ensures { IfOk result (λ met. HasPassed L.Link (start_of writer) passed met.0 met.1) }
-{
-    writer.meet(passed);
-    if writer.memory() {
-        return Err(Memory);
+    BoundConn {
+        submissions,
+        arrivals,
+        reclaims,
+        share,
+        note,
+        reader,
+        notices,
+        blocks,
     }
-    let failed = writer.failed();
-    Ok((failed, writer.into_link()))
 }
 
 // Ends a connection whose link failed.

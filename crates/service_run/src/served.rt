@@ -6,7 +6,6 @@ use service_loop::{Share, Submissions};
 use shared_heap::{Note, Reader};
 
 /// A connection that was bound, and served its application to the end.
-#[derive(Drop)]
 pub struct BoundConn<'t> {
     /// Its calls: the connection with its history, the reader of the application's heap, and the ring on which they
     /// came.
@@ -24,4 +23,20 @@ pub struct BoundConn<'t> {
     /// The application's ends of the rings on which it was told of its messages.
     pub notices: Receiver,
     pub blocks: NumberReceiver,
+}
+
+// By hand, so that a drop is one call where it is needed, and not a drop of each part.
+impl<'t> Drop for BoundConn<'t> {
+    fn drop(self) {
+        let BoundConn {
+            submissions: _submissions,
+            arrivals: _arrivals,
+            reclaims: _reclaims,
+            share: _,
+            note: _note,
+            reader: _reader,
+            notices: _notices,
+            blocks: _blocks,
+        } = self;
+    }
 }

@@ -110,16 +110,17 @@ pub fn run_threads<
     let alloc = common.alloc;
     let stop = common.stop;
     let connections = Connections { items };
-    let (ends, (writers, closed)) = thread::join(
+    let (ends, (writers, closed)) = beside(
         rt,
         move ||
             requires { All IsJob jobs.items }
         { run_applications(rt, alloc, stop, jobs) },
+        move || run_writers(rt, stop, writers),
         move ||
             requires few_items { length connections.items.items ≤ MOST_ITEMS }
             requires some_worker { 1 ≤ workers }
             requires few_workers { workers ≤ MOST_WORKERS }
-        { serve_beside(rt, alloc, stop, workers, connections, writers) },
+        { run_workers(rt, alloc, stop, workers, connections) },
     );
     Ok(Left {
         ends: ends?,
@@ -128,42 +129,26 @@ pub fn run_threads<
     })
 }
 
-// Runs the writers of links and workers beside each other.
-fn serve_beside<
-    't,
-    'w,
-    R: Threads + Wait + Sync + 'w,
-    L: Link + Send + Drop,
-    C: Clock,
-    G: Gate,
-    O: ReadyOrder,
-    S: StopFlag,
->(
-    rt: &'w R,
-    alloc: Global,
-    stop: &S,
-    workers: usize,
-    connections: Connections<'t, R, C, G, O>,
-    writers: Vec<QueueWriter<'w, R, L>>,
-) -> (
-    Result<Vec<WriterEnd<L>>, Memory>,
-    Result<Vec<Closed<'t>>, Memory>,
-)
-    requires few_items { length connections.items.items ≤ MOST_ITEMS }
-    requires some_worker { 1 ≤ workers }
-    requires few_workers { workers ≤ MOST_WORKERS }
-    ensures writers { IfOk result.0 (λ ends. AllZip IsWrittenBy writers.entry.items ends.items) }
-    ensures closed { IfOk result.1 (λ all. AllZip
-        (IsClosedOf C.Clock ⟦<Seats as Tickets>⟧ ⟦<QueueLink<'t, R> as Link>⟧) connections.entry.items.items
-        all.items) }
+// Runs three functions beside each other.
+fn beside<
+    R: Threads,
+    F: FnOnce() -> A + Send,
+    G: FnOnce() -> B + Send,
+    H: FnOnce() -> D,
+    A: Send,
+    B: Send,
+    D,
+>(rt: &R, f: F, g: G, h: H) -> (A, (B, D))
+    requires { F.pre f × G.pre g × H.pre h }
+    ensures first { F.post f result.0 }
+    ensures second { G.post g result.1.0 }
+    ensures third { H.post h result.1.1 }
 {
     thread::join(
         rt,
-        move || run_writers(rt, stop, writers),
+        f,
         move ||
-            requires few_items { length connections.items.items ≤ MOST_ITEMS }
-            requires some_worker { 1 ≤ workers }
-            requires few_workers { workers ≤ MOST_WORKERS }
-        { run_workers(rt, alloc, stop, workers, connections) },
+            requires { G.pre g × H.pre h }
+        { thread::join(rt, g, h) },
     )
 }

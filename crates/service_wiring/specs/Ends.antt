@@ -1,7 +1,10 @@
 -- The code's own: the ends of the rings between an application and the service, as they were opened.
 use Rattle.std.specs.Prelude.{◌≡◌, ℕ, [], false}
-use Rattle.shared_heap.specs.Fresh.{HeapId}
+use Rattle.app_stub.specs.Ports.{IsNew}
+use Rattle.run_plan.specs.declared.application.Application.{Application}
+use Rattle.shared_heap.specs.Fresh.{HeapId, Reading}
 use Rattle.service_wiring.specs.declared.ends.Ends.{Ends}
+use Rattle.service_wiring.specs.declared.ported.Ported.{Ported}
 
 -- Nothing was sent or taken. Calls are of the heap that the application writes, and notices of the one that it reads.
 pub record AreEnds (cap : ℕ) (sent received : HeapId) (ends : Ends) : Type 0 where
@@ -24,3 +27,21 @@ pub record AreEnds (cap : ℕ) (sent received : HeapId) (ends : Ends) : Type 0 w
   pub none_given : ends.reclaims.sent ≡ []
   pub none_back : ends.rings.reclaims.taken ≡ []
   pub reclaims_open : ends.rings.reclaims.closed ≡ false
+
+-- The port of an application as it was opened, with a new heap and new rings. By it the application reads what the
+-- reader does.
+pub record IsPorted (app : Application) (reader : Reading) (p : Ported) : Type 0 where
+  pub words : p.port.writer.heap.words ≡ app.heap
+  pub capacity : p.port.capacity ≡ app.ring
+  pub its_reader : p.port.reader ≡ reader
+  pub new : reader.loads ≡ [] → IsNew p.port
+  pub one_heap : p.own_reader.heap ≡ p.port.writer.heap
+  pub loads : p.own_reader.loads ≡ []
+  pub ends : AreEnds app.ring p.own_reader.heap reader.heap (record {
+    sender = p.port.sender;
+    noticed = p.port.notices;
+    numbered = p.port.blocks;
+    reclaims = p.port.reclaims;
+    calls = p.calls;
+    rings = p.rings;
+  })

@@ -17,6 +17,7 @@ mod closed;
 mod common;
 mod ends;
 mod laws;
+mod ported;
 mod programs;
 mod steps;
 mod turned;

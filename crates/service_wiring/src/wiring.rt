@@ -11,10 +11,9 @@ ghost use Rattle.service_wiring.specs.Wired.{Beginning, IsWired};
 
 use crate::applications::Job;
 use crate::common::Common;
-use crate::ends::{Ends, open_ends};
+use crate::ported::open_port;
 use crate::programs::programmed;
 use crate::turned::Turned;
-use app_stub::AppPort;
 use conn_core::Conn;
 use deliveries::{Arrivals, Stream};
 use link_queue::{QueueLink, QueueWriter};
@@ -77,20 +76,16 @@ pub fn wire<'t, R: Wait, L: Link + Drop, C: Clock, G, O: ReadyOrder>(
     let alloc = common.alloc;
     let table = common.plan.table_of(app);
     let buffer = vec![in alloc; 0; MOST_BYTES]?;
-    let stop = common.stop.try_clone()?;
     let (queue, passing) = link_queue::open(common.rt, alloc, QUEUE, link)?;
     let conn = Conn::open(alloc, app.conn, table, common.plan.loads)?;
-    let (writer, own_reader) = shared_heap::open(alloc, app.heap)?;
-    let Ends {
-        sender,
-        noticed,
-        numbered,
-        reclaims,
-        calls,
-        rings,
-    } = open_ends(alloc, app.ring, &own_reader, &reader)?;
-    let submissions = Submissions::new(conn, own_reader, calls, steps);
-    let deliveries = Deliveries::new(alloc, opened_again(arrivals), rings, programmed(&app.role));
+    let ported = open_port(alloc, app, common.stop, reader)?;
+    let submissions = Submissions::new(conn, ported.own_reader, ported.calls, steps);
+    let deliveries = Deliveries::new(
+        alloc,
+        opened_again(arrivals),
+        ported.rings,
+        programmed(&app.role),
+    );
     let share = share_of(common.plan, app);
     let endpoint = Endpoint::new(
         submissions,
@@ -101,20 +96,10 @@ pub fn wire<'t, R: Wait, L: Link + Drop, C: Clock, G, O: ReadyOrder>(
         buffer,
         share,
     );
-    let port = AppPort {
-        writer,
-        sender,
-        capacity: app.ring,
-        notices: noticed,
-        blocks: numbered,
-        reader,
-        reclaims,
-        stop,
-    };
     let job = Job {
         role: &app.role,
         table,
-        port,
+        port: ported.port,
     };
     Ok((Turned::new(common, endpoint), job, passing))
 }

@@ -12,8 +12,8 @@ pub loop-end-init : goal.loop-end-init
 loop-end-init g c = λ ends zip steps.
     none-begun g.L.Link c.args.common.now.plan.now c.args.common.now.clock.now ends _ _ _ _ _ _
     (subst (λ xs. AllZip (WasGreeted g.L.Link c.args.common.now.plan.now) ends xs) (sym c.into_iter-rest.ensures.rest)
-    zip) c.new.ensures.items c.new-2.ensures.items c.new-3.ensures.items c.new-4.ensures.items c.in_ok-all_seats.ensures.tenants c.in_ok-all_seats.ensures.shares
-    c.in_ok-all_seats.ensures.not_drawn c.shares_suffice.ensures.whole
+    zip) c.new.ensures.items c.new-2.ensures.items c.new-3.ensures.items c.new-4.ensures.items c.in_ok-seats.ensures.tenants c.in_ok-seats.ensures.shares
+    c.in_ok-seats.ensures.not_drawn c.shares_suffice.ensures.whole
 
 pub loop-end-smaller : goal.loop-end-smaller
 loop-end-smaller g c =

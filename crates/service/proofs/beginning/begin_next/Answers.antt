@@ -1,10 +1,12 @@
-use Rattle.std.proofs.Common.{◌<◌, ◌∙◌, List, arith, length, map, refl, subst, sym}
+use Rattle.std.proofs.Common.{◌<◌, ◌≤◌, ◌∙◌, List, arith, length, map, refl, subst, sym}
 use Rattle.std.proofs.lemmas.List.{length-map}
+use Rattle.mrpc_table.specs.declared.limits.TheConstants.{MIN_HEAP}
+use Rattle.receive_core.specs.Life.{fed, greeted, no_life}
 use Rattle.tenant_quota.specs.Drawing.{new_half}
 use Rattle.service_loop.specs.Steps.{AreSteps, KnowTenants}
 use Rattle.service_loop.specs.declared.due_step.DueStep.{DueStep}
 use Rattle.service.specs.Prepared.{HasSteps}
-use Rattle.service.proofs.Apps.{app-there}
+use Rattle.service.proofs.Apps.{app-there, is-application}
 use Rattle.service.proofs.Hellos.{on-ok-map}
 use Rattle.service.proofs.Stands.{bound-next, first-of, is-begun, is-out, not-drawn-new, out-next, steps-at, steps-within, when-heard}
 use Rattle.service.proofs.beginning.begin_next.Goals as goal
@@ -35,6 +37,47 @@ take_up-requires-clause-known g c κs within =
     subst (λ (xs : List DueStep). KnowTenants (λ tenant. tenant < length c.args.begun.now.seats) xs)
     (sym c.as_slice.ensures.value)
     (subst (λ m. KnowTenants (λ tenant. tenant < m) c.index-steps-len.result.items) (sym n.6.tenants) has.known)
+
+pub take_up-requires-clause-lived : goal.take_up-requires-clause-lived
+take_up-requires-clause-lived g c κs within =
+    let n = c.requires.next in
+    let heard = when-heard g.L.Link c.args.common.now.plan.now n.3 c.args.end n.4 c.in-None.is in
+    (greeted (fed no_life heard.stream heard.fault) heard.hello, heard.lived, refl)
+
+pub take_up-requires-clause-working : goal.take_up-requires-clause-working
+take_up-requires-clause-working g c κs within =
+    let n = c.requires.next in
+    (when-heard g.L.Link c.args.common.now.plan.now n.3 c.args.end n.4 c.in-None.is).working
+
+pub take_up-requires-clause-none_held : goal.take_up-requires-clause-none_held
+take_up-requires-clause-none_held g c κs within =
+    let n = c.requires.next in
+    (when-heard g.L.Link c.args.common.now.plan.now n.3 c.args.end n.4 c.in-None.is).none_held
+
+pub take_up-requires-clause-one_heap : goal.take_up-requires-clause-one_heap
+take_up-requires-clause-one_heap g c κs within =
+    let n = c.requires.next in
+    (when-heard g.L.Link c.args.common.now.plan.now n.3 c.args.end n.4 c.in-None.is).one_heap
+
+pub take_up-requires-clause-new_heap : goal.take_up-requires-clause-new_heap
+take_up-requires-clause-new_heap g c κs within =
+    let n = c.requires.next in
+    (when-heard g.L.Link c.args.common.now.plan.now n.3 c.args.end n.4 c.in-None.is).not_loaded
+
+pub take_up-requires-clause-words : goal.take_up-requires-clause-words
+take_up-requires-clause-words g c κs within =
+    let n = c.requires.next in
+    let plan = c.args.common.now.plan.now in
+    let app = c.args.end.app.now in
+    let heard = when-heard g.L.Link plan n.3 c.args.end n.4 c.in-None.is in
+    subst (λ words. MIN_HEAP ≤ words) (sym heard.words)
+    (is-application plan app c.requires.plan (app-there plan n.3.conn app n.4.its_app)).port.receive.0
+
+pub take_up-requires-clause-shares : goal.take_up-requires-clause-shares
+take_up-requires-clause-shares g c κs within =
+    let n = c.requires.next in
+    c.shares_suffice.ensures.seats_enough (length c.args.begun.now.items.items) c.args.begun.now.seats n.6.shares
+    (omega (arith, n.6.few, n.6.as_many, c.requires.few))
 
 pub returns-in-Some : goal.returns-in-Some
 returns-in-Some g c = λ whole ends later e greeted steps begun.

@@ -1,11 +1,17 @@
-use Rattle.std.proofs.Common.{refl}
-use Rattle.service_run.proofs.BeforeMeeting.{backward-is, forward-is}
+use Rattle.std.proofs.Common.{◌≡◌, ◌∙◌, Bool, false, true, Option, None, Some, ap, refl}
+use Rattle.std.specs.Prelude.{is_some, not}
+use Rattle.service_run.proofs.BeforeMeeting.{backward-is, forward-is, may-meet}
 use Rattle.service_run.proofs.Members.{seats-stay}
 use Rattle.service_run.proofs.Together.{has-served}
 use Rattle.service_run.proofs.meeting.meet.Goals as goal
 
-pub meet_link-requires-clause-forward : goal.meet_link-requires-clause-forward
-meet_link-requires-clause-forward g c =
+-- what isn't nothing is something
+something : {T : Type 0} (o : Option T) (none : Bool) → is_some o ≡ not none → none ≡ false → (x : T) × (o ≡ Some x)
+something (Some x) none is there = (x, refl)
+something None none is there = absurd (let wrong : false ≡ true = is ∙ ap not there in cc)
+
+pub meet_link-met-requires-clause-forward : goal.meet_link-met-requires-clause-forward
+meet_link-met-requires-clause-forward g c =
     forward-is c.requires.left.0 c.args.closed c.args.end c.args.writer c.requires.left.1 (record {
       handed = λ l. refl;
       given = λ l. refl;
@@ -16,8 +22,8 @@ meet_link-requires-clause-forward g c =
       backward = λ old new since. since.1;
     })
 
-pub meet_link-requires-clause-backward : goal.meet_link-requires-clause-backward
-meet_link-requires-clause-backward g c =
+pub meet_link-met-requires-clause-backward : goal.meet_link-met-requires-clause-backward
+meet_link-met-requires-clause-backward g c =
     backward-is c.requires.left.0 c.args.closed c.args.end c.args.writer c.requires.left.1 (record {
       handed = λ l. refl;
       given = λ l. refl;
@@ -28,9 +34,27 @@ meet_link-requires-clause-backward g c =
       backward = λ old new since. since.1;
     })
 
+pub put_together-bound-requires-clause-sent : goal.put_together-bound-requires-clause-sent
+put_together-bound-requires-clause-sent g c =
+    something c.args.end.sent c.is_none.result c.is_none.ensures c.if-is_none.false
+
+pub put_together-bound-requires-clause-met : goal.put_together-bound-requires-clause-met
+put_together-bound-requires-clause-met g c = λ sent is.
+    may-meet c.requires.left.0 c.args.closed c.args.end c.args.writer c.requires.left.1 (record {
+      handed = λ l. refl;
+      given = λ l. refl;
+      ended = λ l. refl;
+      faults = λ l. refl;
+      itself = λ l. (refl, refl, refl);
+      forward = λ old new since. since.0;
+      backward = λ old new since. since.1;
+    }) c.if-closed.false sent is
+
 pub returns : goal.returns
 returns g c = record {
-  served = λ o left. has-served o c.args.closed c.args.end c.args.writer left
+  served = λ o left.
+      let together = c.put_together-bound.ensures in
+      has-served o c.args.closed c.args.end c.args.writer left
       (record {
         handed = λ l. refl;
         given = λ l. refl;
@@ -46,20 +70,6 @@ returns g c = record {
         itself = seats-stay;
         later = λ old new later. later;
       })
-      c.if-closed.false c.in-Some.sent c.in-Some.is c.in_ok-failed.failed c.in_ok-failed.link c.in_ok-failed.ensures _
-      (record {
-        mid = c.fail_with.new.submissions;
-        fails = c.fail_with.ensures;
-        knows = c.meet_calls.ensures.knows;
-        note = c.meet_calls.ensures.note;
-        reader = refl;
-        arrivals = refl;
-        share = refl;
-        notices = c.meet_notices.ensures.same_notices;
-        told = c.meet_notices.ensures.notices;
-        blocks = c.meet_notices.ensures.same_blocks;
-        numbers = c.meet_notices.ensures.blocks;
-        returned = c.meet_reclaims.ensures.taken;
-        reclaiming = c.meet_reclaims.ensures.reclaiming;
-      });
+      c.if-closed.false together.0 together.1 c.meet_link-met.result.failed c.meet_link-met.result.link
+      (c.meet_link-met.ensures c.if-met.false) c.put_together-bound.result together.2;
 }

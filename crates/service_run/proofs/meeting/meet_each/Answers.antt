@@ -4,7 +4,7 @@ use Rattle.std.specs.Vec.Iter.{into_iter_items, into_iter_len}
 use Rattle.tenant_quota.specs.contracts.seats.SeatsTickets.TheImpl as the_seats
 use Rattle.link_queue.specs.contracts.queue_link.QueueLinkLink.TheImpl as the_link
 use Rattle.service_run.specs.Served.{HasServed}
-use Rattle.service_run.proofs.Each.{all-met, at-end, empty-list, next-of, none-met, one-more}
+use Rattle.service_run.proofs.Each.{all-met, at-end, empty-list, next-of, none-met, one-more, some-end, some-writer}
 use Rattle.service_run.proofs.meeting.meet_each.Goals as goal
 
 pub loop-one-init : goal.loop-one-init
@@ -20,32 +20,58 @@ loop-one-smaller g c =
     ap length c.in-Some.ensures.items in
     omega (arith, less)
 
-pub meet_next-requires-clause-left : goal.meet_next-requires-clause-left
-meet_next-requires-clause-left g c κs within = λ e w is-end is-writer.
+pub unreachable-requires : goal.unreachable-requires
+unreachable-requires g c =
+    let ends = at-end c.next-end.result
+    ((into_iter_len c.loop-one.ends ≡ 0) × (into_iter_len c.next-end.new.self ≡ 0))
+    (λ x. (into_iter_items c.loop-one.ends ≡ x ∷ into_iter_items c.next-end.new.self)
+    × (into_iter_len c.next-end.new.self + 1 ≡ into_iter_len c.loop-one.ends))
+    c.in_default-end.not-Some c.next-end.ensures.cases in
+    some-end g.C.Clock the_seats.ghosts (the_link.ghosts g.row.R g.R.Wait g.R.Wait-dict)
+    (λ o met. HasServed g.C.Clock g.L.Link o met.bound met.seats met.link) c.requires.left.0 c.loop-one.all.items
+    c.in-Some.one (into_iter_items c.loop-one.rest) (into_iter_items c.next.new.self) (into_iter_items c.loop-one.ends)
+    (into_iter_items c.loop-one.writers) c.in-Some.ensures.items
+    (empty-list (into_iter_items c.loop-one.ends) (sym c.loop-one.ends.rest.ok.0 ∙ ends.0))
+    (c.loop-one.invariant c.requires.left.0 c.requires.left.1)
+
+pub unreachable-requires-in_default-writer : goal.unreachable-requires-in_default-writer
+unreachable-requires-in_default-writer g c =
+    let ends = at-end c.next-writer.result
+    ((into_iter_len c.loop-one.writers ≡ 0) × (into_iter_len c.next-writer.new.self ≡ 0))
+    (λ x. (into_iter_items c.loop-one.writers ≡ x ∷ into_iter_items c.next-writer.new.self)
+    × (into_iter_len c.next-writer.new.self + 1 ≡ into_iter_len c.loop-one.writers))
+    c.in_default-writer.not-Some c.next-writer.ensures.cases in
+    some-writer g.C.Clock the_seats.ghosts (the_link.ghosts g.row.R g.R.Wait g.R.Wait-dict)
+    (λ o met. HasServed g.C.Clock g.L.Link o met.bound met.seats met.link) c.requires.left.0 c.loop-one.all.items
+    c.in-Some.one (into_iter_items c.loop-one.rest) (into_iter_items c.next.new.self) (into_iter_items c.loop-one.ends)
+    (into_iter_items c.loop-one.writers) c.in-Some.ensures.items
+    (empty-list (into_iter_items c.loop-one.writers) (sym c.loop-one.writers.rest.ok.0 ∙ ends.0))
+    (c.loop-one.invariant c.requires.left.0 c.requires.left.1)
+
+pub meet-requires-clause-left : goal.meet-requires-clause-left
+meet-requires-clause-left g c κs within =
     let next = next-of g.C.Clock the_seats.ghosts (the_link.ghosts g.row.R g.R.Wait g.R.Wait-dict)
     (λ o met. HasServed g.C.Clock g.L.Link o met.bound met.seats met.link) c.requires.left.0 c.loop-one.all.items
-    c.in-Some.one e w (into_iter_items c.loop-one.rest) (into_iter_items c.next.new.self)
-    (into_iter_items c.loop-one.ends) (into_iter_items c.next-in-Some.new.self)
-    (into_iter_items c.loop-one.writers) (into_iter_items c.next-in-Some-2.new.self) c.in-Some.ensures.items
-    (c.next-in-Some.ensures.items ∙ ap (λ o. option_to_list o ++ into_iter_items c.next-in-Some.new.self) is-end)
-    (c.next-in-Some-2.ensures.items
-    ∙ ap (λ o. option_to_list o ++ into_iter_items c.next-in-Some-2.new.self) is-writer)
+    c.in-Some.one c.in-Some-end.end c.in-Some-writer.writer (into_iter_items c.loop-one.rest)
+    (into_iter_items c.next.new.self) (into_iter_items c.loop-one.ends) (into_iter_items c.next-end.new.self)
+    (into_iter_items c.loop-one.writers) (into_iter_items c.next-writer.new.self) c.in-Some.ensures.items
+    (c.next-end.ensures.items ∙ ap (λ o. option_to_list o ++ into_iter_items c.next-end.new.self) c.in-Some-end.is)
+    (c.next-writer.ensures.items
+    ∙ ap (λ o. option_to_list o ++ into_iter_items c.next-writer.new.self) c.in-Some-writer.is)
     (c.loop-one.invariant c.requires.left.0 c.requires.left.1) in
     (next.o, next.is_left)
 
 pub loop-one-preserved : goal.loop-one-preserved
 loop-one-preserved g c = λ openings left.
-    let there = c.in_ok-met.ensures.there in
     one-more g.C.Clock the_seats.ghosts (the_link.ghosts g.row.R g.R.Wait g.R.Wait-dict)
     (λ o met. HasServed g.C.Clock g.L.Link o met.bound met.seats met.link) openings c.loop-one.all.items _
-    c.in-Some.one there.0 there.1 c.in_ok-met.met (into_iter_items c.loop-one.rest) (into_iter_items c.next.new.self)
-    (into_iter_items c.loop-one.ends) (into_iter_items c.next-in-Some.new.self)
-    (into_iter_items c.loop-one.writers) (into_iter_items c.next-in-Some-2.new.self) c.in-Some.ensures.items
-    (c.next-in-Some.ensures.items ∙ ap (λ o. option_to_list o ++ into_iter_items c.next-in-Some.new.self) there.2)
-    (c.next-in-Some-2.ensures.items
-    ∙ ap (λ o. option_to_list o ++ into_iter_items c.next-in-Some-2.new.self) there.3)
-    c.in_ok-push.ensures.items (λ o is. c.in_ok-met.ensures.served o there.0 there.1 there.2 there.3 is)
-    (c.loop-one.invariant openings left)
+    c.in-Some.one c.in-Some-end.end c.in-Some-writer.writer c.in_ok-met.met (into_iter_items c.loop-one.rest)
+    (into_iter_items c.next.new.self) (into_iter_items c.loop-one.ends) (into_iter_items c.next-end.new.self)
+    (into_iter_items c.loop-one.writers) (into_iter_items c.next-writer.new.self) c.in-Some.ensures.items
+    (c.next-end.ensures.items ∙ ap (λ o. option_to_list o ++ into_iter_items c.next-end.new.self) c.in-Some-end.is)
+    (c.next-writer.ensures.items
+    ∙ ap (λ o. option_to_list o ++ into_iter_items c.next-writer.new.self) c.in-Some-writer.is) c.in_ok-push.ensures.items
+    (λ o is. c.in_ok-met.ensures.served o is) (c.loop-one.invariant openings left)
 
 pub returns : goal.returns
 returns g c = record {

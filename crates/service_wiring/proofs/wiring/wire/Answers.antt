@@ -5,6 +5,7 @@ use Rattle.mrpc_table.specs.declared.limits.TheConstants.{MAX_HEAP, MIN_HEAP}
 use Rattle.mrpc_table.specs.declared.table.Table.{Table}
 use Rattle.shared_heap.specs.Fresh.{HeapId, Reading}
 use Rattle.descriptor_ring.specs.Rings.{NumberReceiving, Receiving, RingId}
+use Rattle.descriptor_ring.specs.declared.limits.TheConstants.{MAX_CAPACITY}
 use Rattle.tenant_quota.specs.Drawing.{Drawing}
 use Rattle.link_queue.specs.Queueing.{Queueing}
 use Rattle.conn_core.specs.Connections.{Connection}
@@ -21,15 +22,38 @@ use Rattle.service_loop.specs.declared.due_step.DueStep.{DueStep}
 use Rattle.service_loop.specs.declared.endpoint.Endpoint.{Endpoint}
 use Rattle.service_loop.specs.declared.share.Share.{Share}
 use Rattle.service_loop.specs.declared.submissions.Submissions.{Submissions}
-use Rattle.service_wiring.specs.Ends.{AreEnds}
 use Rattle.service_wiring.proofs.Parts.{is_application, valid_table}
 use Rattle.service_wiring.proofs.Weighing.{grants-first, new-share}
 use Rattle.service_wiring.proofs.wiring.wire.Goals as goal
 
-pub open-requires-2-clause-valid : goal.open-requires-2-clause-valid
-open-requires-2-clause-valid g c =
-    subst (λ (T : Table). IsValid T) (sym c.table_of-table.ensures)
-    (valid_table c.args.common.now.plan.now c.args.app.now c.requires.plan c.requires.app)
+pub open-requires-2 : goal.open-requires-2
+open-requires-2 g c = record {
+  valid = subst (λ (T : Table). IsValid T) (sym c.table_of-table.ensures)
+      (valid_table c.args.common.now.plan.now c.args.app.now c.requires.plan c.requires.app);
+  least_limit = c.requires.plan.loads.0;
+  greatest_limit = c.requires.plan.loads.1;
+}
+
+pub open_port-requires : goal.open_port-requires
+open_port-requires g c =
+    (is_application c.args.common.now.plan.now c.args.app.now c.requires.plan c.requires.app).port
+
+pub new-submissions-requires : goal.new-submissions-requires
+new-submissions-requires g c =
+    let app = is_application c.args.common.now.plan.now c.args.app.now c.requires.plan c.requires.app in
+    let ported = c.in_ok-ported.ensures in
+    let words = ap (λ (heap : HeapId). heap.words) ported.one_heap ∙ ported.words in record {
+      new_conn = (
+        ap (λ (x : Connection). x.happenings) c.in_ok-conn.ensures,
+        ap (λ (x : Connection). x.chain.row) c.in_ok-conn.ensures,
+      );
+      least_heap = subst (λ (n : ℕ). MIN_HEAP ≤ n) (sym words) app.port.heap.0;
+      greatest_heap = subst (λ (n : ℕ). n ≤ MAX_HEAP) (sym words) app.port.heap.1;
+      new_heap = ported.loads;
+      one_heap = ported.ends.calls_heap;
+      new_ring = (ported.ends.none_taken, ported.ends.calls_open);
+      steps = c.requires.steps;
+    }
 
 pub programmed-requires : goal.programmed-requires
 programmed-requires g c = (
@@ -37,9 +61,27 @@ programmed-requires g c = (
   (is_application c.args.common.now.plan.now c.args.app.now c.requires.plan c.requires.app).program,
 )
 
-pub new-deliveries-requires-clause-lived : goal.new-deliveries-requires-clause-lived
-new-deliveries-requires-clause-lived g c =
-    let lived = c.requires.lived in (lived.0, c.opened_again.ensures.lived lived.0 lived.1, lived.2)
+pub new-deliveries-requires : goal.new-deliveries-requires
+new-deliveries-requires g c =
+    let lived = c.requires.lived in
+    let ends = c.in_ok-ported.ensures.ends in record {
+      lived = (lived.0, c.opened_again.ensures.lived lived.0 lived.1, lived.2);
+      none_held = c.opened_again.ensures.held ∙ c.requires.none_held;
+      one_heap = ends.notices_heap ∙ c.requires.one_heap ∙ sym c.opened_again.ensures.same.heap;
+      new_rings = (ends.none_told, ends.none_numbered, ends.none_back, ends.reclaims_open);
+      few = c.programmed.ensures.few;
+    }
+
+pub new-endpoint-requires-clause-served : goal.new-endpoint-requires-clause-served
+new-endpoint-requires-clause-served g c κs within = c.new-submissions.ensures.served
+
+pub new-endpoint-requires-clause-nothing : goal.new-endpoint-requires-clause-nothing
+new-endpoint-requires-clause-nothing g c κs within =
+    ap (λ (x : Connection). x.happenings) (c.new-submissions.ensures.conn ∙ c.in_ok-conn.ensures)
+
+pub new-endpoint-requires-clause-not_ended : goal.new-endpoint-requires-clause-not_ended
+new-endpoint-requires-clause-not_ended g c κs within =
+    ap (λ (x : Connection). x.ended) (c.new-submissions.ensures.conn ∙ c.in_ok-conn.ensures)
 
 pub new-endpoint-requires-clause-known : goal.new-endpoint-requires-clause-known
 new-endpoint-requires-clause-known g c κs within =
@@ -88,11 +130,11 @@ returns g c = λ life lived fates.
     let opened = ap (λ (s : Submissions). s.conn) subs ∙ c.new-submissions.ensures.conn ∙ c.in_ok-conn.ensures in
     let link : c.new.result.link ≡ c.in_ok-queue.queue =
     ap (λ (e : Endpoint g.row.C.Denot (List Drawing) Queueing). e.link) item ∙ c.new-endpoint.ensures.link in
-    let size : c.in_ok-writer.writer.heap.words ≡ c.args.app.now.heap = c.in_ok-writer.ensures.size in
+    let ported = c.in_ok-ported.ensures in
+    let ends = ported.ends in
+    let reader : c.in_ok-ported.ported.port.reader ≡ c.args.reader = ported.its_reader in
     let received : c.args.arrivals.inbound.heap.words ≡ c.args.reader.heap.words =
-    sym (ap (λ (heap : HeapId). heap.words) c.requires.one_heap ∙ lived.words) in
-    let ends : AreEnds c.args.app.now.ring c.in_ok-writer.own_reader.heap c.args.reader.heap c.in_ok-sender.field-0 =
-    c.in_ok-sender.ensures in record {
+    sym (ap (λ (heap : HeapId). heap.words) c.requires.one_heap ∙ lived.words) in record {
       conn = record {
         number = ap (λ (x : Connection). x.conn) opened;
         table = ap (λ (x : Connection). x.table) opened ∙ c.table_of-table.ensures;
@@ -127,35 +169,26 @@ returns g c = λ life lived fates.
       };
       app_job = record {
         is_job = record {
-          port = record {
-            calls = ends.sender_heap ∙ c.in_ok-writer.ensures.one_heap;
-            capacity = sym ends.capacity;
-            notices = ends.noticed_heap;
-            stored = c.in_ok-writer.ensures.stores;
-            loaded = c.requires.new_heap;
-            sent = ends.none_sent;
-            taken = ends.none_noticed;
-            numbers = ends.no_blocks;
-            reclaimed = ends.none_given;
-          };
-          program = subst (λ (n : ℕ). HasProgram n c.args.app.now.role) (sym size) app.program;
+          port = ported.new c.requires.new_heap;
+          program = subst (λ (n : ℕ). HasProgram n c.args.app.now.role) (sym ported.words) app.program;
           table = subst (λ (T : Table). IsValid T) (sym c.table_of-table.ensures)
               (valid_table c.args.common.now.plan.now c.args.app.now c.requires.plan c.requires.app);
-          heap = subst (λ (n : ℕ). IsIn MIN_HEAP MAX_HEAP n) (sym size) app.port.heap;
-          receive = (c.requires.words, subst (λ (n : ℕ). n ≤ MAX_HEAP) received lived.most);
-          ring = app.port.ring.1;
+          heap = subst (λ (n : ℕ). IsIn MIN_HEAP MAX_HEAP n) (sym ported.words) app.port.heap;
+          receive = subst (λ (r : Reading). IsIn MIN_HEAP MAX_HEAP r.heap.words) (sym reader)
+              (c.requires.words, subst (λ (n : ℕ). n ≤ MAX_HEAP) received lived.most);
+          ring = subst (λ (n : ℕ). n ≤ MAX_CAPACITY) (sym ported.capacity) app.port.ring.1;
         };
         its_role = refl;
         its_table = c.table_of-table.ensures;
-        heap = size;
-        ring = refl;
+        heap = ported.words;
+        ring = ported.capacity;
         send_heap = ap (λ (s : Submissions). s.reader.heap) subs
-            ∙ ap (λ (r : Reading). r.heap) c.new-submissions.ensures.reader ∙ c.in_ok-writer.ensures.one_heap;
+            ∙ ap (λ (r : Reading). r.heap) c.new-submissions.ensures.reader ∙ ported.one_heap;
         calls_ring = ap (λ (s : Submissions). s.calls.ring) subs
             ∙ ap (λ (r : Receiving). r.ring) c.new-submissions.ensures.calls ∙ ends.calls_ring;
-        reader = refl;
+        reader = reader;
         receive_heap = ap (λ (a : Arrivals). a.writer.heap) arrived ∙ c.opened_again.ensures.same.heap
-            ∙ sym c.requires.one_heap;
+            ∙ sym c.requires.one_heap ∙ sym (ap (λ (r : Reading). r.heap) reader);
         notices_ring = ap (λ (d : Deliveries). ring_of d.notices.notices d.notices.noticed) dels
             ∙ c.new-deliveries.ensures.notices
             ∙ ap (λ (r : RingId). Some r) (sym ends.notices_ring);
