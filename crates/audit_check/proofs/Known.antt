@@ -1,5 +1,5 @@
 -- What the checkers of connections know once one more thing happens.
-use Rattle.std.proofs.Common.{◌≡◌, ◌≢◌, ℕ, suc, ◌≤◌, length, arith, ◌==◌, Bool, true, false, cond, List, [], ◌∷◌, ◌++◌, reverse, refl, ap, sym, subst, ◌∙◌, Option, Some, None, IfNone, IfOk, Result, Ok, Err, inl, inr, if◌then◌else◌}
+use Rattle.std.proofs.Common.{◌≡◌, ◌≢◌, ℕ, suc, ◌≤◌, length, arith, ◌==◌, Bool, true, false, cond, List, [], ◌∷◌, ◌++◌, reverse, refl, ap, sym, subst, ◌∙◌, Option, Some, None, IfNone, inl, inr, if◌then◌else◌}
 use Rattle.std.specs.BTreeMap.{BTreeMap, Updates, get}
 use Rattle.std.specs.List.{cons_option, filter_map}
 use Rattle.std.specs.Ordering.{is_eq, nat_cmp}

@@ -72,7 +72,7 @@ fn read_text(
                 line: progress.next_line(),
             });
         };
-        progress = progress.take(alloc, table, line)?;
+        progress.take(alloc, table, line)?;
         rest = others;
     }
     Ok(progress.end())

@@ -44,30 +44,23 @@ impl Progress {
     }
 
     /// Takes the next line. `Bad` comes exactly where it is that of a happening behind one of a call that stands.
-    pub fn take(self, alloc: Global, table: &Table, line: AuditLine) -> Result<Progress, AuditFault>
+    pub fn take(&mut self, alloc: Global, table: &Table, line: AuditLine) -> Result<(), AuditFault>
         requires valid { IsValid table.now }
         requires readable { IsReadableLine table.now line }
-        requires few { self.happenings + self.stands + 3 < 2 ^ 32 }
-        requires familiar { IsFamiliar table.now self }
-        ensures { (limit : ℕ) (h : History) (told : List StandsLine) → IsProgress table.now limit h told self
-            → MatchResult result (TakesOn table.now limit h told line) (FailsOn h told line) }
+        requires few { self.old.happenings + self.old.stands + 3 < 2 ^ 32 }
+        requires familiar { IsFamiliar table.now self.old }
+        ensures { (limit : ℕ) (h : History) (told : List StandsLine) → IsProgress table.now limit h told self.old
+            → MatchResult result (λ _. TakesOn table.now limit h told line self.new) (FailsOn h told line) }
     {
         let number = self.next_line();
-        let Progress {
-            happenings,
-            stands,
-            stage,
-        } = self;
         match line {
             AuditLine::Happened(next) => {
-                if stands > 0 {
+                if self.stands > 0 {
                     return Err(AuditFault::Bad { line: number });
                 }
-                Ok(Progress {
-                    happenings: happenings + 1,
-                    stands,
-                    stage: stage.happen(alloc, table, next, number)?,
-                })
+                self.stage.happen(alloc, table, next, number)?;
+                self.happenings += 1;
+                Ok(())
             }
             AuditLine::Stands {
                 conn,
@@ -83,11 +76,9 @@ impl Progress {
                     name,
                     holding,
                 };
-                Ok(Progress {
-                    happenings,
-                    stands: stands + 1,
-                    stage: stage.stand(table, told, number),
-                })
+                self.stage.stand(table, told, number);
+                self.stands += 1;
+                Ok(())
             }
         }
     }

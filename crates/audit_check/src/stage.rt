@@ -1,6 +1,6 @@
 //! How far a text was judged.
 
-ghost use Rattle.std.specs.Prelude.{◌≡◌, ◌+◌, ◌<◌, ◌^◌, ◌∷◌, ◌++◌, ℕ, List, [], IfOk, MatchResult, length};
+ghost use Rattle.std.specs.Prelude.{◌≡◌, ◌+◌, ◌<◌, ◌^◌, ◌∷◌, ◌++◌, ℕ, List, [], MatchResult, OnOk, length};
 ghost use Rattle.mrpc_table.specs.Valid.{IsValid};
 ghost use Rattle.mrpc_table.specs.declared.table.Table.{Table};
 ghost use Rattle.call_history.specs.Legal.{History, IsLegal};
@@ -16,6 +16,7 @@ use audit_rules::Rule;
 use call_history::Happened;
 use mrpc_table::{Memory, Table};
 use std::alloc::Global;
+use std::mem::replace;
 
 /// How the lines that were read are judged.
 #[derive(Drop)]
@@ -36,27 +37,30 @@ pub struct Illegal {
 }
 
 impl Stage {
-    /// A happening comes, on a line.
+    /// A happening comes, on a line. It is judged in place: what the checkers know stays where it is.
     pub fn happen(
-        self,
+        &mut self,
         alloc: Global,
         table: &Table,
         next: Happened,
         line: u64,
-    ) -> Result<Stage, Memory>
+    ) -> Result<(), Memory>
         requires valid { IsValid table.now }
         requires readable { IsReadable table.now next.what }
-        requires known { (limit : ℕ) × (h : History) × IsStage table.now limit h [] self
+        requires known { (limit : ℕ) × (h : History) × IsStage table.now limit h [] self.old
             × (line ≡ length h + 1) × (line + 2 < 2 ^ 32) }
-        ensures { (limit : ℕ) (h : History) → IsStage table.now limit h [] self → line ≡ length h + 1
-            → IfOk result (IsStage table.now limit (h ++ next ∷ []) []) }
+        ensures { (limit : ℕ) (h : History) → IsStage table.now limit h [] self.old → line ≡ length h + 1
+            → OnOk result (IsStage table.now limit (h ++ next ∷ []) [] self.new) }
     {
         match self {
-            Stage::Happening(mut connections) => match connections.check(alloc, table, next)? {
-                None => Ok(Stage::Happening(connections)),
-                Some(rule) => Ok(Stage::Illegal(Illegal { line, rule })),
+            Stage::Happening(connections) => match connections.check(alloc, table, next)? {
+                None => Ok(()),
+                Some(rule) => {
+                    *self = Stage::Illegal(Illegal { line, rule });
+                    Ok(())
+                }
             },
-            judged => Ok(judged),
+            Stage::Standing(_) | Stage::Illegal(_) => Ok(()),
         }
     }
 
@@ -76,8 +80,21 @@ impl Stage {
         }
     }
 
-    /// A line of a call that stands comes.
-    pub fn stand(self, table: &Table, told: Told, line: u64) -> Stage
+    /// A line of a call that stands comes. Until it is told, it is one that can't stand.
+    pub fn stand(&mut self, table: &Table, told: Told, line: u64)
+        requires valid { IsValid table.now }
+        requires known { (limit : ℕ) × (h : History) × (before : List StandsLine)
+            × IsStage table.now limit h before self.old × (line ≡ length h + length before + 1) }
+        ensures { (limit : ℕ) (h : History) (before : List StandsLine) → IsStage table.now limit h before self.old
+            → line ≡ length h + length before + 1 → IsStage table.now limit h (before ++ tells told ∷ []) self.new }
+    {
+        let rule = Rule::Stands;
+        let stage = replace(self, Stage::Illegal(Illegal { line, rule }));
+        *self = stage.tell(table, told, line);
+    }
+
+    /// How the lines are judged with one more, that of a call that stands.
+    fn tell(self, table: &Table, told: Told, line: u64) -> Stage
         requires valid { IsValid table.now }
         requires known { (limit : ℕ) × (h : History) × (before : List StandsLine)
             × IsStage table.now limit h before self × (line ≡ length h + length before + 1) }

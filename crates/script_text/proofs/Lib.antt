@@ -16,3 +16,4 @@ mod Rows
 mod Soundness
 mod Stores
 mod TextLines
+mod UsualForms

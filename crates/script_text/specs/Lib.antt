@@ -9,3 +9,4 @@ pub mod Offences
 pub mod Stopping
 pub mod Stores
 pub mod Texts
+pub mod Usual

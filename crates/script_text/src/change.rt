@@ -4,6 +4,7 @@ ghost use Rattle.std.specs.Prelude.{◌≡◌, ◌∷◌, [], ◌≤◌, ◌<◌
 ghost use Rattle.mrpc_table.specs.Lines.{pieces_of, words_of};
 ghost use Rattle.mrpc_table.specs.Valid.{IsValid};
 ghost use Rattle.mrpc_table.specs.declared.limits.TheConstants.{MAX_LOADS};
+ghost use Rattle.mrpc_table.specs.declared.table.Table.{Table as TheTable};
 ghost use Rattle.policy_blocks.specs.Blocks.{is_skipped};
 ghost use Rattle.policy_blocks.specs.Items.{item_form, Declares};
 ghost use Rattle.script_words.specs.Meanings.{meanings_of};
@@ -11,6 +12,7 @@ ghost use Rattle.script_words.specs.Forms.{form_in};
 ghost use Rattle.script_words.specs.declared.form.Form.TheVariants.{Store as StoreForm};
 ghost use Rattle.script_text.specs.Changes.{seen, IsKept, IsSaidBy, IsFlawOf, IsChange, IsSaidChange, IsLineFault, IsItemFault, IsStopOf};
 ghost use Rattle.script_text.specs.Stores.{store_words};
+ghost use Rattle.script_text.specs.Usual.{IsUsual};
 ghost use Rattle.script_text.specs.Words.{IsSaid};
 ghost use Rattle.script_text.specs.declared.limits.TheConstants.{MAX_WORK};
 
@@ -88,6 +90,37 @@ fn change_of(
     }
 }
 
+/// What a line says whose words say this, of a form that begins no item, or what stands against it.
+fn worded(
+    alloc: Global,
+    loads: u64,
+    declared: &Declarations,
+    body: &Body,
+    form: Form,
+    line: &[u8],
+    words: &[Said<'_>],
+) -> Result<Change, ScriptFault>
+    requires small { loads ≤ MAX_LOADS }
+    requires kept { IsKept loads declared.now body.now }
+    requires few { body.now.submissions ≤ MAX_WORK }
+    requires said { IsSaid form line.now (meanings_of words.now) }
+    requires item { item_form form ≡ None }
+    ensures { MatchResult result (IsSaidChange loads (seen declared.now body.now) line.now)
+        (IsLineFault loads (seen declared.now body.now) line.now) }
+{
+    one_laws();
+    match change_of(alloc, loads, declared, body, form, words) {
+        Ok(change) => {
+            if body.closed {
+                return Err(fault(ScriptReason::After));
+            }
+            Ok(change)
+        }
+        Err(Flaw::Reason(reason)) => Err(fault(reason)),
+        Err(Flaw::Memory) => Err(ScriptFault::Memory),
+    }
+}
+
 /// What a line of a form says that begins no item, or what stands against it.
 fn said(
     alloc: Global,
@@ -106,44 +139,86 @@ fn said(
         (IsLineFault loads (seen declared.now body.now) line.now) }
 {
     one_laws();
-    let words = match judge(form.sorts(), line) {
-        Ok(words) => words,
-        Err(reason) => return Err(fault(reason)),
-    };
-    match change_of(alloc, loads, declared, body, form, words.as_slice()) {
-        Ok(change) => {
-            if body.closed {
-                return Err(fault(ScriptReason::After));
-            }
-            Ok(change)
-        }
-        Err(Flaw::Reason(reason)) => Err(fault(reason)),
-        Err(Flaw::Memory) => Err(ScriptFault::Memory),
+    match judge(form.sorts(), line) {
+        Ok(words) => worded(alloc, loads, declared, body, form, line, words.as_slice()),
+        Err(reason) => Err(fault(reason)),
     }
 }
 
-/// What a line says whose words say that a word is stored, or what stands against it.
+/// The form that a line of many a script has which begins with this byte. It may have another one.
+fn usual_form(first: u8) -> Option<Form>
+    ensures { IfSome result IsUsual }
+{
+    match first {
+        b's' => Some(Form::Submit),
+        b't' => Some(Form::Turn),
+        b'u' => Some(Form::Upgrade),
+        b'd' => Some(Form::Drain),
+        _ => None,
+    }
+}
+
+/// What a line of a usual form says, or what stands against it. None for each other line, and where a word isn't as it
+/// has to be: the form of such a line is looked up.
+fn usual_said(
+    alloc: Global,
+    loads: u64,
+    declared: &Declarations,
+    body: &Body,
+    line: &[u8],
+) -> Option<Result<Change, ScriptFault>>
+    requires small { loads ≤ MAX_LOADS }
+    requires kept { IsKept loads declared.now body.now }
+    requires few { body.now.submissions ≤ MAX_WORK }
+    ensures { IfSome result (λ said. MatchResult said (IsSaidChange loads (seen declared.now body.now) line.now)
+        (IsLineFault loads (seen declared.now body.now) line.now)) }
+{
+    let form = usual_form(*line.first()?)?;
+    match judge(form.sorts(), line) {
+        Ok(words) => Some(worded(alloc, loads, declared, body, form, line, words.as_slice())),
+        Err(_) => None,
+    }
+}
+
+/// The line that words say which say that a word is stored, where nothing stands against it.
 fn stored(
     loads: u64,
     declared: &Declarations,
     body: &Body,
     line: &[u8],
     store: Store,
-) -> Result<Change, ScriptFault>
+) -> Option<Line>
     requires kept { IsKept loads declared.now body.now }
     requires said { IsSaid StoreForm line.now (store_words store) }
-    ensures { MatchResult result (IsSaidChange loads (seen declared.now body.now) line.now)
-        (IsLineFault loads (seen declared.now body.now) line.now) }
+    ensures { IfSome result (λ made. IsSaidChange loads (seen declared.now body.now) line.now (Change.Line made)) }
 {
     one_laws();
-    let made = match body.stored(store) {
-        Ok(made) => made,
-        Err(reason) => return Err(fault(reason)),
-    };
     if body.closed {
-        return Err(fault(ScriptReason::After));
+        return None;
     }
-    Ok(Change::Line(made))
+    match body.stored(store) {
+        Ok(made) => Some(made),
+        Err(_) => None,
+    }
+}
+
+/// The line that a text begins with, and what stands behind it, where that line stores a word, its numbers are short,
+/// and nothing stands against it. None for each other line.
+pub(crate) fn front_store<'a>(
+    loads: u64,
+    declared: &Declarations,
+    body: &Body,
+    text: &'a [u8],
+) -> Option<(Line, &'a [u8])>
+    requires { IsKept loads declared.now body.now }
+    ensures { (T : TheTable) → IfSome result (λ r. IsChange loads T (seen declared.now body.now) text.now
+        (Change.Line r.0) r.1.now) }
+{
+    one_laws();
+    let (line, behind) = cut_line(text)?;
+    let store = short_store(line)?;
+    let made = stored(loads, declared, body, line, store)?;
+    Some((made, behind))
 }
 
 /// The item that lines begin, and the text that is left behind it; behind `close`, its first line is at fault.
@@ -201,8 +276,8 @@ pub(crate) fn first_change<'a>(
     if is_skipped(line) {
         return Ok((Change::Nothing, behind));
     }
-    if let Some(store) = short_store(line) {
-        return match stored(loads, declared, body, line, store) {
+    if let Some(usual) = usual_said(alloc, loads, declared, body, line) {
+        return match usual {
             Ok(change) => Ok((change, behind)),
             Err(fault) => Err(fault),
         };

@@ -42,17 +42,17 @@ pub take-requires-clause-few : goal.take-requires-clause-few
 take-requires-clause-few c =
     omega (arith, few_lines c.args.table.now c.args.declared.now c.args.loads c.args.text.now c.loop-rest.rest.now c.loop-rest.progress c.loop-rest.invariant, c.requires.short)
 
-pub returns-in_err-progress-clause-bad : goal.returns-in_err-progress-clause-bad
-returns-in_err-progress-clause-bad c =
+pub returns-in_err-take-clause-bad : goal.returns-in_err-take-clause-bad
+returns-in_err-take-clause-bad c =
     let r = c.loop-rest.invariant in
     let T = c.args.table.now in
     let some : 0 < length c.loop-rest.rest.now = grind (arith, c.is_empty.ensures, c.loop-rest-test.true) in
     let e = if_some_at c.in_ok-line.field-0 c.in-Some.line (λ x. c.first_line.result.0.now ≡ bytes_of T x) c.in-Some.is c.in_ok-line.ensures.told in
-    let same = err_from_is_err_and c.from_residual-in_err-progress.result c.from_residual-in_err-progress.ensures.1 in
+    let same = err_from_is_err_and c.from_residual-in_err-take.result c.from_residual-in_err-take.ensures.1 in
     rw (same.1, same.2)
     (fails_as c.a_line_is_cut_into_its_words.ensures.stands c.a_stands_line_tells_one_call.ensures.apart T c.args.declared.now c.args.loads c.args.text.now c.loop-rest.rest.now
     c.first_line.result.0.now c.first_line.result.1.now c.loop-rest.progress c.in-Some.line _ r some c.first_line.ensures e
-    (c.in_err-progress.ensures c.args.loads r.history r.told r.progress))
+    (c.in_err-take.ensures c.args.loads r.history r.told r.progress))
 
 pub loop-rest-preserved : goal.loop-rest-preserved
 loop-rest-preserved c =
@@ -60,8 +60,8 @@ loop-rest-preserved c =
     let T = c.args.table.now in
     let e = if_some_at c.in_ok-line.field-0 c.in-Some.line (λ x. c.first_line.result.0.now ≡ bytes_of T x) c.in-Some.is c.in_ok-line.ensures.told in
     let in' = if_some_at c.in_ok-line.field-0 c.in-Some.line (IsLine T c.args.declared.now) c.in-Some.is c.in_ok-line.ensures.writable in
-    read_more T c.args.declared.now c.args.loads c.args.text.now c.loop-rest.rest.now c.first_line.result.0.now c.first_line.result.1.now c.loop-rest.progress c.in_ok-progress.progress
-    c.in-Some.line r c.first_line.ensures.joined in' e (c.in_ok-progress.ensures c.args.loads r.history r.told r.progress)
+    read_more T c.args.declared.now c.args.loads c.args.text.now c.loop-rest.rest.now c.first_line.result.0.now c.first_line.result.1.now c.loop-rest.progress c.take.new.self
+    c.in-Some.line r c.first_line.ensures.joined in' e (c.in_ok-take.ensures c.args.loads r.history r.told r.progress)
 
 pub end-requires : goal.end-requires
 end-requires c =

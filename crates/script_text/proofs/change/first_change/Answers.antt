@@ -1,6 +1,7 @@
 use Rattle.std.proofs.Common.{refl, sym, ap, subst, ◌∙◌, arith, length, ℕ}
+use Rattle.std.specs.Prelude.{MatchResult}
 use Rattle.mrpc_table.specs.Lines.{words_of}
-use Rattle.script_text.specs.Changes.{seen, IsStopOf}
+use Rattle.script_text.specs.Changes.{seen, IsSaidChange, IsLineFault, IsStopOf}
 use Rattle.script_text.specs.Texts.{no_feed}
 use Rattle.script_text.proofs.Changing.{skipped_change, said_change, line_stop, formless_stop, item_change, item_stop}
 use Rattle.script_text.proofs.LineForms.{item_of}
@@ -32,15 +33,17 @@ pub returns-in-Ok : goal.returns-in-Ok
 returns-in-Ok c =
     let text = c.args.text.now in
     let b = seen c.args.declared.now c.args.body.now in
-    let before = cut_is text c.in-Some.line.now c.in-Some.behind.now c.in-Some.ensures.parts in
-    said_change c.one_laws.ensures c.args.loads c.args.table.now b text c.in-Some.line.now c.in-Some.behind.now c.in-Ok.change before c.in-Ok.ensures
+    let line = c.in-Some.line.now in
+    let before = cut_is text line c.in-Some.behind.now c.in-Some.ensures.parts in
+    said_change c.one_laws.ensures c.args.loads c.args.table.now b text line c.in-Some.behind.now c.in-Ok.change before (subst (λ r. MatchResult r (IsSaidChange c.args.loads b line) (IsLineFault c.args.loads b line)) c.in-Ok.is c.in-Some-usual_said.ensures)
 
 pub returns-in-Err : goal.returns-in-Err
 returns-in-Err c =
     let text = c.args.text.now in
     let b = seen c.args.declared.now c.args.body.now in
-    let before = cut_is text c.in-Some.line.now c.in-Some.behind.now c.in-Some.ensures.parts in
-    line_stop c.one_laws.ensures c.args.loads c.args.table.now b text c.in-Some.line.now c.in-Some.behind.now c.in-Err.fault before c.in-Err.ensures
+    let line = c.in-Some.line.now in
+    let before = cut_is text line c.in-Some.behind.now c.in-Some.ensures.parts in
+    line_stop c.one_laws.ensures c.args.loads c.args.table.now b text line c.in-Some.behind.now c.in-Err.fault before (subst (λ r. MatchResult r (IsSaidChange c.args.loads b line) (IsLineFault c.args.loads b line)) c.in-Err.is c.in-Some-usual_said.ensures)
 
 pub returns-in-Ok-item : goal.returns-in-Ok-item
 returns-in-Ok-item c =

@@ -1,9 +1,8 @@
-use Rattle.std.proofs.Common.{◌≢◌, refl, sym, subst, ◌∙◌}
+use Rattle.std.proofs.Common.{◌≢◌, refl, sym, ◌∙◌}
 use Rattle.script_words.specs.declared.form.Form.TheVariants as form
-use Rattle.script_text.specs.Changes.{seen, IsLineFault}
 use Rattle.script_text.specs.Stores.{store_words}
 use Rattle.script_text.specs.declared.change.Change.TheVariants as change
-use Rattle.script_text.proofs.Changing.{closed_change, open_change, flawed}
+use Rattle.script_text.proofs.Changing.{open_change}
 use Rattle.script_text.proofs.Kept.{said_by}
 use Rattle.script_text.proofs.Ranges.{number_of}
 use Rattle.script_text.proofs.change.stored.Goals as goal
@@ -14,28 +13,8 @@ goes_on e = cc
 pub stored-requires : goal.stored-requires
 stored-requires c = number_of form.Store c.args.line.now (store_words c.args.store) 1 1 16 c.requires.said refl
 
-pub returns-in-Err : goal.returns-in-Err
-returns-in-Err c =
-    let d = c.args.declared.now in
-    let body = c.args.body.now in
-    let line = c.args.line.now in
-    let m = store_words c.args.store in
-    let same = said_by c.args.loads d body c.requires.kept form.Store line m c.requires.said refl goes_on in
-    subst (IsLineFault c.args.loads (seen d body) line) (sym c.fault.ensures)
-    (refl, flawed c.one_laws.ensures c.args.loads d body line form.Store m c.in-Err.reason c.requires.said refl (goes_on, sym same ∙ sym c.stored.ensures ∙ c.in-Err.is))
-
-pub returns-then-body : goal.returns-then-body
-returns-then-body c =
-    let d = c.args.declared.now in
-    let body = c.args.body.now in
-    let line = c.args.line.now in
-    let m = store_words c.args.store in
-    let same = said_by c.args.loads d body c.requires.kept form.Store line m c.requires.said refl goes_on in
-    subst (IsLineFault c.args.loads (seen d body) line) (sym c.fault-then-body.ensures)
-    (refl, closed_change c.one_laws.ensures c.args.loads d body line form.Store m (change.Line c.in-Ok.made) c.requires.said refl c.if-body.true (goes_on, sym same ∙ sym c.stored.ensures ∙ c.in-Ok.is))
-
-pub returns : goal.returns
-returns c =
+pub returns-in-Ok : goal.returns-in-Ok
+returns-in-Ok c =
     let d = c.args.declared.now in
     let body = c.args.body.now in
     let line = c.args.line.now in

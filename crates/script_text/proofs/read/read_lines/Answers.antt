@@ -1,7 +1,8 @@
 use Rattle.std.proofs.Common.{refl, sym, ap, subst, ◌∙◌, []}
 use Rattle.policy_blocks.specs.Declarations.{nothing as nothing_declared}
-use Rattle.script_text.specs.Changes.{seen, IsKept}
+use Rattle.script_text.specs.Changes.{seen, IsKept, IsAdded}
 use Rattle.script_text.specs.Texts.{Goes, starts, goes_on}
+use Rattle.script_text.specs.declared.change.Change.TheVariants as change
 use Rattle.script_text.proofs.Adding.{kept_fresh, can_make, next_of}
 use Rattle.script_text.proofs.read.read_lines.Goals as goal
 
@@ -20,6 +21,30 @@ loop-alloc-preserved c =
     record {
       reaches = goes_on (seen d b) c.loop-alloc.rest.now c.loop-alloc.invariant.reaches
           (subst (λ p. Goes loads T (seen d b) c.loop-alloc.rest.now p c.in-Ok-first_change.change.1.now) (sym next.seen_is) made.goes);
+      kept = next.kept;
+    }
+
+pub add-requires : goal.add-requires
+add-requires c =
+    let made = c.in-Some.ensures c.args.table.now in
+    can_make c.args.loads c.loop-alloc.declared c.loop-alloc.body c.loop-alloc.invariant.kept c.requires.some (change.Line c.in-Some.line) made.can
+
+pub loop-alloc-smaller-in-Some : goal.loop-alloc-smaller-in-Some
+loop-alloc-smaller-in-Some c = (c.in-Some.ensures c.args.table.now).shorter
+
+pub loop-alloc-preserved-in-Some : goal.loop-alloc-preserved-in-Some
+loop-alloc-preserved-in-Some c =
+    let loads = c.args.loads in
+    let T = c.args.table.now in
+    let d = c.loop-alloc.declared in
+    let b = c.loop-alloc.body in
+    let made = c.in-Some.ensures T in
+    let e = c.in-Ok-add.ensures in
+    let added : IsAdded d c.in-Some.line b c.add.new.self = record { lines = e.lines; connections = e.connections; submissions = e.submissions; closed = e.closed } in
+    let next = next_of loads d b c.loop-alloc.invariant.kept (change.Line c.in-Some.line) d c.add.new.self made.can (refl, added) in
+    record {
+      reaches = goes_on (seen d b) c.loop-alloc.rest.now c.loop-alloc.invariant.reaches
+          (subst (λ p. Goes loads T (seen d b) c.loop-alloc.rest.now p c.in-Some.behind.now) (sym next.seen_is) made.goes);
       kept = next.kept;
     }
 

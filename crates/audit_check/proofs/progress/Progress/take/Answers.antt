@@ -10,12 +10,12 @@ pub returns-in_ok-happen-in-Happened : goal.returns-in_ok-happen-in-Happened
 returns-in_ok-happen-in-Happened c limit h told p =
     let T = c.args.table.now in
     let next = c.in-Happened.next in
-    let after = c.in_ok-happen-in-Happened.field-0 in
-    let none : told ≡ [] = nil_from_length told (omega (arith, p.stands, c.if-stands-gt0.false)) in
-    let L : AuditLine → Type 0 = λ line. TakesOn T limit h told line (record { happenings = c.args.self.happenings + 1; stands = c.args.self.stands; stage = after }) in
-    let S : List StandsLine → Type 0 = λ told. IsStage T limit h told c.args.self.stage in
+    let after = c.happen.new.self in
+    let none : told ≡ [] = nil_from_length told (omega (arith, p.stands, c.if-self-gt0.false)) in
+    let L : AuditLine → Type 0 = λ line. TakesOn T limit h told line (record { happenings = c.args.self.now.happenings + 1; stands = c.args.self.now.stands; stage = after }) in
+    let S : List StandsLine → Type 0 = λ told. IsStage T limit h told c.args.self.now.stage in
     let A : List StandsLine → Type 0 = λ told. IsStage T limit (h ++ next ∷ []) told after in
-    let number : c.next_line-number.result ≡ length h + 1 = omega (arith, c.next_line-number.ensures, p.happenings, p.stands, c.if-stands-gt0.false) in
+    let number : c.next_line-number.result ≡ length h + 1 = omega (arith, c.next_line-number.ensures, p.happenings, p.stands, c.if-self-gt0.false) in
     subst L (sym c.in-Happened.is) (
       none,
       record {
@@ -29,7 +29,7 @@ pub returns-in-Stands : goal.returns-in-Stands
 returns-in-Stands c limit h told p =
     let T = c.args.table.now in
     let s : StandsLine = record { conn = c.in-Stands.conn; seq = c.in-Stands.seq; position = c.in-Stands.position; name = c.in-Stands.name; holding = c.in-Stands.holding } in
-    let L : AuditLine → Type 0 = λ line. TakesOn T limit h told line (record { happenings = c.args.self.happenings; stands = c.args.self.stands + 1; stage = c.stand.result }) in
+    let L : AuditLine → Type 0 = λ line. TakesOn T limit h told line (record { happenings = c.args.self.now.happenings; stands = c.args.self.now.stands + 1; stage = c.stand.new.self }) in
     let number : c.next_line-number.result ≡ length h + length told + 1 = omega (arith, c.next_line-number.ensures, p.happenings, p.stands) in
     subst L (sym c.in-Stands.is) (record {
       happenings = p.happenings;

@@ -1,0 +1,38 @@
+use Rattle.std.proofs.Common.{[], refl, inr}
+use Rattle.audit_check.specs.States.{tells}
+use Rattle.audit_check.proofs.Rows.{row_begins}
+use Rattle.audit_check.proofs.Stages.{first_line_at, illegal_more, some_lines}
+use Rattle.audit_check.proofs.stage.Stage.tell.Goals as goal
+
+pub returns-in-Some : goal.returns-in-Some
+returns-in-Some c limit h before stage line =
+    let now = c.in-Ok.ensures c.args.table.now limit h before stage (first_line_at h before c.args.line line) in
+    record { some_told = some_lines before (tells c.args.told); legal = now.0; is_row = c.in-Some.ensures.tells limit h before now.1 }
+
+pub returns-in-None : goal.returns-in-None
+returns-in-None c limit h before stage line =
+    let now = c.in-Ok.ensures c.args.table.now limit h before stage (first_line_at h before c.args.line line) in
+    let row = c.in-Ok.row in
+    inr (
+      some_lines before (tells c.args.told),
+      inr (inr (record {
+        legal = now.0;
+        front = before;
+        back = [];
+        next = tells c.args.told;
+        lines = refl;
+        begin = row_begins c.args.table.now limit h before row.current row.rest now.1;
+        ends = c.in-None.ensures.not limit h before now.1;
+        counted = line;
+        rule = refl;
+      })),
+    )
+
+pub returns-in-Err : goal.returns-in-Err
+returns-in-Err c limit h before stage line =
+    illegal_more c.args.table.now limit h before (tells c.args.told) c.in-Err.illegal (c.in-Err.ensures c.args.table.now limit h before stage (first_line_at h before c.args.line line))
+
+pub tell-requires-clause-known : goal.tell-requires-clause-known
+tell-requires-clause-known c =
+    let k = c.requires.known in
+    let now = c.in-Ok.ensures c.args.table.now k.0 k.1 k.2 k.3 (first_line_at k.1 k.2 c.args.line k.4) in (k.0, k.1, k.2, now.1)
