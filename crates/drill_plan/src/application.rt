@@ -42,6 +42,7 @@ fn client(alloc: Global, number: u32, calls: u64) -> Result<Application, Memory>
     requires few { calls ≤ MAX_CALLS }
     ensures { IfOk result (λ app. app ≡ client calls number) }
 {
+    let chain = one(alloc, 0)?;
     Ok(Application {
         conn: 2 * number - 1,
         role: Role::Client(program(alloc, number, calls)?),
@@ -49,7 +50,7 @@ fn client(alloc: Global, number: u32, calls: u64) -> Result<Application, Memory>
         receive: RECEIVE,
         ring: RING,
         weight: 1,
-        chain: one(alloc, 0)?,
+        chain,
         inbound: None,
         own: None,
     })

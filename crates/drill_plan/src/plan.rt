@@ -34,16 +34,20 @@ fn plan(alloc: Global, calls: u64) -> Result<Plan, Memory>
     requires { calls ≤ MAX_CALLS }
     ensures { IfOk result (λ plan. plan ≡ drill calls) }
 {
+    let service = name(alloc, SERVICE)?;
+    let links = links(alloc)?;
+    let applications = applications(alloc, calls)?;
     let table = schema(alloc)?;
+    let declared = declared(alloc, &table)?;
     Ok(Plan {
-        service: name(alloc, SERVICE)?,
+        service,
         loads: LOADS,
         workers: WORKERS,
         weighted: false,
-        declared: declared(alloc, &table)?,
         table,
-        applications: applications(alloc, calls)?,
-        links: links(alloc)?,
+        declared,
+        applications,
+        links,
         operators: Sequence::new(alloc),
     })
 }

@@ -3,7 +3,7 @@
 ghost use Rattle.std.specs.Prelude.{List, ℕ, ◌≡◌, ◌<◌, ◌^◌, length, IfOk};
 ghost use Rattle.explain.specs.Findings.{PointsInto};
 ghost use Rattle.explain.specs.Said.{IsTextOf};
-ghost use Rattle.proto_schema.specs.Faults.{IsFaultOf};
+ghost use Rattle.proto_schema.specs.Faults.{IsFaultOf, IsTextOf as IsTextOfFile};
 ghost use Rattle.proto_schema.specs.declared.fault.ProtoFault.TheVariants.{At};
 
 use crate::commands::only;
@@ -16,7 +16,7 @@ use crate::sentence::{Around, Sentence};
 use crate::set::explain_set;
 use file_bundle::is_bundle;
 use mrpc_table::Memory;
-use proto_file::Span;
+use proto_file::{File, Span};
 use proto_schema::{ProtoFault, ProtoReason, alone_is_ordered, read_proto};
 use schema_resolve::{ResolveFault, resolve};
 use std::alloc::Global;
@@ -48,9 +48,8 @@ fn explain_file<'a>(alloc: Global, text: &'a [u8]) -> Result<Finding<'a>, Memory
     requires short { length text.now < 2 ^ 62 }
     ensures { IfOk result (λ f. PointsInto text.now f.part) }
 {
-    alone_is_ordered();
-    let file = match read_proto(alloc, text) {
-        Ok(file) => file,
+    match read_proto(alloc, text) {
+        Ok(file) => explain_resolved(alloc, text, &file),
         Err(
             ProtoFault::At {
                 reason,
@@ -58,12 +57,18 @@ fn explain_file<'a>(alloc: Global, text: &'a [u8]) -> Result<Finding<'a>, Memory
                 end,
                 ..
             },
-        ) => {
-            return found_token(alloc, text, reason, start, end);
-        }
-        Err(ProtoFault::Memory) => return Err(Memory),
-    };
-    match resolve(alloc, &file) {
+        ) => found_token(alloc, text, reason, start, end),
+        Err(ProtoFault::Memory) => Err(Memory),
+    }
+}
+
+// What stands against the names and numbers of a file that was read.
+fn explain_resolved<'a>(alloc: Global, text: &'a [u8], file: &File) -> Result<Finding<'a>, Memory>
+    requires read { IsTextOfFile text.now file.now }
+    ensures { IfOk result (λ f. PointsInto text.now f.part) }
+{
+    alone_is_ordered();
+    match resolve(alloc, file) {
         Err(
             ResolveFault::At {
                 reason,
@@ -71,7 +76,7 @@ fn explain_file<'a>(alloc: Global, text: &'a [u8]) -> Result<Finding<'a>, Memory
                 end,
                 line,
             },
-        ) => { found_offence(alloc, text, &file, reason, Span { start, end, line }) }
+        ) => found_offence(alloc, text, file, reason, Span { start, end, line }),
         Err(ResolveFault::Memory) => Err(Memory),
         Ok(_) => only(alloc, b"the input has a fault"),
     }

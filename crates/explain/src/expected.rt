@@ -1,5 +1,7 @@
 //! What could stand in the place of a token that can't.
 
+ghost use Rattle.std.specs.Prelude.{◌≡◌, ◌<◌, ◌^◌, ◌∷◌, ◌++◌, [], length, OnOk};
+
 use crate::sentence::Sentence;
 use crate::word_table::{Row, text_for};
 use mrpc_table::{Bytes, Memory};
@@ -68,13 +70,26 @@ fn token_at(place: usize) -> &'static [u8] {
 // Whether a token can stand behind the beginning of a text: the first fault of both stands behind the token.
 fn can_stand(alloc: Global, front: &[u8], token: &[u8]) -> Result<bool, Memory> {
     let mut text = Bytes::from_slice(alloc, &front[..front.len().min(LONGEST)])?;
+    put_token(&mut text, &token[..token.len().min(8)])?;
+    is_read(alloc, text.as_slice())
+}
+
+// Appends a token between two spaces.
+fn put_token(text: &mut Bytes, token: &[u8]) -> Result<(), Memory>
+    ensures { OnOk result (text.new ≡ text.old ++ (32 ∷ (token.now ++ 32 ∷ []))) }
+{
     text.append(b" ")?;
-    text.append(&token[..token.len().min(8)])?;
-    let behind = text.len();
-    text.append(b" ")?;
-    match read_proto(alloc, text.as_slice()) {
+    text.append(token)?;
+    text.append(b" ")
+}
+
+// Whether a text is read up to its last byte, which is a space.
+fn is_read(alloc: Global, text: &[u8]) -> Result<bool, Memory>
+    requires { length text.now < 2 ^ 62 }
+{
+    match read_proto(alloc, text) {
         Ok(_) => Ok(true),
-        Err(ProtoFault::At { start, .. }) => Ok(start >= behind),
+        Err(ProtoFault::At { start, .. }) => Ok(start >= text.len().saturating_sub(1)),
         Err(ProtoFault::Memory) => Err(Memory),
     }
 }

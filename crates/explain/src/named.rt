@@ -1,7 +1,7 @@
 //! What of a file has a name or a number already.
 
 use crate::sentence::{Around, Sentence};
-use mrpc_table::Memory;
+use mrpc_table::{Decimal, Memory};
 use proto_file::{EnumDecl, FieldDecl, File, MessageDecl, ServiceDecl, Span, Word};
 
 /// Says which earlier field of its message has the number that stands at the span.
@@ -56,11 +56,23 @@ fn earlier_number(file: &File, span: Span) -> Option<&FieldDecl> {
 }
 
 fn earlier_field(fields: &[FieldDecl], span: Span) -> Option<&FieldDecl> {
-    let own = fields
-        .iter()
-        .find(|field| field.number.span.start == span.start)?;
-    let value = own.number.value;
-    fields.iter().find(|field| field.number.span.start < span.start && field.number.value == value)
+    let value = value_at(fields, span)?;
+    for field in fields {
+        if field.number.span.start < span.start && field.number.value == value {
+            return Some(field);
+        }
+    }
+    None
+}
+
+// The number that stands at the span.
+fn value_at(fields: &[FieldDecl], span: Span) -> Option<Decimal> {
+    for field in fields {
+        if field.number.span.start == span.start {
+            return Some(field.number.value);
+        }
+    }
+    None
 }
 
 /// Where a name is looked for: among the methods of a service, in a message, in an enum's scope, or in the file.
@@ -129,11 +141,12 @@ fn named_in_message(message: &MessageDecl, span: Span) -> Option<&Word> {
             return Some(&field.name);
         }
     }
-    message
-        .oneofs
-        .as_slice()
-        .iter()
-        .find(|oneof| stands_at(oneof, span))
+    for oneof in message.oneofs.as_slice() {
+        if stands_at(oneof, span) {
+            return Some(oneof);
+        }
+    }
+    None
 }
 
 fn named_in_enums(enums: &[EnumDecl], span: Span) -> Option<(Scope, &Word)> {

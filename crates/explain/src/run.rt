@@ -8,16 +8,23 @@ use crate::finding::Finding;
 use crate::part::Part;
 use crate::sentence::Sentence;
 use mrpc_table::Memory;
-use scenario_explain::tell_fault;
+use scenario_explain::{Told, tell_fault};
 use std::alloc::Global;
 
 /// What stands against a scenario.
 pub(crate) fn explain_run<'a>(alloc: Global, input: &'a [u8]) -> Result<Finding<'a>, Memory>
     ensures { IfOk result (λ f. PointsInto input.now f.part) }
 {
-    let Some(told) = tell_fault(alloc, input)? else {
-        return only(alloc, b"the input has a fault");
-    };
+    match tell_fault(alloc, input)? {
+        Some(told) => found_told(alloc, input, &told),
+        None => only(alloc, b"the input has a fault"),
+    }
+}
+
+// What is told, and where.
+fn found_told<'a>(alloc: Global, input: &'a [u8], told: &Told) -> Result<Finding<'a>, Memory>
+    ensures { IfOk result (λ f. PointsInto input.now f.part) }
+{
     let mut sentence = Sentence::new(alloc);
     sentence.say(told.front.as_slice())?;
     sentence.say(told.rest.as_slice())?;

@@ -1,3 +1,4 @@
+mod Causes
 mod Outgoing
 mod Rows
 mod Search

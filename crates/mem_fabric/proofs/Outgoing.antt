@@ -1,5 +1,5 @@
 -- What an end puts, and what the other end has of it.
-use Rattle.std.proofs.Common.{◌≡◌, ℕ, Bool, true, false, List, [], ◌∷◌, ◌++◌, refl, ap, sym, ◌∙◌, append_assoc, subst, Contains, ⊎_elim}
+use Rattle.std.proofs.Common.{◌≡◌, ℕ, Bool, true, false, List, [], ◌∷◌, ◌++◌, refl, ap, sym, ◌∙◌, append_assoc, subst, ⊎_elim}
 use Rattle.std.specs.List.{concat}
 use Rattle.std.proofs.lemmas.List.{append-nil}
 use mathlib.Core.List.{IsPrefix}
@@ -99,7 +99,3 @@ module _ {M : Type 0} where
           knows = ([], append-nil (bytes_of told') ∙ ap bytes_of told_is ∙ ap bytes_of (sym all.1) ∙ sym gave);
         },
       )
-
--- the same number is listed in the same list
-pub listed_too : (xs ys : List ℕ) (n m : ℕ) → ys ≡ xs → n ≡ m → Contains ys m → Contains xs n
-listed_too xs ys n m e f h = subst (λ (p : List ℕ × ℕ). Contains p.0 p.1) (λ i. (e i, sym f i)) h

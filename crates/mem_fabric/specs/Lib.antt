@@ -1,3 +1,4 @@
 pub mod Fabric
 pub mod Listed
+pub mod Opening
 pub mod Pair

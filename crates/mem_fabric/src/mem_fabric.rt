@@ -5,8 +5,8 @@ ghost use Rattle.mem_fabric.specs.Fabric.{IsNewEnd, numbers_of};
 ghost use Rattle.mem_fabric.specs.Pair.{ArePair};
 
 use crate::PairLink;
-use crate::listed::{EndCalls, ListedCalls};
-use crate::pair_link::{END_PLACES, MOST_PIECES};
+use crate::listed::{ListedCalls, ListedConns, raise};
+use crate::pair_link::new_pair;
 use mrpc_base::{Fabric, OpenFault};
 use std::alloc::{AllocError, Global};
 use std::marker::Model;
@@ -32,8 +32,7 @@ pub struct MemFabric<'r, R> {
     back: Vec<(u32, PairLink<'r, R>)>,
     away: usize,
     openings: ListedCalls,
-    sends: Vec<(u32, u64)>,
-    receives: Vec<(u32, u64)>,
+    listed: ListedConns,
     faults: u64,
 }
 
@@ -46,8 +45,7 @@ impl<'r, R> Drop for MemFabric<'r, R> {
             back: _back,
             away: _,
             openings: _openings,
-            sends: _sends,
-            receives: _receives,
+            listed: _listed,
             faults: _,
         } = self;
     }
@@ -63,8 +61,8 @@ impl<'r, R> Model for MemFabric<'r, R> {
       back = f.back.items;
       away = f.away;
       failing_openings = f.openings.failing;
-      failing_sends = f.sends.items;
-      failing_receives = f.receives.items;
+      failing_sends = f.listed.sends.items;
+      failing_receives = f.listed.receives.items;
       openings = f.openings.calls;
       faults = f.faults;
     } };
@@ -89,8 +87,10 @@ impl<'r, R: Wait> MemFabric<'r, R> {
             back: Vec::new(alloc),
             away: 0,
             openings: ListedCalls::new(faults.openings),
-            sends: faults.sends,
-            receives: faults.receives,
+            listed: ListedConns {
+                sends: faults.sends,
+                receives: faults.receives,
+            },
             faults: 0,
         }
     }
@@ -121,51 +121,6 @@ impl<'r, R: Wait> MemFabric<'r, R> {
         self.away += 1;
         self.back.swap_remove(at)
     }
-
-    // The two ends of a new pair.
-    fn new_pair(&self, a: u32, b: u32) -> Result<(PairLink<'r, R>, PairLink<'r, R>), AllocError>
-        ensures pair { IfOk result (λ ends. ArePair ends.0 ends.1) }
-        ensures handed { IfOk result (λ ends. (ends.0.handed ≡ []) × (ends.1.handed ≡ [])) }
-        ensures not_ended { IfOk result (λ ends. (ends.0.ended ≡ false) × (ends.1.ended ≡ false)) }
-        ensures no_faults { IfOk result (λ ends. (ends.0.faults ≡ 0) × (ends.1.faults ≡ 0)) }
-        ensures first { IfOk result (λ ends.
-            IsNewEnd (numbers_of a self.now.failing_sends) (numbers_of a self.now.failing_receives) ends.0) }
-        ensures second { IfOk result (λ ends.
-            IsNewEnd (numbers_of b self.now.failing_sends) (numbers_of b self.now.failing_receives) ends.1) }
-    {
-        let first_calls = self.calls_of(a)?;
-        let second_calls = self.calls_of(b)?;
-        let (from_a, to_b) = one_way_queue::open(self.alloc, MOST_PIECES + END_PLACES)?;
-        let (from_b, to_a) = one_way_queue::open(self.alloc, MOST_PIECES + END_PLACES)?;
-        Ok((
-            PairLink::new(self.rt, self.alloc, from_a, to_a, first_calls),
-            PairLink::new(self.rt, self.alloc, from_b, to_b, second_calls),
-        ))
-    }
-
-    // The sends and the receives of a connection, of which those that are listed are to fail.
-    fn calls_of(&self, conn: u32) -> Result<EndCalls, AllocError>
-        ensures sends { IfOk result (λ calls.
-            IsPermutation (numbers_of conn self.now.failing_sends) calls.sends.failing) }
-        ensures receives { IfOk result (λ calls.
-            IsPermutation (numbers_of conn self.now.failing_receives) calls.receives.failing) }
-        ensures none { IfOk result (λ calls. (calls.sends.calls ≡ 0) × (calls.receives.calls ≡ 0)) }
-    {
-        let sends = ListedCalls::new(listed_for(self.alloc, &self.sends, conn)?);
-        let receives = ListedCalls::new(listed_for(self.alloc, &self.receives, conn)?);
-        Ok(EndCalls { sends, receives })
-    }
-}
-
-// The numbers that are listed for a connection.
-fn listed_for(alloc: Global, listed: &[(u32, u64)], conn: u32) -> Result<Vec<u64>, AllocError>
-    ensures { IfOk result (λ numbers. numbers.items ≡ numbers_of conn listed.now) }
-{
-    listed
-        .iter()
-        .filter(|entry| entry.0 == conn)
-        .map(|entry| entry.1)
-        .collect(alloc)
 }
 
 impl<'r, R: Wait + Sync> Fabric for MemFabric<'r, R> {
@@ -209,17 +164,19 @@ impl<'r, R: Wait + Sync> Fabric for MemFabric<'r, R> {
         } }
     {
         if self.openings.next() {
-            self.faults = self.faults.saturating_add(1);
+            self.faults = raise(self.faults);
             return Err(OpenFault::Failed);
         }
         if self.back.reserve(self.away + 2).is_err() {
             return Err(OpenFault::Memory);
         }
-        let Ok(ends) = self.new_pair(a, b) else {
-            return Err(OpenFault::Memory);
-        };
-        self.away += 2;
-        Ok(ends)
+        match new_pair(self.rt, self.alloc, &self.listed, a, b) {
+            Ok(ends) => {
+                self.away += 2;
+                Ok(ends)
+            }
+            Err(AllocError) => Err(OpenFault::Memory),
+        }
     }
 
     fn keep(&mut self, conn: u32, link: PairLink<'r, R>)

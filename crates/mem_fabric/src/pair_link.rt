@@ -1,24 +1,26 @@
 // One end of a link in memory.
-ghost use Rattle.std.specs.Prelude.{◌≡◌, ◌≢◌, ◌<◌, ◌≤◌, ◌↔◌, ◌⊎◌, [], ◌∷◌, ◌++◌, Contains, IsTrue, length, take, true, false};
+ghost use Rattle.std.specs.Prelude.{◌≡◌, ◌≢◌, ◌<◌, ◌≤◌, ◌↔◌, ◌⊎◌, [], ◌∷◌, ◌++◌, Contains, IfOk, IsTrue, length, take, true, false};
 ghost use mathlib.Core.List.{IsPrefix};
 ghost use Rattle.one_way_queue.specs.Ends.{put_of, taken_of, told_of, free_of, producer_queue, consumer_queue};
 ghost use Rattle.mrpc_base.specs.Faults.{HasCause, raised};
 ghost use Rattle.mrpc_base.specs.Linking.{OnCame, OnNoneCame};
+ghost use Rattle.mem_fabric.specs.Fabric.{numbers_of};
+ghost use Rattle.mem_fabric.specs.Opening.{IsFresh, fresh_end};
 ghost use Rattle.mem_fabric.specs.Pair.{ArePair, IsHandedOn, told_of_all};
 
-use crate::listed::{EndCalls, ListedCalls};
+use crate::listed::{EndCalls, ListedConns};
 use mrpc_base::{Came, Handed, Link};
 use mrpc_table::Bytes;
 use one_way_queue::{Consumer, Found, Piece, PieceReader, Producer};
-use std::alloc::Global;
+use std::alloc::{AllocError, Global};
 use std::marker::Model;
 use std::sync::Wait;
 
 // How many pieces wait in one direction at most.
-pub(crate) const MOST_PIECES: usize = 65535;
+const MOST_PIECES: usize = 65535;
 
 // How many places a queue has besides, for the end mark.
-pub(crate) const END_PLACES: usize = 1;
+const END_PLACES: usize = 1;
 
 // The mark behind the last piece.
 #[derive(Drop)]
@@ -32,10 +34,7 @@ pub struct PairLink<'r, R> {
     alloc: Global,
     out: Producer<Piece<EndMark>>,
     incoming: PieceReader<EndMark>,
-    sends: ListedCalls,
-    receives: ListedCalls,
-    // Of both.
-    faults: u64,
+    calls: EndCalls,
     finished: bool,
     ended: bool,
 }
@@ -48,9 +47,7 @@ impl<'r, R> Drop for PairLink<'r, R> {
             alloc: _,
             out: _out,
             incoming: _incoming,
-            sends: _sends,
-            receives: _receives,
-            faults: _,
+            calls: _calls,
             finished: _,
             ended: _,
         } = self;
@@ -72,11 +69,11 @@ impl<'r, R> Model for PairLink<'r, R> {
       given = given_by l.incoming;
       ended = l.ended;
       told = bytes_of (told_by l.incoming);
-      failing_sends = l.sends.failing;
-      failing_receives = l.receives.failing;
-      sends = l.sends.calls;
-      receives = l.receives.calls;
-      faults = l.faults;
+      failing_sends = l.calls.sends.failing;
+      failing_receives = l.calls.receives.failing;
+      sends = l.calls.sends.calls;
+      receives = l.calls.receives.calls;
+      faults = l.calls.faults;
       outward = producer_queue l.out;
       inward = reader_queue l.incoming;
     } };
@@ -89,7 +86,7 @@ impl<'r, R> Model for PairLink<'r, R> {
 
 impl<'r, R: Wait> PairLink<'r, R> {
     // An end that was handed and given nothing.
-    pub(crate) fn new(
+    fn new(
         rt: &'r R,
         alloc: Global,
         out: Producer<Piece<EndMark>>,
@@ -100,27 +97,14 @@ impl<'r, R: Wait> PairLink<'r, R> {
         requires free { 0 < free_of out }
         requires taken { taken_of incoming ≡ [] }
         requires told { told_of incoming ≡ [] }
-        ensures handed { result.handed ≡ [] }
-        ensures finished { result.finished ≡ false }
-        ensures given { result.given ≡ [] }
-        ensures ended { result.ended ≡ false }
-        ensures told_nothing { result.told ≡ [] }
-        ensures failing_sends { result.failing_sends ≡ calls.sends.failing }
-        ensures failing_receives { result.failing_receives ≡ calls.receives.failing }
-        ensures sends { result.sends ≡ calls.sends.calls }
-        ensures receives { result.receives ≡ calls.receives.calls }
-        ensures faults { result.faults ≡ 0 }
-        ensures outward { result.outward ≡ producer_queue out }
-        ensures inward { result.inward ≡ consumer_queue incoming }
+        ensures { result ≡ fresh_end calls (producer_queue out) (consumer_queue incoming) }
     {
         PairLink {
             rt,
             alloc,
             out,
             incoming: PieceReader::new(alloc, incoming),
-            sends: calls.sends,
-            receives: calls.receives,
-            faults: 0,
+            calls,
             finished: false,
             ended: false,
         }
@@ -130,35 +114,10 @@ impl<'r, R: Wait> PairLink<'r, R> {
     pub fn faults(&self) -> u64
         ensures { result ≡ self.now.faults }
     {
-        self.faults
-    }
-
-    // Counts a send or a receive that failed.
-    fn fault(&mut self)
-        ensures faults { self.new ≡ record self.old { faults = raised self.old.faults } }
-        ensures never_falls { self.old.faults ≤ self.new.faults }
-    {
-        self.faults = self.faults.saturating_add(1);
-    }
-
-    #[tactic(auto, using(crate::proofs::Outgoing::frames_snoc_bytes, crate::proofs::Outgoing::outgoing_frame))]
-    // Puts a copy of the frame, and waits while as many pieces wait as may.
-    fn put(&mut self, frame: &[u8]) -> Handed
-        requires { self.old.finished ≡ false }
-        ensures done { result ≡ Handed.Done
-            → self.new ≡ record self.old { handed = self.old.handed ++ frame.now ∷ [] } }
-        ensures other { result ≢ Handed.Done → (result ≡ Handed.Memory) × (self.new ≡ self.old) }
-    {
-        let Ok(copy) = Bytes::from_slice(self.alloc, frame) else {
-            return Handed::Memory;
-        };
-        self.out
-            .put_leaving(self.rt, END_PLACES, Piece::Bytes(copy));
-        Handed::Done
+        self.calls.faults
     }
 
     // Gives the next bytes, or finds the end.
-    #[tactic(auto, using(crate::proofs::Outgoing::told_taken, crate::proofs::Outgoing::bytes_of_prefix))]
     fn read(&mut self, buf: &mut [u8]) -> Came
         requires room { 0 < length buf.old }
         requires before_end { self.old.ended ≡ false }
@@ -228,15 +187,16 @@ impl<'r, R: Wait> Link for PairLink<'r, R> {
           faults = self.new.faults;
         } }
     {
-        if self.sends.next() {
-            self.fault();
+        if self.calls.send_fails(self.finished) {
             return Handed::Failed;
         }
-        if self.finished {
-            self.fault();
-            return Handed::Failed;
-        }
-        self.put(frame)
+        let Ok(copy) = Bytes::from_slice(self.alloc, frame) else {
+            return Handed::Memory;
+        };
+        // It waits while as many pieces wait as may.
+        self.out
+            .put_leaving(self.rt, END_PLACES, Piece::Bytes(copy));
+        Handed::Done
     }
 
     fn receive(&mut self, buf: &mut [u8]) -> Came
@@ -267,8 +227,7 @@ impl<'r, R: Wait> Link for PairLink<'r, R> {
           ended = self.new.ended;
         } }
     {
-        if self.receives.next() {
-            self.fault();
+        if self.calls.receive_fails() {
             return Came::Failed;
         }
         if self.ended {
@@ -286,6 +245,44 @@ impl<'r, R: Wait> Link for PairLink<'r, R> {
             self.finished = true;
         }
     }
+}
+
+// The two ends of a new pair, of whose calls those that are listed for each connection are to fail.
+pub(crate) fn new_pair<'r, R: Wait>(
+    rt: &'r R,
+    alloc: Global,
+    listed: &ListedConns,
+    a: u32,
+    b: u32,
+) -> Result<(PairLink<'r, R>, PairLink<'r, R>), AllocError>
+    ensures pair { IfOk result (λ ends. ArePair ends.0 ends.1) }
+    ensures first { IfOk result (λ ends.
+        IsFresh (numbers_of a listed.now.sends.items) (numbers_of a listed.now.receives.items) ends.0) }
+    ensures second { IfOk result (λ ends.
+        IsFresh (numbers_of b listed.now.sends.items) (numbers_of b listed.now.receives.items) ends.1) }
+{
+    let first = listed.calls_of(alloc, a)?;
+    let second = listed.calls_of(alloc, b)?;
+    new_ends(rt, alloc, first, second)
+}
+
+// The two ends of a new pair, with the calls of each.
+fn new_ends<'r, R: Wait>(
+    rt: &'r R,
+    alloc: Global,
+    first: EndCalls,
+    second: EndCalls,
+) -> Result<(PairLink<'r, R>, PairLink<'r, R>), AllocError>
+    ensures pair { IfOk result (λ ends. ArePair ends.0 ends.1) }
+    ensures first { IfOk result (λ ends. ends.0 ≡ fresh_end first ends.0.outward ends.0.inward) }
+    ensures second { IfOk result (λ ends. ends.1 ≡ fresh_end second ends.1.outward ends.1.inward) }
+{
+    let (from_first, to_second) = one_way_queue::open(alloc, MOST_PIECES + END_PLACES)?;
+    let (from_second, to_first) = one_way_queue::open(alloc, MOST_PIECES + END_PLACES)?;
+    Ok((
+        PairLink::new(rt, alloc, from_first, to_first, first),
+        PairLink::new(rt, alloc, from_second, to_second, second),
+    ))
 }
 
 /// Brings the two ends of one pair together. What each was given is a beginning of what the other handed over, and

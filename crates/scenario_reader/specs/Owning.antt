@@ -1,8 +1,9 @@
 -- The code's own: the schemas of applications, and the policies that are read under them.
-use Rattle.std.specs.Prelude.{◌≡◌, ◌⊎◌, ◌↔◌, ℕ, List, codes, Contains, Option, Some, None, IfSome, Result}
+use Rattle.std.specs.Prelude.{◌≡◌, ◌⊎◌, ◌↔◌, ℕ, List, codes, Contains, Option, Some, None, IfSome, Result, Ok, Err}
 use Rattle.mrpc_table.specs.Valid.{IsValid}
 use Rattle.mrpc_table.specs.declared.table.Table.{Table}
 use Rattle.run_plan.specs.declared.application.Application.{Application}
+use Rattle.run_plan.specs.declared.application.OwnPolicy.{OwnPolicy}
 use Rattle.run_plan.specs.declared.application.OwnSchema.{OwnSchema}
 use Rattle.toml.specs.Data.{Members}
 use Rattle.scenario.specs.Applications.{HasTable, conn_of, names_in, operator_tables}
@@ -48,6 +49,11 @@ IsOwnOf all ms (Some own) = IsOwn all ms own
 
 abbrev pub IsOwnRead : Members → Members → Result (Option OwnSchema) ScenarioReason → Type 0
 IsOwnRead all ms = IsPart (OwnFails all ms) (IsOwnOf all ms)
+
+-- the own schema of this table with the policies, or the first reason against it
+abbrev pub IsOwnUnder : Members → Members → Table → Result (List OwnPolicy) ScenarioReason → Type 0
+IsOwnUnder all ms table (Ok policies) = IsOwnRead all ms (Ok (Some (record { table = table; policies = policies })))
+IsOwnUnder all ms table (Err q) = IsOwnRead all ms (Err q)
 
 -- the own schema of an application has a valid table
 abbrev pub IsValidOwn : Option OwnSchema → Type 0

@@ -1,7 +1,9 @@
 -- The code's own: faults of the text and of the whole.
-use Rattle.std.specs.Prelude.{◌≡◌, ℕ, ◌<◌, List}
+use Rattle.std.specs.Prelude.{◌≡◌, ℕ, ◌<◌, List, codes}
+use Rattle.mrpc_table.specs.declared.table.Table.{Table}
 use Rattle.toml.specs.Data.{Members}
-use Rattle.scenario.specs.Applications.{app_tables, link_tables, operator_tables}
+use Rattle.scenario.specs.Applications.{app_tables, link_tables, operator_tables, policy_tables, tenant_tables}
+use Rattle.scenario.specs.Policies.{PolicyAgainst, PolicySays, TenantSays}
 use Rattle.scenario.specs.Reasons.{IsFirstReason, list_of_entry}
 use Rattle.scenario.specs.Scenarios.{AppSays, IsAgainst, IsFirst, IsTableText, LinkSays, OperatorSays, TopAgainst}
 use Rattle.scenario.specs.declared.fault.Entry.{Entry}
@@ -11,7 +13,11 @@ use Rattle.scenario.specs.declared.fault.ScenarioFault.TheVariants as fault
 use Rattle.scenario.specs.declared.fault.ScenarioReason.{ScenarioReason}
 use Rattle.scenario.specs.declared.fault.ScenarioReason.TheVariants.{Toml}
 use Rattle.scenario_lines.specs.Programs.{Each}
+use Rattle.scenario_values.specs.Values.{word_at}
+use Rattle.scenario_entries.specs.Entries.{AreFree, views}
 use Rattle.scenario_reader.specs.declared.reader.Below.{Below}
+use Rattle.scenario_reader.specs.declared.reader.Declared.{Declared}
+use Rattle.scenario_reader.specs.declared.reader.Parts.{Parts}
 
 -- the text is no TOML
 abbrev pub IsNoTable : List ℕ → ScenarioFault → Type 0
@@ -38,3 +44,18 @@ pub record SaysBelow (all : Members) (b : Below) : Type 0 where
   pub applications : Each (AppSays all) (app_tables all) b.applications
   pub links : Each LinkSays (link_tables all) b.links
   pub operators : Each (OperatorSays all) (operator_tables all) b.operators
+
+-- what the lists of tenants and policies say under a table, and nothing stands against their entries
+pub record SaysDeclared (all : Members) (T : Table) (d : Declared) : Type 0 where
+  pub free : FreeBelow all 3
+  pub of_policies : AreFree (PolicyAgainst T (tenant_tables all)) (policy_tables all)
+  pub tenants : Each TenantSays (tenant_tables all) d.declarations.tenants
+  pub policies : Each (PolicySays T (tenant_tables all)) (policy_tables all) d.declarations.policies
+  pub entries : views d.policies.items ≡ policy_tables all
+
+-- what is read of a whole under its table, and nothing stands against any entry
+pub record SaysParts (all : Members) (T : Table) (parts : Parts) : Type 0 where
+  pub service : parts.service ≡ word_at (codes "service") all
+  pub tenants : Each TenantSays (tenant_tables all) parts.declared.tenants
+  pub policies : Each (PolicySays T (tenant_tables all)) (policy_tables all) parts.declared.policies
+  pub below : SaysBelow all parts.below

@@ -1,13 +1,13 @@
 //! Applications.
 
-ghost use Rattle.std.specs.Prelude.{◌≡◌, ◌≤◌, ◌<◌, ◌+◌, ◌*◌, ◌++◌, ◌∷◌, [], List, None, Some, Ok, true, All, IfOk, MatchOption, MatchResult, OnOk, length, map, sum};
+ghost use Rattle.std.specs.Prelude.{◌≡◌, ◌≤◌, ◌<◌, ◌+◌, ◌*◌, ◌++◌, ◌∷◌, [], List, None, Some, Ok, true, All, IfOk, MatchOption, MatchResult, OnOk, filter_map, length, map, sum};
 ghost use Rattle.std.specs.List.{list_all};
 ghost use Rattle.mrpc_table.specs.declared.table.Table.{Table as TheTable};
-ghost use Rattle.policy_blocks.specs.Declarations.{policy_names};
+ghost use Rattle.policy_blocks.specs.Declarations.{policy_names, policy_place};
 ghost use Rattle.toml.specs.Data.{Members};
 ghost use Rattle.toml.specs.View.{table_view};
 ghost use Rattle.scenario_values.specs.Values.{is_within_at, number_in};
-ghost use Rattle.scenario.specs.Applications.{AppAgainst, submissions};
+ghost use Rattle.scenario.specs.Applications.{AppAgainst, chain_of, submissions};
 ghost use Rattle.scenario.specs.Keys as keys;
 ghost use Rattle.scenario.specs.Keys.{app_ranges, role_of};
 ghost use Rattle.scenario.specs.Policies.{names_of};
@@ -129,10 +129,59 @@ fn head_reason(
 }
 
 /// What an application does, and its own schema.
-#[derive(Drop)]
 struct Early {
     role: Role,
     own: Option<OwnSchema>,
+}
+
+// By hand, so that a drop is one call where it is needed, and not a drop of each part.
+impl Drop for Early {
+    fn drop(self) {
+        let Early {
+            role: _role,
+            own: _own,
+        } = self;
+    }
+}
+
+impl Early {
+    /// The application of an entry without a fault.
+    fn draft(
+        self,
+        alloc: Global,
+        declared: &Declarations,
+        entry: &Table,
+    ) -> Result<Application, Memory>
+        requires { list_all (is_within_at (table_view entry.now)) app_ranges ≡ true }
+        ensures { IfOk result (IsDraft declared.now (table_view entry.now) self.role self.own) }
+    {
+        let chain = attached_in(alloc, declared, entry)?;
+        let Early { role, own } = self;
+        Ok(Application {
+            conn: conn_in(entry),
+            role,
+            heap: heap().number(entry),
+            receive: receive().number(entry),
+            ring: ring().number(entry),
+            weight: weight().number(entry),
+            chain,
+            inbound: inbound_in(declared, entry),
+            own,
+        })
+    }
+}
+
+/// Where the policies stand that are attached to the connection of an application.
+fn attached_in(
+    alloc: Global,
+    declared: &Declarations,
+    entry: &Table,
+) -> Result<Sequence<usize>, Memory>
+    ensures { IfOk result (λ places. places
+        ≡ filter_map (policy_place declared.now) (chain_of (table_view entry.now))) }
+{
+    let names = texts_at(alloc, entry, "chain")?;
+    places_in(alloc, declared, names.as_slice())
 }
 
 /// The first of several reasons against an application, where one of its parts has one.
@@ -274,30 +323,6 @@ fn late_in<'a>(
     }
 }
 
-/// The application of an entry without a fault.
-fn draft_of(
-    alloc: Global,
-    declared: &Declarations,
-    entry: &Table,
-    early: Early,
-) -> Result<Application, Memory>
-    requires { list_all (is_within_at (table_view entry.now)) app_ranges ≡ true }
-    ensures { IfOk result (IsDraft declared.now (table_view entry.now) early.role early.own) }
-{
-    let names = texts_at(alloc, entry, "chain")?;
-    Ok(Application {
-        conn: conn_in(entry),
-        role: early.role,
-        heap: heap().number(entry),
-        receive: receive().number(entry),
-        ring: ring().number(entry),
-        weight: weight().number(entry),
-        chain: places_in(alloc, declared, names.as_slice())?,
-        inbound: inbound_in(declared, entry),
-        own: early.own,
-    })
-}
-
 /// The application of an entry behind others, or the first reason against it.
 fn read_app<'a>(
     alloc: Global,
@@ -333,7 +358,7 @@ fn read_app<'a>(
         Err(reason) => return Ok(Err(reason)),
     };
     let Late { chain, submitted } = late;
-    let app = draft_of(alloc, above.declared, entry, early)?;
+    let app = early.draft(alloc, above.declared, entry)?;
     let port = Port {
         conn: number_of(entry),
         role,

@@ -88,6 +88,54 @@ fn head_reason(
     )
 }
 
+/// What the lines of an operator tell, the policies that they name, and the first reason against these and its
+/// connection, apart from schemas.
+struct Asked<'a> {
+    steps: Steps<'a>,
+    names: Vec<&'a [u8]>,
+    head: Option<ScenarioReason>,
+}
+
+// By hand, so that a drop is one call where it is needed, and not a drop of each part.
+impl<'a> Drop for Asked<'a> {
+    fn drop(self) {
+        let Asked {
+            steps: _steps,
+            names: _names,
+            head: _,
+        } = self;
+    }
+}
+
+/// What an operator asks for, behind others.
+fn asked_in<'a>(
+    alloc: Global,
+    declared: &Declarations,
+    before: &[Operator],
+    conn: u64,
+    entry: &'a Table,
+) -> Result<Asked<'a>, Memory>
+    ensures told { IfOk result (λ asked.
+        HasTold (steps_of (table_view entry.now)) asked.steps.told.items asked.steps.most asked.steps.first) }
+    ensures names { IfOk result (λ asked. AreStepNames (table_view entry.now) (map (λ n. n.now) asked.names.items)) }
+    ensures head { (all : Members) (tables : List Members) → policy_names declared.now ≡ names_of (policy_tables all)
+        → Each (OperatorSays all) tables before.now → conn ≡ conn_of (table_view entry.now)
+        → IfOk result (λ asked. IsSoFar (HeadFails all tables (table_view entry.now)) asked.head) }
+{
+    let lines = texts_at(alloc, entry, "steps")?;
+    let steps = read_steps(alloc, lines.as_slice())?;
+    let names = step_names(alloc, entry)?;
+    let head = head_reason(
+        declared,
+        before,
+        conn,
+        lines.len() as u64,
+        &steps,
+        names.as_slice(),
+    );
+    Ok(Asked { steps, names, head })
+}
+
 /// Where the application on a connection stands.
 fn place_on(applications: &[Application], conn: u64) -> Option<usize>
     ensures { result ≡ position (λ app. app.conn == conn) applications.now }
@@ -169,23 +217,13 @@ fn judge_operator<'a>(
     one_judgement();
     same_names();
     let number = conn_in(entry);
-    let lines = texts_at(alloc, entry, "steps")?;
-    let steps = read_steps(alloc, lines.as_slice())?;
-    let names = step_names(alloc, entry)?;
-    let head = head_reason(
-        above.declared,
-        before,
-        u64::from(number),
-        lines.len() as u64,
-        &steps,
-        names.as_slice(),
-    );
+    let asked = asked_in(alloc, above.declared, before, u64::from(number), entry)?;
     let applications = apps.applications.as_slice();
     let Some(place) = place_on(applications, u64::from(number)) else {
-        return Ok(Err(earliest(head, ScenarioReason::Unknown)));
+        return Ok(Err(earliest(asked.head, ScenarioReason::Unknown)));
     };
-    let own = own_reason(alloc, above, &applications[place], names.as_slice())?;
-    if let Some(reason) = earlier(head, own) {
+    let own = own_reason(alloc, above, &applications[place], asked.names.as_slice())?;
+    if let Some(reason) = earlier(asked.head, own) {
         return Ok(Err(reason));
     }
     take_steps(
@@ -193,7 +231,7 @@ fn judge_operator<'a>(
         above.declared,
         &apps.chains[place],
         number,
-        steps.told.as_slice(),
+        asked.steps.told.as_slice(),
     )
 }
 

@@ -1,18 +1,21 @@
 //! The schemas of applications, and the policies that are read under them.
 
-ghost use Rattle.std.specs.Prelude.{◌≡◌, ◌↔◌, ℕ, List, Contains, IfOk, length, map};
+ghost use Rattle.std.specs.Prelude.{◌≡◌, ◌↔◌, ℕ, List, Some, Contains, IfOk, codes, length, map};
+ghost use Rattle.mrpc_table.specs.Valid.{IsValid};
 ghost use Rattle.mrpc_table.specs.declared.table.Table.{Table as TheTable};
 ghost use Rattle.toml.specs.Data.{Members};
 ghost use Rattle.toml.specs.View.{table_view};
+ghost use Rattle.scenario.specs.Applications.{HasTable};
+ghost use Rattle.scenario_values.specs.Values.{text_at};
 ghost use Rattle.scenario_entries.specs.Entries.{views};
 ghost use Rattle.scenario_reader.specs.Above.{IsAbove};
-ghost use Rattle.scenario_reader.specs.Owning.{AreStepNames, IsOwnRead, IsUsedIn, IsValidOwn};
+ghost use Rattle.scenario_reader.specs.Owning.{AreStepNames, IsOwnRead, IsOwnUnder, IsUsedIn, IsValidOwn};
 
 use crate::above::Above;
 use crate::names::names_in;
 use crate::steps::{add_names, read_steps};
-use mrpc_table::Memory;
-use run_plan::OwnSchema;
+use mrpc_table::{Memory, Sequence, Table as Schema};
+use run_plan::{OwnPolicy, OwnSchema};
 use scenario::keys::conn;
 use scenario::{ScenarioReason, table_in};
 use scenario_policies::read_own_policies;
@@ -53,9 +56,47 @@ fn used_names<'a>(
     Ok(names)
 }
 
+/// The policies that are used, as they are read under the table of the application's own schema, or the first reason
+/// against those that the application names. Policies that steps alone name are no matter of the application: where one
+/// of them fails, its operator is at fault.
+fn own_policies(
+    alloc: Global,
+    above: Above<'_, '_, '_>,
+    table: &Schema,
+    entry: &Table,
+) -> Result<Result<Sequence<OwnPolicy>, ScenarioReason>, Memory>
+    requires valid { IsValid table.now }
+    requires long { length above.policies.now ≡ length above.declared.now.policies }
+    ensures { (all : Members) (T : TheTable) (text : List ℕ) → IsAbove all T above.entry
+        → text_at (codes "schema") (table_view entry.now) ≡ Some text → HasTable text table.now
+        → IfOk result (IsOwnUnder all (table_view entry.now) table.now) }
+{
+    let names = names_in(alloc, entry)?;
+    let first = read_own_policies(
+        alloc,
+        table,
+        above.declared,
+        above.policies,
+        names.as_slice(),
+    )?;
+    let named = match first {
+        Ok(named) => named,
+        Err(reason) => return Ok(Err(reason)),
+    };
+    let used = used_names(alloc, entry, above.operators)?;
+    let read = read_own_policies(
+        alloc,
+        table,
+        above.declared,
+        above.policies,
+        used.as_slice(),
+    )?;
+    let policies = read.unwrap_or(named);
+    Ok(Ok(policies))
+}
+
 /// Its own schema with the policies that are used, or the first reason against it and the policies that the application
-/// names; none where it has no schema. Policies that steps alone name are no matter of the application: where one of
-/// them fails, its operator is at fault.
+/// names; none where it has no schema.
 pub(crate) fn own_in(
     alloc: Global,
     above: Above<'_, '_, '_>,
@@ -71,26 +112,9 @@ pub(crate) fn own_in(
     let Some(table) = table_in(alloc, text.as_bytes())? else {
         return Ok(Err(ScenarioReason::Schema));
     };
-    let names = names_in(alloc, entry)?;
-    let first = read_own_policies(
-        alloc,
-        &table,
-        above.declared,
-        above.policies,
-        names.as_slice(),
-    )?;
-    let named = match first {
-        Ok(named) => named,
-        Err(reason) => return Ok(Err(reason)),
-    };
-    let used = used_names(alloc, entry, above.operators)?;
-    let read = read_own_policies(
-        alloc,
-        &table,
-        above.declared,
-        above.policies,
-        used.as_slice(),
-    )?;
-    let policies = read.unwrap_or(named);
-    Ok(Ok(Some(OwnSchema { table, policies })))
+    let read = own_policies(alloc, above, &table, entry)?;
+    match read {
+        Err(reason) => Ok(Err(reason)),
+        Ok(policies) => Ok(Ok(Some(OwnSchema { table, policies }))),
+    }
 }

@@ -6,14 +6,15 @@ ghost use Rattle.mrpc_table.specs.Valid.{IsValid};
 ghost use Rattle.mrpc_table.specs.declared.table.Table.{Table as TheTable};
 ghost use Rattle.run_plan.specs.Plans.{IsPlan};
 ghost use Rattle.toml.specs.View.{table_view};
-ghost use Rattle.scenario.specs.Applications.{HasTable, policy_tables, tenant_tables};
+ghost use Rattle.scenario.specs.Applications.{HasTable, link_tables, policy_tables, tenant_tables};
 ghost use Rattle.scenario.specs.Keys.{top_ranges};
 ghost use Rattle.scenario.specs.Policies.{PolicyAgainst, PolicySays};
 ghost use Rattle.scenario.specs.Scenarios.{IsFaultOf, IsTextOf, Says, schema_of};
 ghost use Rattle.scenario_lines.specs.Programs.{Each};
 ghost use Rattle.scenario_values.specs.Values.{is_within_at};
 ghost use Rattle.scenario_entries.specs.Entries.{AreFree, views};
-ghost use Rattle.scenario_reader.specs.Whole.{FreeBelow, IsFirstOf, SaysBelow};
+ghost use Rattle.scenario_reader.specs.Above.{IsAbove};
+ghost use Rattle.scenario_reader.specs.Whole.{FreeBelow, IsFirstOf, SaysBelow, SaysDeclared, SaysParts};
 
 use crate::above::Above;
 use crate::application::read_apps;
@@ -31,12 +32,76 @@ use scenario_values::{flag_at, tables_at, word_at};
 use std::alloc::Global;
 use toml::Table;
 
+/// The tenants and the policies, and the entries of the policies.
+#[derive(Drop)]
+struct Declared<'x> {
+    declarations: Declarations,
+    policies: Vec<&'x Table>,
+}
+
 /// What is read below the declarations.
 #[derive(Drop)]
 struct Below {
     applications: Sequence<Application>,
     links: Sequence<Pair>,
     operators: Sequence<Operator>,
+}
+
+/// What is read of a whole under its table.
+#[derive(Drop)]
+struct Parts {
+    service: Name,
+    declared: Declarations,
+    below: Below,
+}
+
+/// The tenants and the policies.
+fn read_declared<'x>(
+    alloc: Global,
+    all: &'x Table,
+    table: &Schema,
+) -> Result<Declared<'x>, ScenarioFault>
+    requires valid { IsValid table.now }
+    requires schema { HasTable (schema_of (table_view all.now)) table.now }
+    requires free { FreeBelow (table_view all.now) 1 }
+    ensures { MatchResult result (SaysDeclared (table_view all.now) table.now) (IsFirstOf (table_view all.now)) }
+{
+    one_table();
+    let tenant_entries = tables_at(alloc, all, "tenant")?;
+    let tenants = read_tenants(alloc, tenant_entries.as_slice())?;
+    let policies = tables_at(alloc, all, "policy")?;
+    let declarations = read_policies(alloc, table, tenants, policies.as_slice())?;
+    Ok(Declared {
+        declarations,
+        policies,
+    })
+}
+
+/// The applications, the links of these entries, and the operators.
+fn read_lists<'x>(
+    alloc: Global,
+    all: &'x Table,
+    above: Above<'x, '_, '_>,
+    link_entries: &[&Table],
+) -> Result<Below, ScenarioFault>
+    requires long { length above.policies.now ≡ length above.declared.now.policies }
+    requires from_one { 1 ≤ above.loads }
+    requires few { above.loads ≤ 16384 }
+    ensures { (T : TheTable) → let ms = table_view all.now in FreeBelow ms 3 → IsAbove ms T above.entry
+        → views link_entries.now ≡ link_tables ms → MatchResult result (SaysBelow ms) (IsFirstOf ms) }
+{
+    one_table();
+    one_declaration();
+    same_names();
+    let app_entries = tables_at(alloc, all, "app")?;
+    let apps = read_apps(alloc, above, app_entries.as_slice())?;
+    let links = read_links(alloc, apps.ports.as_slice(), link_entries)?;
+    let operators = read_operators(alloc, above, &apps, above.operators)?;
+    Ok(Below {
+        applications: apps.applications,
+        links,
+        operators,
+    })
 }
 
 /// The applications, the links and the operators.
@@ -53,9 +118,6 @@ fn read_below<'x>(
         → Each (PolicySays T (tenant_tables ms)) (policy_tables ms) declared.now.policies
         → views policies.now ≡ policy_tables ms → MatchResult result (SaysBelow ms) (IsFirstOf ms) }
 {
-    one_table();
-    one_declaration();
-    same_names();
     let link_entries = tables_at(alloc, all, "link")?;
     let operator_entries = tables_at(alloc, all, "operator")?;
     let ends = ends_of(alloc, link_entries.as_slice())?;
@@ -66,14 +128,29 @@ fn read_below<'x>(
         ends: ends.as_slice(),
         loads: loads().number(all),
     };
-    let app_entries = tables_at(alloc, all, "app")?;
-    let apps = read_apps(alloc, above, app_entries.as_slice())?;
-    let links = read_links(alloc, apps.ports.as_slice(), link_entries.as_slice())?;
-    let operators = read_operators(alloc, above, &apps, operator_entries.as_slice())?;
-    Ok(Below {
-        applications: apps.applications,
-        links,
-        operators,
+    read_lists(alloc, all, above, link_entries.as_slice())
+}
+
+/// What a whole without a fault in its own keys says.
+fn read_parts(alloc: Global, all: &Table, table: &Schema) -> Result<Parts, ScenarioFault>
+    requires valid { IsValid table.now }
+    requires ranges { list_all (is_within_at (table_view all.now)) top_ranges ≡ true }
+    requires schema { HasTable (schema_of (table_view all.now)) table.now }
+    requires free { FreeBelow (table_view all.now) 1 }
+    ensures { MatchResult result (SaysParts (table_view all.now) table.now) (IsFirstOf (table_view all.now)) }
+{
+    let service = Name::from_slice(alloc, word_at(all, "service"))?;
+    let declared = read_declared(alloc, all, table)?;
+    let below = read_below(
+        alloc,
+        all,
+        &declared.declarations,
+        declared.policies.as_slice(),
+    )?;
+    Ok(Parts {
+        service,
+        declared: declared.declarations,
+        below,
     })
 }
 
@@ -85,22 +162,17 @@ fn read_whole(alloc: Global, all: &Table, table: Schema) -> Result<Plan, Scenari
     requires free { FreeBelow (table_view all.now) 1 }
     ensures { MatchResult result (Says (table_view all.now)) (IsFirstOf (table_view all.now)) }
 {
-    one_table();
-    let tenant_entries = tables_at(alloc, all, "tenant")?;
-    let tenants = read_tenants(alloc, tenant_entries.as_slice())?;
-    let policy_entries = tables_at(alloc, all, "policy")?;
-    let declared = read_policies(alloc, &table, tenants, policy_entries.as_slice())?;
-    let below = read_below(alloc, all, &declared, policy_entries.as_slice())?;
+    let parts = read_parts(alloc, all, &table)?;
     Ok(Plan {
-        service: Name::from_slice(alloc, word_at(all, "service"))?,
+        service: parts.service,
         loads: loads().number(all),
         workers: workers().number(all),
         weighted: flag_at(all, "weighted"),
         table,
-        declared,
-        applications: below.applications,
-        links: below.links,
-        operators: below.operators,
+        declared: parts.declared,
+        applications: parts.below.applications,
+        links: parts.below.links,
+        operators: parts.below.operators,
     })
 }
 

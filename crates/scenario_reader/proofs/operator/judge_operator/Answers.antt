@@ -1,7 +1,6 @@
-use Rattle.std.proofs.Common.{◌≡◌, ◌==◌, ℕ, List, None, Option, Some, length, map, sym, ap, ◌∙◌, subst, arith}
+use Rattle.std.proofs.Common.{◌≡◌, ◌==◌, ℕ, List, None, Option, Some, map, sym, ◌∙◌, subst, arith}
 use Rattle.std.specs.Borrow.{Bor}
 use Rattle.std.specs.Prelude.{position}
-use Rattle.std.proofs.lemmas.List.{length-map}
 use Rattle.std.proofs.lemmas.Option.{get_or_from_slice_get}
 use Rattle.std.proofs.lemmas.Result.{IfOk-weaker}
 use Rattle.mrpc_table.specs.Valid.{AreDistinct}
@@ -18,7 +17,7 @@ use Rattle.scenario_entries.specs.Entries.{IsEntryRead}
 use Rattle.scenario_reader.specs.Joining.{IsApp}
 use Rattle.scenario_reader.specs.Operating.{IsOperatorOf}
 use Rattle.scenario_reader.specs.Owning.{AreStepNames}
-use Rattle.scenario_reader.specs.Stepping.{HasTold, SomeTell}
+use Rattle.scenario_reader.specs.Stepping.{SomeTell}
 use Rattle.scenario_reader.proofs.Operated.{app_on, begun_at, judged, no_app_on}
 use Rattle.scenario_reader.proofs.Operating.{named_first, no_app_is}
 use Rattle.scenario_reader.proofs.Stepping.{Laws}
@@ -33,22 +32,14 @@ returns-in_default c = λ all T tables above joined distinct says keys.
     let same = c.same_names.ensures.names T (tenant_tables all) (policy_tables all) d above.policies in
     let number : c.from.result ≡ conn_of ms = omega (arith, c.from.ensures, c.conn_in-number.ensures) in
     let again : c.from-2.result ≡ conn_of ms = omega (arith, c.from-2.ensures, c.conn_in-number.ensures) in
-    let lines = ap (λ (xs : List (Bor (List ℕ))). map (λ n. n.now) xs) c.as_slice.ensures.value ∙ c.in_ok-lines.ensures in
-    let counted = sym (ap (λ (xs : List (List ℕ)). length xs) c.in_ok-lines.ensures) ∙ length-map c.in_ok-lines.lines.items (λ n. n.now) in
-    let long : c.len.result ≡ length (steps_of ms) = omega (arith, c.len.ensures, counted, c.as_slice.ensures.len, ap length c.as_slice.ensures.value) in
-    let told =
-    subst (λ (ls : List (List ℕ)). HasTold ls c.in_ok-steps.steps.told.items c.in_ok-steps.steps.most c.in_ok-steps.steps.first) lines
-    c.in_ok-steps.ensures in
-    let names =
-    subst (λ (ns : List (Bor (List ℕ))). AreStepNames ms (map (λ n. n.now) ns)) (sym c.as_slice-2.ensures.value) c.in_ok-names.ensures in
-    let head = c.head_reason-head.ensures all ms tables same says number long told names in
+    let head = c.in_ok-asked.ensures.head all tables same says number in
     let apps = c.as_slice-applications.result.now in
     let are = subst (λ (xs : List Application). Each (IsApp all d) (app_tables all) xs) (sym c.as_slice-applications.ensures) joined.applications in
     let gone =
     subst (λ (n : ℕ). position (λ a. a.conn == n) apps ≡ None) again (sym c.place_on.ensures ∙ c.in_default.is) in
     subst (λ (o : Option ScenarioReason). IsSoFar (OperatorAgainst all d.policies tables ms) o) c.earliest.ensures
     (no_app_is all tables ms d.policies keys c.requires.range (no_app_on all d (app_tables all) apps are (conn_of ms) gone)
-    c.head_reason-head.result head)
+    c.in_ok-asked.asked.head head)
 
 pub returns-in-Some-earlier : goal.returns-in-Some-earlier
 returns-in-Some-earlier c = λ all T tables above joined distinct says keys.
@@ -57,15 +48,7 @@ returns-in-Some-earlier c = λ all T tables above joined distinct says keys.
     let same = c.same_names.ensures.names T (tenant_tables all) (policy_tables all) d above.policies in
     let number : c.from.result ≡ conn_of ms = omega (arith, c.from.ensures, c.conn_in-number.ensures) in
     let again : c.from-2.result ≡ conn_of ms = omega (arith, c.from-2.ensures, c.conn_in-number.ensures) in
-    let lines = ap (λ (xs : List (Bor (List ℕ))). map (λ n. n.now) xs) c.as_slice.ensures.value ∙ c.in_ok-lines.ensures in
-    let counted = sym (ap (λ (xs : List (List ℕ)). length xs) c.in_ok-lines.ensures) ∙ length-map c.in_ok-lines.lines.items (λ n. n.now) in
-    let long : c.len.result ≡ length (steps_of ms) = omega (arith, c.len.ensures, counted, c.as_slice.ensures.len, ap length c.as_slice.ensures.value) in
-    let told =
-    subst (λ (ls : List (List ℕ)). HasTold ls c.in_ok-steps.steps.told.items c.in_ok-steps.steps.most c.in_ok-steps.steps.first) lines
-    c.in_ok-steps.ensures in
-    let names =
-    subst (λ (ns : List (Bor (List ℕ))). AreStepNames ms (map (λ n. n.now) ns)) (sym c.as_slice-2.ensures.value) c.in_ok-names.ensures in
-    let head = c.head_reason-head.ensures all ms tables same says number long told names in
+    let head = c.in_ok-asked.ensures.head all tables same says number in
     let apps = c.as_slice-applications.result.now in
     let are = subst (λ (xs : List Application). Each (IsApp all d) (app_tables all) xs) (sym c.as_slice-applications.ensures) joined.applications in
     let place = c.in-Some.place in
@@ -77,10 +60,10 @@ returns-in-Some-earlier c = λ all T tables above joined distinct says keys.
     subst (λ (a : Application). IsApp all d on.table a)
     (sym (c.index-applications-place.is ∙ get_or_from_slice_get apps place on.app item on.at_app)) on.is in
     let its_names =
-    subst (λ (ns : List (Bor (List ℕ))). AreStepNames ms (map (λ n. n.now) ns)) (sym c.as_slice-3.ensures.value) c.in_ok-names.ensures in
+    subst (λ (ns : List (Bor (List ℕ))). AreStepNames ms (map (λ n. n.now) ns)) (sym c.as_slice.ensures.value) c.in_ok-asked.ensures.names in
     let own = c.in_ok-own.ensures all on.table ms T above is_app its_names in
     named_first all tables ms d.policies keys c.requires.range on.table (get_there (app_tables all) place on.table on.at_table) on.on distinct
-    c.head_reason-head.result c.in_ok-own.own c.in-Some-earlier.reason head own (sym c.earlier.ensures ∙ c.in-Some-earlier.is)
+    c.in_ok-asked.asked.head c.in_ok-own.own c.in-Some-earlier.reason head own (sym c.earlier.ensures ∙ c.in-Some-earlier.is)
 
 pub returns : goal.returns
 returns c = λ all T tables above joined distinct says keys.
@@ -89,15 +72,7 @@ returns c = λ all T tables above joined distinct says keys.
     let same = c.same_names.ensures.names T (tenant_tables all) (policy_tables all) d above.policies in
     let number : c.from.result ≡ conn_of ms = omega (arith, c.from.ensures, c.conn_in-number.ensures) in
     let again : c.from-2.result ≡ conn_of ms = omega (arith, c.from-2.ensures, c.conn_in-number.ensures) in
-    let lines = ap (λ (xs : List (Bor (List ℕ))). map (λ n. n.now) xs) c.as_slice.ensures.value ∙ c.in_ok-lines.ensures in
-    let counted = sym (ap (λ (xs : List (List ℕ)). length xs) c.in_ok-lines.ensures) ∙ length-map c.in_ok-lines.lines.items (λ n. n.now) in
-    let long : c.len.result ≡ length (steps_of ms) = omega (arith, c.len.ensures, counted, c.as_slice.ensures.len, ap length c.as_slice.ensures.value) in
-    let told =
-    subst (λ (ls : List (List ℕ)). HasTold ls c.in_ok-steps.steps.told.items c.in_ok-steps.steps.most c.in_ok-steps.steps.first) lines
-    c.in_ok-steps.ensures in
-    let names =
-    subst (λ (ns : List (Bor (List ℕ))). AreStepNames ms (map (λ n. n.now) ns)) (sym c.as_slice-2.ensures.value) c.in_ok-names.ensures in
-    let head = c.head_reason-head.ensures all ms tables same says number long told names in
+    let head = c.in_ok-asked.ensures.head all tables same says number in
     let apps = c.as_slice-applications.result.now in
     let are = subst (λ (xs : List Application). Each (IsApp all d) (app_tables all) xs) (sym c.as_slice-applications.ensures) joined.applications in
     let place = c.in-Some.place in
@@ -109,18 +84,18 @@ returns c = λ all T tables above joined distinct says keys.
     subst (λ (a : Application). IsApp all d on.table a)
     (sym (c.index-applications-place.is ∙ get_or_from_slice_get apps place on.app item on.at_app)) on.is in
     let its_names =
-    subst (λ (ns : List (Bor (List ℕ))). AreStepNames ms (map (λ n. n.now) ns)) (sym c.as_slice-3.ensures.value) c.in_ok-names.ensures in
+    subst (λ (ns : List (Bor (List ℕ))). AreStepNames ms (map (λ n. n.now) ns)) (sym c.as_slice.ensures.value) c.in_ok-asked.ensures.names in
     let own = c.in_ok-own.ensures all on.table ms T above is_app its_names in
     let laws = laws_of c.one_change.ensures.one_chain c.one_change.ensures.not_both c.one_change.ensures.one_refusal c.stays_chain.ensures in
     let words : Laws = record { one = c.one_judgement.ensures.one; not_both = c.one_judgement.ensures.not_both } in
     let chain = c.index.result.now in
     let begun = begun_at d (app_tables all) c.args.apps.now.chains.items place on.table chain joined.chains on.at_table c.index.ensures in
-    let tell = subst (λ (ts : List StepText). SomeTell (steps_of ms) ts) (sym c.as_slice-4.ensures.value) told.tell in
-    IfOk-weaker c.take_steps.result (IsOperatorOf d chain.entries.items c.conn_in-number.result c.as_slice-4.result.now)
+    let tell = subst (λ (ts : List StepText). SomeTell (steps_of ms) ts) (sym c.as_slice-2.ensures.value) c.in_ok-asked.ensures.told.tell in
+    IfOk-weaker c.take_steps.result (IsOperatorOf d chain.entries.items c.conn_in-number.result c.as_slice-2.result.now)
     (IsEntryRead (OperatorAgainst all d.policies tables ms) (OperatorSays all ms))
     (judged laws words all d tables ms on.table same (λ name. c.same_names.ensures.places d (policy_tables all) name same)
     (subst (λ (ns : List (List ℕ)). AreDistinct ns) (sym same) above.distinct) distinct keys c.requires.range
-    (get_there (app_tables all) place on.table on.at_table) on.on c.head_reason-head.result c.in_ok-own.own head own
-    (sym c.earlier.ensures ∙ c.in_default-earlier.is) c.as_slice-4.result.now tell chain.entries.items begun c.conn_in-number.result
+    (get_there (app_tables all) place on.table on.at_table) on.on c.in_ok-asked.asked.head c.in_ok-own.own head own
+    (sym c.earlier.ensures ∙ c.in_default-earlier.is) c.as_slice-2.result.now tell chain.entries.items begun c.conn_in-number.result
     c.conn_in-number.ensures)
     c.take_steps.ensures

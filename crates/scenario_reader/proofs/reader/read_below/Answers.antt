@@ -1,102 +1,15 @@
-use Rattle.std.proofs.Common.{List, sym, ap, ◌∙◌, subst}
-use Rattle.std.proofs.lemmas.Result.{err_from_is_err_and}
-use Rattle.toml.specs.Data.{Members}
+use Rattle.std.proofs.Common.{ap, ◌∙◌}
 use Rattle.toml.specs.View.{table_view}
-use Rattle.scenario.specs.Applications.{AppAgainst, LinkAgainst, all_ends, app_tables, policy_tables, tenant_tables}
-use Rattle.scenario.specs.Operators.{OperatorAgainst}
-use Rattle.scenario.specs.Scenarios.{LinkSays, OperatorSays}
-use Rattle.scenario_lines.specs.Programs.{Each}
+use Rattle.scenario.specs.Applications.{all_ends, policy_tables, tenant_tables}
 use Rattle.scenario_values.specs.Values.{TheRange, number_in}
-use Rattle.scenario_entries.specs.Entries.{AreFree, views}
-use Rattle.scenario_entries.specs.Ports.{IsPortOf}
-use Rattle.scenario_entries.specs.declared.link.Port.{Port}
-use Rattle.scenario_reader.specs.Joining.{AreJoined}
-use Rattle.scenario_reader.proofs.Below.{app_fault, conns_distinct, link_fault, names_distinct, operator_fault, says_below}
+use Rattle.scenario_entries.specs.Entries.{views}
+use Rattle.scenario_reader.proofs.Below.{names_distinct}
 use Rattle.scenario_reader.proofs.reader.read_below.Goals as goal
-
-pub returns-in_err-apps : goal.returns-in_err-apps
-returns-in_err-apps c = λ T below has free says entries.
-    let ms = table_view c.args.all.now in
-    let d = c.args.declared.now in
-    let apps_are = ap views c.as_slice-4.ensures.value ∙ c.in_ok-app_entries.ensures in
-    let p = err_from_is_err_and c.from_residual-in_err-apps.result c.from_residual-in_err-apps.ensures.1 in
-    rw (p.1, p.2) (app_fault c.one_table.ensures c.one_declaration.ensures ms T d has says below (views c.as_slice-4.result.now) apps_are
-    c.in_err-apps.field-0.0 (c.in_err-apps.ensures.read ms T (record {
-      table = has;
-      free = free;
-      policies = says;
-      distinct = names_distinct T (tenant_tables ms) (policy_tables ms) free;
-      entries = entries;
-      operators = ap views c.as_slice-2.ensures.value ∙ c.in_ok-operator_entries.ensures;
-      ends = c.as_slice-3.ensures.value ∙ c.in_ok-ends.ensures ∙ ap all_ends (ap views c.as_slice.ensures.value ∙ c.in_ok-link_entries.ensures);
-      loads = c.number.ensures ∙ ap (λ (r : TheRange). number_in r ms) c.loads.ensures;
-    })))
-
-pub returns-in_err-links : goal.returns-in_err-links
-returns-in_err-links c = λ T below has free says entries.
-    let ms = table_view c.args.all.now in
-    let d = c.args.declared.now in
-    let apps_are = ap views c.as_slice-4.ensures.value ∙ c.in_ok-app_entries.ensures in
-    let apps = c.in_ok-apps.ensures.read ms T (record {
-      table = has;
-      free = free;
-      policies = says;
-      distinct = names_distinct T (tenant_tables ms) (policy_tables ms) free;
-      entries = entries;
-      operators = ap views c.as_slice-2.ensures.value ∙ c.in_ok-operator_entries.ensures;
-      ends = c.as_slice-3.ensures.value ∙ c.in_ok-ends.ensures ∙ ap all_ends (ap views c.as_slice.ensures.value ∙ c.in_ok-link_entries.ensures);
-      loads = c.number.ensures ∙ ap (λ (r : TheRange). number_in r ms) c.loads.ensures;
-    }) in
-    let of_apps = subst (λ (es : List Members). AreFree (AppAgainst ms d.policies) es) apps_are apps.0 in
-    let joined = subst (λ (es : List Members). AreJoined ms d es c.in_ok-apps.apps) apps_are apps.1 in
-    let ports = subst (λ (ps : List Port). Each IsPortOf (app_tables ms) ps) (sym c.as_slice-5.ensures.value) joined.ports in
-    let links_are = ap views c.as_slice-6.ensures.value ∙ c.in_ok-link_entries.ensures in
-    let p = err_from_is_err_and c.from_residual-in_err-links.result c.from_residual-in_err-links.ensures.1 in
-    rw (p.1, p.2) (link_fault c.one_table.ensures c.one_declaration.ensures ms T d has says below of_apps (views c.as_slice-6.result.now) links_are
-    c.in_err-links.field-0.0 (c.in_err-links.ensures ms ports))
-
-pub returns-in_err-operators : goal.returns-in_err-operators
-returns-in_err-operators c = λ T below has free says entries.
-    let ms = table_view c.args.all.now in
-    let d = c.args.declared.now in
-    let apps_are = ap views c.as_slice-4.ensures.value ∙ c.in_ok-app_entries.ensures in
-    let apps = c.in_ok-apps.ensures.read ms T (record {
-      table = has;
-      free = free;
-      policies = says;
-      distinct = names_distinct T (tenant_tables ms) (policy_tables ms) free;
-      entries = entries;
-      operators = ap views c.as_slice-2.ensures.value ∙ c.in_ok-operator_entries.ensures;
-      ends = c.as_slice-3.ensures.value ∙ c.in_ok-ends.ensures ∙ ap all_ends (ap views c.as_slice.ensures.value ∙ c.in_ok-link_entries.ensures);
-      loads = c.number.ensures ∙ ap (λ (r : TheRange). number_in r ms) c.loads.ensures;
-    }) in
-    let of_apps = subst (λ (es : List Members). AreFree (AppAgainst ms d.policies) es) apps_are apps.0 in
-    let joined = subst (λ (es : List Members). AreJoined ms d es c.in_ok-apps.apps) apps_are apps.1 in
-    let ports = subst (λ (ps : List Port). Each IsPortOf (app_tables ms) ps) (sym c.as_slice-5.ensures.value) joined.ports in
-    let links_are = ap views c.as_slice-6.ensures.value ∙ c.in_ok-link_entries.ensures in
-    let links = c.in_ok-links.ensures ms ports in
-    let of_links = subst (λ (es : List Members). AreFree (LinkAgainst ms) es) links_are links.0 in
-    let operators_are = ap views c.as_slice-7.ensures.value ∙ c.in_ok-operator_entries.ensures in
-    let conns = conns_distinct ms d.policies (app_tables ms) of_apps in
-    let p = err_from_is_err_and c.from_residual-in_err-operators.result c.from_residual-in_err-operators.ensures.1 in
-    rw (p.1, p.2) (operator_fault c.one_table.ensures c.one_declaration.ensures ms T d has says below of_apps of_links
-    (views c.as_slice-7.result.now) operators_are c.in_err-operators.field-0.0 (c.in_err-operators.ensures ms T (record {
-      table = has;
-      free = free;
-      policies = says;
-      distinct = names_distinct T (tenant_tables ms) (policy_tables ms) free;
-      entries = entries;
-      operators = ap views c.as_slice-2.ensures.value ∙ c.in_ok-operator_entries.ensures;
-      ends = c.as_slice-3.ensures.value ∙ c.in_ok-ends.ensures ∙ ap all_ends (ap views c.as_slice.ensures.value ∙ c.in_ok-link_entries.ensures);
-      loads = c.number.ensures ∙ ap (λ (r : TheRange). number_in r ms) c.loads.ensures;
-    }) joined conns))
 
 pub returns : goal.returns
 returns c = λ T below has free says entries.
     let ms = table_view c.args.all.now in
-    let d = c.args.declared.now in
-    let apps_are = ap views c.as_slice-4.ensures.value ∙ c.in_ok-app_entries.ensures in
-    let apps = c.in_ok-apps.ensures.read ms T (record {
+    c.read_lists.ensures T below (record {
       table = has;
       free = free;
       policies = says;
@@ -105,29 +18,4 @@ returns c = λ T below has free says entries.
       operators = ap views c.as_slice-2.ensures.value ∙ c.in_ok-operator_entries.ensures;
       ends = c.as_slice-3.ensures.value ∙ c.in_ok-ends.ensures ∙ ap all_ends (ap views c.as_slice.ensures.value ∙ c.in_ok-link_entries.ensures);
       loads = c.number.ensures ∙ ap (λ (r : TheRange). number_in r ms) c.loads.ensures;
-    }) in
-    let of_apps = subst (λ (es : List Members). AreFree (AppAgainst ms d.policies) es) apps_are apps.0 in
-    let joined = subst (λ (es : List Members). AreJoined ms d es c.in_ok-apps.apps) apps_are apps.1 in
-    let ports = subst (λ (ps : List Port). Each IsPortOf (app_tables ms) ps) (sym c.as_slice-5.ensures.value) joined.ports in
-    let links_are = ap views c.as_slice-6.ensures.value ∙ c.in_ok-link_entries.ensures in
-    let links = c.in_ok-links.ensures ms ports in
-    let of_links = subst (λ (es : List Members). AreFree (LinkAgainst ms) es) links_are links.0 in
-    let operators_are = ap views c.as_slice-7.ensures.value ∙ c.in_ok-operator_entries.ensures in
-    let conns = conns_distinct ms d.policies (app_tables ms) of_apps in
-    let operators = c.in_ok-operators.ensures ms T (record {
-      table = has;
-      free = free;
-      policies = says;
-      distinct = names_distinct T (tenant_tables ms) (policy_tables ms) free;
-      entries = entries;
-      operators = ap views c.as_slice-2.ensures.value ∙ c.in_ok-operator_entries.ensures;
-      ends = c.as_slice-3.ensures.value ∙ c.in_ok-ends.ensures ∙ ap all_ends (ap views c.as_slice.ensures.value ∙ c.in_ok-link_entries.ensures);
-      loads = c.number.ensures ∙ ap (λ (r : TheRange). number_in r ms) c.loads.ensures;
-    }) joined conns in
-    let of_operators = subst (λ (es : List Members). AreFree (OperatorAgainst ms d.policies) es) operators_are operators.0 in
-    let same = c.same_names.ensures.names T (tenant_tables ms) (policy_tables ms) d says in
-    says_below c.one_table.ensures c.one_declaration.ensures ms T d has says below of_apps of_links of_operators same
-    (λ name. c.same_names.ensures.places d (policy_tables ms) name same) c.in_ok-apps.apps.ports.items c.in_ok-apps.apps.applications
-    c.in_ok-links.links c.in_ok-operators.operators joined.ports joined.applications
-    (subst (λ (es : List Members). Each LinkSays es c.in_ok-links.links) links_are links.1)
-    (subst (λ (es : List Members). Each (OperatorSays ms) es c.in_ok-operators.operators) operators_are operators.1)
+    }) (ap views c.as_slice-4.ensures.value ∙ c.in_ok-link_entries.ensures)

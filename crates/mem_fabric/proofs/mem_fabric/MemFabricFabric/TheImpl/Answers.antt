@@ -1,11 +1,11 @@
-use Rattle.std.proofs.Common.{ap, rules}
+use Rattle.std.proofs.Common.{ap}
 use Rattle.mem_fabric.proofs.mem_fabric.MemFabricFabric.TheImpl.Goals as goal
 
 pub open_pair-tells : goal.open_pair-tells
 open_pair-tells g link c = record {
   pair = c.ensures.pair;
   handed = c.ensures.handed;
-  given = search rules;
+  given = c.ensures.given;
   not_ended = c.ensures.not_ended;
   no_faults = c.ensures.no_faults;
   away = c.ensures.away;

@@ -1,0 +1,16 @@
+use Rattle.std.proofs.Common.{ap, refl, sym, subst, false, ◌∙◌}
+use Rattle.one_way_queue.specs.Pieces.{bytes_of}
+use Rattle.mem_fabric.specs.Pair.{frames_of, IsOutgoing}
+use Rattle.mem_fabric.proofs.pair_link.PairLink.new.Goals as goal
+
+pub invariant_of-result : goal.invariant_of-result
+invariant_of-result g c = (
+  subst (IsOutgoing false) (sym c.requires.put) refl,
+  (false, subst (IsOutgoing false) (sym (c.new.ensures.told ∙ c.requires.told)) refl),
+  λ e. absurd (cc (e)),
+  λ _. c.requires.free,
+)
+
+pub returns : goal.returns
+returns g c =
+    cc (ap frames_of c.requires.put, c.new.ensures.given, ap bytes_of (c.new.ensures.told ∙ c.requires.told), c.new.ensures.queue)

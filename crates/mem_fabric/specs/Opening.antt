@@ -1,0 +1,30 @@
+-- The code's own: an end as it is opened.
+use Rattle.std.specs.Prelude.{◌≡◌, ℕ, false, List, []}
+use Rattle.atomic_table.specs.Seated.{TableId}
+use Rattle.mem_fabric.specs.Fabric.{IsNewEnd}
+use Rattle.mem_fabric.specs.Pair.{PairEnd}
+use Rattle.mem_fabric.specs.declared.listed.EndCalls.{EndCalls}
+
+-- an end with these calls and queues that was handed and given nothing
+abbrev pub fresh_end : EndCalls → TableId → TableId → PairEnd
+fresh_end calls outward inward = record {
+  handed = [];
+  finished = false;
+  given = [];
+  ended = false;
+  told = [];
+  failing_sends = calls.sends.failing;
+  failing_receives = calls.receives.failing;
+  sends = calls.sends.calls;
+  receives = calls.receives.calls;
+  faults = calls.faults;
+  outward = outward;
+  inward = inward;
+}
+
+-- a new end whose sends and receives of these numbers are to fail
+pub record IsFresh (failing_sends failing_receives : List ℕ) (end : PairEnd) : Type 0 where
+  pub handed : end.handed ≡ []
+  pub ended : end.ended ≡ false
+  pub faults : end.faults ≡ 0
+  pub new : IsNewEnd failing_sends failing_receives end
