@@ -1,2 +1,3 @@
 mod Blanks
 mod Making
+mod Numbered

@@ -1,19 +1,23 @@
 -- What makes one frame after another.
-use Rattle.std.proofs.Common.{◌≡◌, ℕ, ◌+◌, ◌<◌, ◌≤◌, Bool, false, IsTrue, ◌↔◌, inl, inr, arith, List, [], ◌∷◌, ◌++◌, length, drop, codes, refl, sym, ap, subst, ◌∙◌, append_assoc, append-nil, Result, Ok, Err, IfOk, IfErr}
+use Rattle.std.proofs.Common.{◌≡◌, ℕ, ◌+◌, ◌<◌, ◌≤◌, Bool, false, IsTrue, ◌↔◌, inl, inr, arith, List, [], ◌∷◌, ◌++◌, length, drop, codes, refl, sym, ap, subst, ◌∙◌, append_assoc, append-nil, Result, Ok, Err, IfOk, IfErr, Option, Some, IfSome}
 use Rattle.std.proofs.lemmas.Bool.{false≢true}
 use Rattle.std.proofs.lemmas.Bool.Decides.{leb_tells}
+use Rattle.mrpc_table.specs.Node.{Node}
 use Rattle.mrpc_table.specs.declared.table.Table.{Table}
+use Rattle.graph_form.specs.declared.placed.Placed.{Placed}
 use Rattle.frame_transport.specs.Frames.{Splits}
 use Rattle.frame_transport.specs.Standing.{StandsAt}
 use Rattle.frame_transport.specs.declared.format.Frame.{Frame}
+use Rattle.frame_reading.specs.Contents.{IsMessageOf, message_in}
 use Rattle.frame_reading.specs.Faults.{OnFault}
 use Rattle.frame_reading.specs.Input.{Holds}
 use Rattle.frame_reading.specs.Walks.{Stands}
 use Rattle.frame_reading.specs.declared.fault.ReadFault.{ReadFault}
 use Rattle.frame_reading.specs.declared.fault.ReadFault.TheVariants.{At, Memory}
-use Rattle.script_view.specs.Scripts.{IsScriptOf, nothing_made, script_text}
+use Rattle.script_view.specs.Scripts.{FitsReplay, IsScriptOf, nothing_made, script_text}
 use Rattle.script_text.specs.declared.limits.TheConstants.{MAX_CONNECTIONS}
-use Rattle.script_view.specs.Unplayable.{Made, IsConn, IsUnplayable, too_large, hello_too_large}
+use Rattle.script_view.specs.Playing.{IsNumbered}
+use Rattle.script_view.specs.Unplayable.{Made, IsConn, IsLaidOut, IsMadeBy, IsUnplayable, last_of, too_large, hello_too_large}
 use Rattle.script_view.specs.Walks.{PlaysFrame, plays_hello, plays_call, PlaysFrames, Plays}
 use Rattle.script_view.specs.declared.limits.TheConstants.{MAX_BODY}
 
@@ -21,6 +25,10 @@ use Rattle.script_view.specs.declared.limits.TheConstants.{MAX_BODY}
 pub on_fault : (P Q : ℕ → List ℕ → Type 0) (fault : ReadFault) → ((place : ℕ) (word : List ℕ) → P place word → Q place word) → OnFault P fault → OnFault Q fault
 on_fault P Q (At place word) then h = then place word.now h
 on_fault P Q Memory then h = tt
+
+-- and where no memory was found, each does
+pub memory_alone : (P : ℕ → List ℕ → Type 0) (fault : ReadFault) → fault ≡ Memory → OnFault P fault
+memory_alone P fault is = subst (OnFault P) (sym is) tt
 
 plays-append : (T : Table) (a b c : Made) (fs gs : List Frame) (x y : List ℕ) → PlaysFrames T a fs x b → PlaysFrames T b gs y c → PlaysFrames T a (fs ++ gs) (x ++ y) c
 plays-append T a b c [] gs x y p q =
@@ -69,7 +77,7 @@ if_fault P Q (Err fault) then h = on_fault P Q fault then h
 
 -- what plays a whole stream, is the script of the input
 pub script_whole : {E : Type 0} → WalkLaw → (text : List ℕ) (T : Table) (stream : List ℕ) (r : Result (List ℕ) E) → Holds text T stream
-    → IfOk r (λ script. (to : ℕ) × (body : List ℕ) × (made : Made) × (length stream ≤ to) × Plays T stream 0 to nothing_made body made × (script ≡ script_text T made.loads body))
+    → IfOk r (λ script. (to : ℕ) × (body : List ℕ) × (made : Made) × (length stream ≤ to) × Plays T stream 0 to nothing_made body made × FitsReplay body made × (script ≡ script_text T made.loads body))
     → IfOk r (IsScriptOf text)
 script_whole law text T stream (Ok script) holds h = record {
   table = T;
@@ -80,7 +88,8 @@ script_whole law text T stream (Ok script) holds h = record {
   body = h.1;
   made = h.2;
   plays = h.4.plays;
-  whole = h.5;
+  fits = h.5;
+  whole = h.6;
 }
 script_whole law text T stream (Err e) holds h = tt
 
@@ -98,3 +107,15 @@ made_of counts calls loads = record { counts = counts; calls = calls; loads = lo
 
 pub made_is : {counts counts' : List ℕ} {calls calls' loads loads' : ℕ} → counts ≡ counts' → calls ≡ calls' → loads ≡ loads' → made_of counts calls loads ≡ made_of counts' calls' loads'
 made_is p q r = λ i. made_of (p i) (q i) (r i)
+
+-- what makes a request or a reply, by what was found of it
+pub is_made : (T : Table) (before : Made) (f : Frame) (tree : Node) (message last blanks : ℕ) (found : Option ℕ) (placed : Placed) → IsMessageOf T f tree → IsConn f.conn
+    → last ≡ last_of before f → found ≡ Some blanks → IfSome found (λ b. IsNumbered f last b) → message ≡ message_in T f → IsLaidOut T message tree placed
+    → IsMadeBy T before f blanks placed
+is_made T before f tree message last blanks found placed of_frame conn is_last is numbered is_message laid_out = record {
+  tree = tree;
+  message = of_frame;
+  conn = conn;
+  numbered = subst (λ (l : ℕ). IsNumbered f l blanks) is_last (subst (λ (o : Option ℕ). IfSome o (λ b. IsNumbered f last b)) is numbered);
+  laid_out = subst (λ (m : ℕ). IsLaidOut T m tree placed) is_message laid_out;
+}

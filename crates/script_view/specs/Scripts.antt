@@ -1,13 +1,15 @@
 -- The script of an input of `decode`.
-use Rattle.std.specs.Prelude.{◌≡◌, ℕ, List, [], ◌∷◌, ◌++◌, codes, replicate}
+use Rattle.std.specs.Prelude.{◌≡◌, ℕ, ◌*◌, ◌≤◌, List, [], ◌∷◌, ◌++◌, codes, length, replicate}
 use Rattle.std.specs.Fmt.{decimal}
 use Rattle.mrpc_table.specs.Text.{line, table_text}
 use Rattle.mrpc_table.specs.declared.table.Table.{Table}
 use Rattle.frame_transport.specs.Frames.{Splits}
 use Rattle.frame_transport.specs.declared.format.Frame.{Frame}
 use Rattle.frame_reading.specs.Input.{Holds, IsTextFault}
+use Rattle.script_text.specs.declared.limits.TheConstants.{MAX_WORK}
 use Rattle.script_view.specs.Unplayable.{Made}
 use Rattle.script_view.specs.Walks.{PlaysFrames, StopsAt}
+use Rattle.script_view.specs.declared.limits.TheConstants.{MAX_BODY}
 
 -- a script: its first line, the loads that a call may take, the table, the lines of the frames, and the last line
 abbrev pub script_text : Table → ℕ → List ℕ → List ℕ
@@ -19,7 +21,12 @@ script_text T loads body =
 abbrev pub nothing_made : Made
 nothing_made = record { counts = replicate 17 0; calls = 0; loads = 1 }
 
--- the script of an input makes all its frames, in order
+-- a replay reads the lines of so many bytes, and so many calls, if each may take so many loads
+pub record FitsReplay (body : List ℕ) (made : Made) : Type 0 where
+  pub short : length body ≤ MAX_BODY
+  pub few : made.calls * made.loads ≤ MAX_WORK
+
+-- the script of an input makes all its frames, in order, within the limits of a replay
 pub record IsScriptOf (text script : List ℕ) : Type 0 where
   pub table : Table
   pub stream : List ℕ
@@ -29,6 +36,7 @@ pub record IsScriptOf (text script : List ℕ) : Type 0 where
   pub body : List ℕ
   pub made : Made
   pub plays : PlaysFrames table nothing_made frames body made
+  pub fits : FitsReplay body made
   pub whole : script ≡ script_text table made.loads body
 
 -- an input has no script: its text is at fault, or its frames are, or a frame can't be sent by a replay

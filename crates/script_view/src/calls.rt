@@ -15,6 +15,7 @@ pub(crate) struct Calls {
     /// The most loads that one of them takes, at least 1.
     pub loads: u64,
     ghost few: { total ≤ MAX_WORK },
+    ghost work: { total * loads ≤ MAX_WORK },
     ghost within: { (k : ℕ) → slice_index counts k ≤ total },
     ghost some: { 1 ≤ loads },
 }

@@ -1,9 +1,11 @@
 //! The lines of scripts.
 
-ghost use Rattle.std.specs.Prelude.{◌≡◌, ◌++◌, OnOk};
+ghost use Rattle.std.specs.Prelude.{◌≡◌, ◌∷◌, ◌++◌, OnOk, map};
+ghost use Rattle.std.specs.Fmt.{decimal};
 ghost use Rattle.std.specs.List.{flat_map};
+ghost use Rattle.mrpc_table.specs.Text.{line};
 ghost use Rattle.frame_transport.specs.Standing.{frame_of};
-ghost use Rattle.script_view.specs.Playing.{blank_line, blank_lines, conn_line, hello_line, reply_line, request_line, send_line, store_line, store_lines, submit_line};
+ghost use Rattle.script_view.specs.Playing.{blank_line, blank_lines, conn_line, hello_line, send_line, store_lines, submit_line};
 
 use crate::limits::{FIRST_PLACE, MAX_REPLAY_WORDS};
 use frame_transport::{FrameRef, REQUEST};
@@ -16,14 +18,32 @@ pub(crate) fn put_hello(out: &mut Bytes) -> Result<(), Memory>
     out.append(b"# a hello, which isn't replayed\n")
 }
 
+/// Appends a line of a word and numbers.
+pub(crate) fn put_line(out: &mut Bytes, word: &[u8], numbers: &[u64]) -> Result<(), Memory>
+    ensures { OnOk result (out.new ≡ out.old ++ line (word.now ∷ map decimal numbers.now)) }
+{
+    out.append(word)?;
+    for number in numbers {
+        out.append_word(*number)?;
+    }
+    out.append(b"\n")
+}
+
+/// Appends parts, one behind another.
+pub(crate) fn put_parts(out: &mut Bytes, parts: &[&[u8]]) -> Result<(), Memory>
+    ensures { OnOk result (out.new ≡ out.old ++ flat_map (λ part. part.now) parts.now) }
+{
+    for part in parts {
+        out.append(part)?;
+    }
+    Ok(())
+}
+
 /// Appends the line that opens a connection.
 pub(crate) fn put_conn(out: &mut Bytes, conn: u32) -> Result<(), Memory>
     ensures { OnOk result (out.new ≡ out.old ++ conn_line conn) }
 {
-    out.append(b"conn")?;
-    out.append_word(u64::from(conn))?;
-    out.append_word(MAX_REPLAY_WORDS)?;
-    out.append(b"\n")
+    put_line(out, b"conn", &[u64::from(conn), MAX_REPLAY_WORDS])
 }
 
 /// Appends so many submissions without a message.
@@ -39,9 +59,7 @@ pub(crate) fn put_blanks(out: &mut Bytes, conn: u32, count: u64) -> Result<(), M
 fn put_blank(out: &mut Bytes, conn: u32) -> Result<(), Memory>
     ensures { OnOk result (out.new ≡ out.old ++ blank_line conn) }
 {
-    out.append(b"submit")?;
-    out.append_word(u64::from(conn))?;
-    out.append(b" 0 0\n")
+    put_line(out, b"submit", &[u64::from(conn), 0, 0])
 }
 
 /// Appends the lines that store words, in order.
@@ -49,58 +67,31 @@ pub(crate) fn put_stores(out: &mut Bytes, conn: u32, words: &[(u64, u64)]) -> Re
     ensures { OnOk result (out.new ≡ out.old ++ store_lines conn words.now) }
 {
     for word in words {
-        put_store(out, conn, word)?;
+        put_line(out, b"store", &[u64::from(conn), word.0, word.1])?;
     }
     Ok(())
-}
-
-fn put_store(out: &mut Bytes, conn: u32, word: &(u64, u64)) -> Result<(), Memory>
-    ensures { OnOk result (out.new ≡ out.old ++ store_line conn word.now) }
-{
-    out.append(b"store")?;
-    out.append_word(u64::from(conn))?;
-    out.append_word(word.0)?;
-    out.append_word(word.1)?;
-    out.append(b"\n")
 }
 
 /// Appends the submission of a frame's message.
 pub(crate) fn put_submit(out: &mut Bytes, frame: &FrameRef) -> Result<(), Memory>
     ensures { OnOk result (out.new ≡ out.old ++ submit_line (frame_of frame.now)) }
 {
+    let conn = u64::from(frame.conn);
+    let method = u64::from(frame.method);
     if frame.kind == REQUEST {
-        put_request(out, frame.conn, frame.method)
+        put_line(out, b"submit", &[conn, method, FIRST_PLACE])
     } else {
-        put_reply(out, frame.conn, frame.method, frame.number)
+        put_line(
+            out,
+            b"submit",
+            &[conn, method, FIRST_PLACE, u64::from(frame.number)],
+        )
     }
-}
-
-fn put_request(out: &mut Bytes, conn: u32, method: u16) -> Result<(), Memory>
-    ensures { OnOk result (out.new ≡ out.old ++ request_line conn method) }
-{
-    out.append(b"submit")?;
-    out.append_word(u64::from(conn))?;
-    out.append_word(u64::from(method))?;
-    out.append_word(FIRST_PLACE)?;
-    out.append(b"\n")
-}
-
-fn put_reply(out: &mut Bytes, conn: u32, method: u16, number: u32) -> Result<(), Memory>
-    ensures { OnOk result (out.new ≡ out.old ++ reply_line conn method number) }
-{
-    out.append(b"submit")?;
-    out.append_word(u64::from(conn))?;
-    out.append_word(u64::from(method))?;
-    out.append_word(FIRST_PLACE)?;
-    out.append_word(u64::from(number))?;
-    out.append(b"\n")
 }
 
 /// Appends the line that sends what was submitted.
 pub(crate) fn put_send(out: &mut Bytes, conn: u32) -> Result<(), Memory>
     ensures { OnOk result (out.new ≡ out.old ++ send_line conn) }
 {
-    out.append(b"send")?;
-    out.append_word(u64::from(conn))?;
-    out.append(b"\n")
+    put_line(out, b"send", &[u64::from(conn)])
 }

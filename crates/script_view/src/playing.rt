@@ -6,7 +6,10 @@ ghost use Rattle.frame_transport.specs.Standing.{frame_of};
 ghost use Rattle.frame_reading.specs.Contents.{IsContentOf, IsMessageOf, message_in};
 ghost use Rattle.frame_reading.specs.Faults.{OnFault};
 ghost use Rattle.script_view.specs.Playing.{IsNumbered, call_lines, conn_line};
-ghost use Rattle.script_view.specs.Unplayable.{IsLaidOut, IsUnplayable, Made};
+ghost use Rattle.mrpc_table.specs.declared.table.Table.{Table};
+ghost use Rattle.script_text.specs.declared.limits.TheConstants.{MAX_CONNECTIONS};
+ghost use Rattle.script_view.specs.Unplayable.{IsLaidOut, IsMadeBy, IsUnplayable, Made, last_of};
+ghost use Rattle.script_view.specs.declared.limits.TheConstants.{MAX_BODY};
 ghost use Rattle.script_view.specs.Walks.{Plays, PlaysFrame, StopsAt, StopsHere, made_by};
 
 use crate::calls::{Calls, is_conn};
@@ -30,6 +33,7 @@ pub(crate) fn put_stream(
     alloc: Global,
     table: &Table,
     stream: &[u8],
+    spare: &mut Spare,
     calls: &mut Calls,
     body: &mut Bytes,
 ) -> Result<(), ReadFault>
@@ -38,13 +42,13 @@ pub(crate) fn put_stream(
     requires empty { body.old ≡ [] }
     ensures made { OnOk result ((to : ℕ) × (text : List ℕ) × (length stream.now ≤ to) × (body.new ≡ body.old ++ text)
         × Plays table.now stream.now 0 to (made_by calls.old) text (made_by calls.new)) }
+    ensures short { OnOk result (length body.new ≤ MAX_BODY) }
     ensures fault { IfErr result (OnFault (StopsAt table.now stream.now (made_by calls.old))) }
 {
     frames_follow();
-    let mut spare = Spare::new(alloc);
     let mut place = 0;
     while place < stream.len() {
-        place = put_frame(alloc, table, stream, place, &mut spare, calls, body)?;
+        place = put_frame(alloc, table, stream, place, spare, calls, body)?;
     }
     Ok(())
 }
@@ -64,6 +68,7 @@ fn put_frame(
     requires some { from < length stream.now }
     ensures made { IfOk result (λ to. (text : List ℕ) × (body.new ≡ body.old ++ text)
         × Plays table.now stream.now from to (made_by calls.old) text (made_by calls.new)) }
+    ensures short { OnOk result (length body.new ≤ MAX_BODY) }
     ensures further { IfOk result (λ to. from < to) }
     ensures fault { IfErr result (OnFault (StopsHere table.now stream.now from (made_by calls.old) (length body.old))) }
 {
@@ -101,9 +106,9 @@ fn put_content(
             Ok(())
         }
         Content::Call { message, tree } => {
-            put_call(alloc, table, frame, message, &tree, calls, body)?;
+            let put = put_call(alloc, table, frame, message, &tree, calls, body);
             spare.take_back(tree);
-            Ok(())
+            put
         }
     }
 }
@@ -135,10 +140,34 @@ fn put_call(
         return Err(unplayable(frame, NUMBER_PLACE, "Number"));
     };
     let placed = laid_out(alloc, table, frame, message, tree)?;
+    put_placed(frame, last, blanks, &placed, calls, body)
+}
+
+// The same, where the words of its message are known, the number that its connection has had last, and how many calls
+// without a message go before.
+fn put_placed(
+    frame: &FrameRef,
+    last: u64,
+    blanks: u64,
+    placed: &Placed,
+    calls: &mut Calls,
+    body: &mut Bytes,
+) -> Result<(), ReadFault>
+    requires near { frame.now.place < 2 ^ 63 }
+    requires conn { frame.now.conn ≤ MAX_CONNECTIONS }
+    requires blanks { blanks < 2 ^ 32 }
+    requires last { last ≡ last_of (made_by calls.old) (frame_of frame.now) }
+    ensures made { (T : Table) → IsMadeBy T (made_by calls.old) (frame_of frame.now) blanks placed.now
+        → OnOk result ((text : List ℕ) × (body.new ≡ body.old ++ text)
+        × PlaysFrame T (made_by calls.old) (frame_of frame.now) text (made_by calls.new)) }
+    ensures fault { (T : Table) → IsMadeBy T (made_by calls.old) (frame_of frame.now) blanks placed.now
+        → IfErr result (OnFault (λ place word. (size : ℕ) → IsUnplayable T (made_by calls.old) size
+        (frame_of frame.now) place word)) }
+{
     if !calls.take(frame.conn, blanks, placed.words.len() as u64) {
         return Err(unplayable(frame, 0, "Work"));
     }
-    put_lines(body, frame, last, blanks, &placed)?;
+    put_lines(body, frame, last, blanks, placed)?;
     Ok(())
 }
 

@@ -107,8 +107,7 @@ fn put_row(picture: &mut Picture, top: u64, row: &Row<'_>) -> Result<(), Memory>
     put_head(picture, top, row.conn)?;
     put_marks(picture, y_of(row.bars.len() as u64), &row.marks)?;
     put_bars(picture, &row.bars)?;
-    put_foot(picture)?;
-    Ok(())
+    put_foot(picture)
 }
 
 #[tactic(auto, unfolding(crate::specs::Drawing::head_text))]

@@ -92,8 +92,7 @@ pub(crate) fn put_bar(picture: &mut Picture, lane: u64, bar: &Bar<'_>) -> Result
     ensures { OnOk result (picture.new ≡ picture.old ++ bar_text lane (bar_view bar.now)) }
 {
     put_rect(picture, lane, bar)?;
-    put_cause(picture, x_of(bar.end.to), y_of(lane), &bar.end.fate)?;
-    Ok(())
+    put_cause(picture, x_of(bar.end.to), y_of(lane), &bar.end.fate)
 }
 
 #[tactic(auto, unfolding(crate::specs::Drawing::rect_text))]

@@ -1,2 +1,3 @@
 mod KnownBytes
+mod OneView
 mod Stops

@@ -1,6 +1,6 @@
 //! The line of a fault, and what is said of it.
 
-ghost use Rattle.std.specs.Prelude.{◌≡◌, ◌⊎◌, IfOk};
+ghost use Rattle.std.specs.Prelude.{◌≡◌, ◌≢◌, ◌⊎◌, IfOk};
 ghost use Rattle.std.specs.Io.KnownBytes.{Appends};
 ghost use Rattle.mrpc_base.specs.Faults.{HasCause};
 ghost use Rattle.view_top.specs.FaultLines.{fault_line};
@@ -27,6 +27,7 @@ pub(crate) fn refuse<K: Sink, E: Sink>(
     ensures written { result ≡ FAULTY_INPUT
         → Appends (K.written out.old) (K.written out.new) (fault_line place word.now) }
     ensures cause { HasCause (result ≡ OUTPUT_FAILED) (K.faults out.old) (K.faults out.new) }
+    ensures quiet { result ≢ FAULTY_INPUT → error.new ≡ error.old }
 {
     match fault_text(alloc, place, word) {
         Ok(line) => {

@@ -45,15 +45,39 @@ pub fn run_view<S: Source, K: Sink, E: Sink>(
     ensures input_cause { HasCause (result ≡ INPUT_FAILED) (S.faults input.old) (S.faults input.new) }
     ensures out_cause { HasCause (result ≡ OUTPUT_FAILED) (K.faults out.old) (K.faults out.new) }
     ensures unread { result ≡ INPUT_FAILED → out.new ≡ out.old }
+
+    // Only of a faulty input more is said.
+    ensures quiet { result ≢ FAULTY_INPUT → error.new ≡ error.old }
 {
     match view_of(words) {
-        Some(view) => match read_input(alloc, input) {
-            Input::Whole(text) => show_text(alloc, view, &text, out, error),
-            Input::TooLong => refuse(alloc, &[], INPUT_LIMIT as u64, b"Input", out, error),
-            Input::Failed => INPUT_FAILED,
-            Input::Memory => NO_MEMORY,
-        },
+        Some(view) => show_input(alloc, view, input, out, error),
         None => NO_COMMAND,
+    }
+}
+
+// Shows an input, or says its first fault.
+fn show_input<S: Source, K: Sink, E: Sink>(
+    alloc: Global,
+    view: View,
+    input: &mut S,
+    out: &mut K,
+    error: &mut E,
+) -> u8
+    ensures statuses { result ≤ OUTPUT_FAILED }
+    ensures some { result ≢ NO_COMMAND }
+    ensures done { result ≡ DONE → IsShown view (S.left input.old) (K.written out.old) (K.written out.new) }
+    ensures faulty { result ≡ FAULTY_INPUT
+        → IsRefused view (S.left input.old) (S.left input.new) (K.written out.old) (K.written out.new) }
+    ensures input_cause { HasCause (result ≡ INPUT_FAILED) (S.faults input.old) (S.faults input.new) }
+    ensures out_cause { HasCause (result ≡ OUTPUT_FAILED) (K.faults out.old) (K.faults out.new) }
+    ensures unread { result ≡ INPUT_FAILED → out.new ≡ out.old }
+    ensures quiet { result ≢ FAULTY_INPUT → error.new ≡ error.old }
+{
+    match read_input(alloc, input) {
+        Input::Whole(text) => show_text(alloc, view, &text, out, error),
+        Input::TooLong => refuse(alloc, &[], INPUT_LIMIT as u64, b"Input", out, error),
+        Input::Failed => INPUT_FAILED,
+        Input::Memory => NO_MEMORY,
     }
 }
 
@@ -105,6 +129,7 @@ fn show_text<K: Sink, E: Sink>(
     ensures done { result ≡ DONE → Shows view text.now (K.written out.old) (K.written out.new) }
     ensures faulty { result ≡ FAULTY_INPUT → Refuses view text.now (K.written out.old) (K.written out.new) }
     ensures out_cause { HasCause (result ≡ OUTPUT_FAILED) (K.faults out.old) (K.faults out.new) }
+    ensures quiet { result ≢ FAULTY_INPUT → error.new ≡ error.old }
 {
     match show(alloc, view, text, out) {
         Ok(()) => DONE,

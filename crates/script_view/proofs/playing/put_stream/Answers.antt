@@ -8,13 +8,16 @@ pub loop-place-init : goal.loop-place-init
 loop-place-init c =
     let law : WalkLaw = record { none = c.frames_follow.ensures.none; one = c.frames_follow.ensures.one; more = c.frames_follow.ensures.more; all = c.frames_follow.ensures.all } in
     let made = made_by c.args.calls.now in
-    subst (λ (b : List ℕ). Plays c.args.table.now c.args.stream.now 0 0 made b made) (sym c.requires.empty) (plays_nothing law c.args.table.now c.args.stream.now 0 made)
+    record {
+      plays = subst (λ (b : List ℕ). Plays c.args.table.now c.args.stream.now 0 0 made b made) (sym c.requires.empty) (plays_nothing law c.args.table.now c.args.stream.now 0 made);
+      short = omega (arith, ap length c.requires.empty);
+    }
 
 pub loop-place-preserved : goal.loop-place-preserved
 loop-place-preserved c =
     let law : WalkLaw = record { none = c.frames_follow.ensures.none; one = c.frames_follow.ensures.one; more = c.frames_follow.ensures.more; all = c.frames_follow.ensures.all } in
     let step = c.in_ok-place.ensures.made in
-    plays_on law _ _ _ _ _ _ _ _ _ _ _ c.loop-place.invariant step.2 step.1
+    record { plays = plays_on law _ _ _ _ _ _ _ _ _ _ _ c.loop-place.invariant.plays step.2 step.1; short = c.in_ok-place.ensures.short }
 
 pub returns-in_err-place-clause-fault : goal.returns-in_err-place-clause-fault
 returns-in_err-place-clause-fault c =
@@ -22,10 +25,10 @@ returns-in_err-place-clause-fault c =
     let stream = c.args.stream.now in
     let made = made_by c.loop-place.calls in
     let stops : (place : ℕ) (word : List ℕ) → StopsHere T stream c.loop-place.place made (length c.loop-place.body) place word → StopsAt T stream (made_by c.args.calls.now) place word =
-    λ place word here. record { to = c.loop-place.place; text = c.loop-place.body; after = made; plays = c.loop-place.invariant; here = here } in
+    λ place word here. record { to = c.loop-place.place; text = c.loop-place.body; after = made; plays = c.loop-place.invariant.plays; here = here } in
     let same = err_from_is_err_and c.from_residual.result c.from_residual.ensures.1 in
     rw (same.1, same.2) (on_fault _ _ _ stops c.in_err-place.ensures.fault)
 
 pub returns-clause-made : goal.returns-clause-made
 returns-clause-made c =
-    (c.loop-place.place, c.loop-place.body, omega arith, sym (ap (λ (b : List ℕ). b ++ c.loop-place.body) c.requires.empty), c.loop-place.invariant)
+    (c.loop-place.place, c.loop-place.body, omega arith, sym (ap (λ (b : List ℕ). b ++ c.loop-place.body) c.requires.empty), c.loop-place.invariant.plays)

@@ -1,21 +1,37 @@
-use Rattle.std.proofs.Common.{◌≡◌, ℕ, ◌++◌, List, ap, subst, ◌∙◌}
+use Rattle.std.proofs.Common.{◌≡◌, ℕ, ◌≤◌, ◌++◌, List, length, ap, subst, ◌∙◌}
+use Rattle.std.proofs.lemmas.Result.{IfErr-weaker, IfOk-weaker}
+use Rattle.frame_reading.specs.Faults.{OnFault}
 use Rattle.script_view.specs.Scripts.{nothing_made, script_text}
 use Rattle.script_view.specs.Unplayable.{Made}
-use Rattle.script_view.specs.Walks.{Plays, made_by}
-use Rattle.script_view.proofs.Making.{made_is}
+use Rattle.script_view.specs.Walks.{Plays, StopsAt, made_by}
+use Rattle.script_view.specs.declared.limits.TheConstants.{MAX_BODY}
+use Rattle.script_view.proofs.Making.{made_is, memory_alone}
 use Rattle.script_view.proofs.script.script_of_stream.Goals as goal
 
-pub returns-clause-script : goal.returns-clause-script
-returns-clause-script c =
+pub returns-in-Ok-clause-script : goal.returns-in-Ok-clause-script
+returns-in-Ok-clause-script c =
     let T = c.args.table.now in
     let stream = c.args.stream.now in
-    let made = c.in_ok-put_stream.ensures.made in
+    let made = c.in-Ok.ensures.made in
     let after = made_by c.put_stream.new.calls in
-    let none : made_by c.new-calls.result ≡ nothing_made = made_is c.new-calls.ensures.counts c.new-calls.ensures.total c.new-calls.ensures.loads in (
+    let none : made_by c.new-calls.result ≡ nothing_made = made_is c.new-calls.ensures.counts c.new-calls.ensures.total c.new-calls.ensures.loads in
+    let body : c.put_stream.new.body ≡ made.1 = made.3 ∙ ap (λ (b : List ℕ). b ++ made.1) c.new-body.ensures in
+    IfOk-weaker c.whole_script.result _ _
+    (λ script is. (
       made.0,
       made.1,
       after,
       made.2,
       subst (λ (m : Made). Plays T stream 0 made.0 m made.1 after) none made.4,
-      c.in_ok-script.ensures ∙ ap (script_text T after.loads) (c.as_slice.ensures ∙ made.3 ∙ ap (λ (b : List ℕ). b ++ made.1) c.new-body.ensures),
-    )
+      record { short = subst (λ (b : List ℕ). length b ≤ MAX_BODY) body c.in-Ok.ensures.short; few = c.put_stream.new.calls.work },
+      is ∙ ap (script_text T after.loads) (c.as_slice.ensures ∙ body),
+    )) c.whole_script.ensures.script
+
+pub returns-in-Ok-clause-fault : goal.returns-in-Ok-clause-fault
+returns-in-Ok-clause-fault c =
+    IfErr-weaker c.whole_script.result _ _ (λ fault is. memory_alone (StopsAt c.args.table.now c.args.stream.now nothing_made) fault is) c.whole_script.ensures.fault
+
+pub returns-clause-fault : goal.returns-clause-fault
+returns-clause-fault c =
+    let none : made_by c.new-calls.result ≡ nothing_made = made_is c.new-calls.ensures.counts c.new-calls.ensures.total c.new-calls.ensures.loads in
+    subst (λ (m : Made). OnFault (StopsAt c.args.table.now c.args.stream.now m) c.in-Err.fault) none c.in-Err.ensures.fault
