@@ -1,0 +1,7 @@
+mod Allowed
+mod Lists
+mod Numbers
+mod Scripts
+mod Sending
+mod Settled
+mod Steady
