@@ -3,7 +3,7 @@ use Rattle.std.proofs.Common.{ℕ, List, Option}
 use Rattle.mrpc_table.specs.declared.table.Table.{Table}
 use Rattle.frame_transport.specs.declared.format.Frame.{Frame}
 use Rattle.std.specs.Prelude.{drop}
-use Rattle.mrpc_top.specs.Decoding.{AreLinesOf, IsCutAt}
+use Rattle.text_commands.specs.Decoding.{AreLinesOf, IsCutAt}
 use Rattle.frame_reading.specs.Faults.{IsFaultHere}
 use Rattle.frame_reading.specs.Walks.{Stands}
 use Rattle.frame_view.specs.Written.{CutsView, ViewsText, in_text, in_stream}

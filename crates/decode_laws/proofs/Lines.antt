@@ -4,7 +4,7 @@ use Rattle.mrpc_table.specs.Node.{Node}
 use Rattle.mrpc_table.specs.declared.table.Table.{Table}
 use Rattle.wire_base.specs.Encoding.{encoding}
 use Rattle.frame_transport.specs.declared.format.Frame.{Frame}
-use Rattle.mrpc_top.specs.Decoding.{hello_line, call_line, IsLineOf, line_of_hello, line_of_call, AreLinesOf}
+use Rattle.text_commands.specs.Decoding.{hello_line, call_line, IsLineOf, line_of_hello, line_of_call, AreLinesOf}
 use Rattle.frame_reading.specs.Contents.{IsContentOf, IsMessageOf, message_in}
 use Rattle.frame_reading.specs.declared.content.Content.{Content}
 use Rattle.frame_reading.specs.declared.content.Content.TheVariants.{Hello, Call}

@@ -1,8 +1,8 @@
 -- A text has one first fault for `decode`, or none.
 use Rattle.std.proofs.Common.{◌≡◌, ℕ, List, sym, subst}
 use Rattle.mrpc_table.specs.declared.table.Table.{Table}
-use Rattle.mrpc_top.specs.Decoding.{IsCutAt, IsDecoded}
-use Rattle.mrpc_top.specs.DecodeInput.{Holds, IsTextFault}
+use Rattle.text_commands.specs.Decoding.{IsCutAt, IsDecoded}
+use Rattle.text_commands.specs.DecodeInput.{Holds, IsTextFault}
 use Rattle.decode_laws.specs.Decodings.{IsDecodable, IsDecodeFault, fault_of_text, fault_of_stream}
 
 -- what holds of decodings

@@ -1,8 +1,8 @@
 -- How `decode` ends with a text.
 use Rattle.std.specs.Prelude.{ℕ, List}
 use Rattle.mrpc_table.specs.declared.table.Table.{Table}
-use Rattle.mrpc_top.specs.Decoding.{IsCutAt, IsDecoded}
-use Rattle.mrpc_top.specs.DecodeInput.{Holds, IsTextFault}
+use Rattle.text_commands.specs.Decoding.{IsCutAt, IsDecoded}
+use Rattle.text_commands.specs.DecodeInput.{Holds, IsTextFault}
 
 -- the text has this first fault: on a line of its own, or at a byte of the stream behind it
 pub data IsDecodeFault (text : List ℕ) (place : ℕ) (word : List ℕ) : Type 0 where

@@ -3,8 +3,8 @@
 ghost use Rattle.std.specs.Prelude.{◌≡◌, ◌↔◌, ℕ, List, Option, drop};
 ghost use Rattle.mrpc_table.specs.declared.table.Table.{Table};
 ghost use Rattle.frame_transport.specs.declared.format.Frame.{Frame};
-ghost use Rattle.mrpc_top.specs.Decoding.{AreLinesOf, IsCutAt, IsLineOf};
-ghost use Rattle.mrpc_top.specs.DecodeInput.{Holds as DecodeHolds, IsTextFault as IsDecodeTextFault};
+ghost use Rattle.text_commands.specs.Decoding.{AreLinesOf, IsCutAt, IsLineOf};
+ghost use Rattle.text_commands.specs.DecodeInput.{Holds as DecodeHolds, IsTextFault as IsDecodeTextFault};
 ghost use Rattle.frame_reading.specs.Contents.{IsContentOf};
 ghost use Rattle.frame_reading.specs.Faults.{IsFaultHere};
 ghost use Rattle.frame_reading.specs.Input.{Holds, IsTextFault};
@@ -14,7 +14,7 @@ ghost use Rattle.frame_view.specs.Written.{CutsView, ViewsText};
 ghost use Rattle.decode_laws.specs.Decodings.{IsDecodable, IsDecodeFault};
 
 use frame_transport::frames_join;
-use mrpc_top::one_decoding;
+use text_commands::one_decoding;
 
 /// What is read of an input is what `decode` reads: the same table and stream or the same fault of the text, for each
 /// frame that has contents a line, and behind frames with lines a fault at which `decode` ends.

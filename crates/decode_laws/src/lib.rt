@@ -1,7 +1,7 @@
 //! What is shown of an input ends where `decode` of it ends.
 //!
 //! `frame_reading` reads the input of `decode` for those who show it in another way, and `frame_view` shows its
-//! frames in words. The functions here do nothing; their clauses are laws of these crates and of `mrpc_top`: what is
+//! frames in words. The functions here do nothing; their clauses are laws of these crates and of `text_commands`: what is
 //! read is what `decode` reads ([`what_is_read_is_that_of_decode`]), and a view of frames is cut exactly by the first
 //! fault of `decode` ([`views_end_as_decode_does`]). No layer stands above.
 #![tactic(auto)]

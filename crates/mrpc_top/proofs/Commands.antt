@@ -1,15 +1,19 @@
 -- A command does no work on a faulty text.
 use Rattle.std.proofs.Common.{◌≡◌, ℕ, List, Option, sym, subst}
+use Rattle.mrpc_table.specs.declared.table.Table.{Table}
 use Rattle.script_words.specs.declared.fault.ScriptReason.{ScriptReason}
 use Rattle.script_text.specs.declared.script.Script.{Script}
 use Rattle.script_text.specs.Texts.{Spells, IsFault}
-use Rattle.mrpc_top.specs.Auditing.{AuditsText, HasAuditFault}
-use Rattle.mrpc_top.specs.Command.{IsFaulty, Refuses, DecodesText, ChecksText, CutsText}
+use Rattle.text_commands.specs.Auditing.{AuditsText, HasAuditFault, IsAnswer, IsAuditFault}
+use Rattle.text_commands.specs.Checking.{ChecksAs, ChecksText, IsCheckFault}
+use Rattle.text_commands.specs.DecodeInput.{Holds, IsTextFault}
+use Rattle.text_commands.specs.Decoded.{CutsText, DecodesText, HasDecodeFault}
+use Rattle.text_commands.specs.Decoded.HasDecodeFault.{fault_in_text, fault_in_stream}
+use Rattle.text_commands.specs.Decoding.{IsCutAt, IsDecoded}
+use Rattle.text_commands.specs.declared.check.Spot.{Spot}
+use Rattle.mrpc_top.specs.Command.{IsFaulty, Refuses}
 use Rattle.mrpc_top.specs.declared.command.Command.{Command}
 use Rattle.mrpc_top.specs.declared.command.Command.TheVariants.{Replay, Decode, Check, Audit}
-use Rattle.mrpc_top.proofs.DecodeAnswers.{DecodingLaw, no_fault_of}
-use Rattle.mrpc_top.proofs.OneAudit.{NeverFaulty}
-use Rattle.mrpc_top.proofs.OneCheck.{NotBoth}
 
 pub cuts : (command : Command) (text : List ℕ) (o o' : Option (List ℕ)) → command ≡ Decode → CutsText text o o'
     → Refuses command text o o'
@@ -25,10 +29,30 @@ no_script never command text s e fault spelled =
     let f : IsFaulty Replay text = subst (λ (k : Command). IsFaulty k text) e fault in
     never text s f.0 f.1 spelled f.2
 
+-- a text is of one table and one stream, and then has no fault; and a stream that is decoded has none
+pub record DecodingLaw : Type 0 where
+  pub parts : (text stream other : List ℕ) (T U : Table) → Holds text T stream → Holds text U other → (T ≡ U) × (stream ≡ other)
+  pub no_text_fault : (text stream word : List ℕ) (T : Table) (line : ℕ) → Holds text T stream → IsTextFault text line word → ⊥
+  pub no_cut : (T : Table) (stream told other word : List ℕ) (place : ℕ) → IsDecoded T stream told → IsCutAt T 0 stream other place word → ⊥
+
+pub no_fault_of : DecodingLaw → (text : List ℕ) (out out' : Option (List ℕ)) → DecodesText text out out' → HasDecodeFault text → ⊥
+no_fault_of law text out out' d (fault_in_text line word fault) = law.no_text_fault text d.stream word d.table line d.holds fault
+no_fault_of law text out out' d (fault_in_stream U other told place word holds cut) =
+    let same = law.parts text d.stream other d.table U d.holds holds in
+    law.no_cut d.table d.stream d.lines told word place d.decoded
+    (subst (λ (s : List ℕ). IsCutAt d.table 0 s told place word) (sym same.1) (subst (λ (T : Table). IsCutAt T 0 other told place word) (sym same.0) cut))
+
 pub no_decoding : DecodingLaw → (command : Command) (text : List ℕ) (o o' : Option (List ℕ)) → command ≡ Decode
     → IsFaulty command text → DecodesText text o o' → ⊥
 no_decoding law command text o o' e fault d =
     no_fault_of law text o o' d (subst (λ (k : Command). IsFaulty k text) e fault)
+
+-- a text isn't both checked and at fault, nor an audit both answered and at fault
+abbrev pub NotBoth : Type 0
+NotBoth = (text word : List ℕ) (T : Table) (spot : Spot) → ChecksAs text T → IsCheckFault text spot word → ⊥
+
+abbrev pub NeverFaulty : Type 0
+NeverFaulty = (input answer word : List ℕ) (line : ℕ) → IsAnswer input answer → IsAuditFault input line word → ⊥
 
 pub no_check : NotBoth → (command : Command) (text : List ℕ) (o o' : Option (List ℕ)) → command ≡ Check
     → IsFaulty command text → ChecksText text o o' → ⊥

@@ -1,20 +1,17 @@
 -- What a command answers, and what it writes.
-use Rattle.std.specs.Prelude.{◌≡◌, ℕ, ◌<◌, ◌≤◌, ◌⊎◌, List, [], ◌∷◌, ◌++◌, codes, length, map, Option, String, string_bytes}
+use Rattle.std.specs.Prelude.{◌≡◌, ℕ, ◌<◌, ◌≤◌, ◌⊎◌, List, [], ◌∷◌, codes, length, map, Option, String, string_bytes}
 use Rattle.std.specs.declared.alloc.Global.{Global}
 use Rattle.std.specs.Io.KnownBytes.{Appends}
-use Rattle.mrpc_top.specs.FaultLines.{WritesFront, fault_line, line_of_fault}
+use Rattle.text_commands.specs.FaultLines.{WritesFront, fault_line}
+use Rattle.text_commands.specs.Auditing.{AuditsText, RefusesAudit, HasAuditFault}
+use Rattle.text_commands.specs.Checking.{ChecksText, IsCheckFault, RefusesProto}
+use Rattle.text_commands.specs.Decoded.{CutsText, DecodesText, HasDecodeFault}
+use Rattle.text_commands.specs.declared.check.Spot.{Spot}
+use Rattle.text_commands.specs.declared.status.TheConstants.{INPUT_LIMIT}
 use Rattle.mrpc_top.specs.Replaying.{RunsText, BreaksText, StopsText, RefusesScript, HasScriptFault}
-use Rattle.mrpc_top.specs.Checking.{ChecksAs, IsCheckFault, spot_text}
-use Rattle.mrpc_top.specs.declared.check.Spot.{Spot}
-use Rattle.mrpc_top.specs.Auditing.{AuditsText, RefusesAudit, HasAuditFault}
 use Rattle.mrpc_top.specs.Reading.{IsAllOf, ReadsPast}
-use Rattle.mrpc_top.specs.DecodeInput.{Holds, IsTextFault}
-use Rattle.mrpc_top.specs.Decoding.{IsDecoded, IsCutAt}
-use Rattle.mrpc_top.specs.declared.reading.TheConstants.{INPUT_LIMIT}
 use Rattle.mrpc_top.specs.declared.command.Command.{Command}
 use Rattle.mrpc_top.specs.declared.command.Command.TheVariants.{Replay, Decode, Check, Audit}
-use Rattle.mrpc_table.specs.declared.table.Table.{Table}
-use Rattle.mrpc_table.specs.Text.{table_text}
 
 -- ---- commands
 
@@ -35,28 +32,7 @@ IsReplay words = Names words Replay
 abbrev pub IsCommand : List (String Global) → Type 0
 IsCommand words = (command : Command) × Names words command
 
--- ---- lines of faults
-
--- the line of a fault of a file or of a set of files
-abbrev pub spot_line : Spot → List ℕ → List ℕ
-spot_line spot word = line_of_fault (spot_text spot) word
-
 -- ---- what a command does with a text
-
--- a text is a table's text and whole frames behind it, and their lines were written
-pub record DecodesText (text : List ℕ) (out out' : Option (List ℕ)) : Type 0 where
-  pub table : Table
-  pub stream : List ℕ
-  pub holds : Holds text table stream
-  pub lines : List ℕ
-  pub decoded : IsDecoded table stream lines
-  pub written : Appends out out' lines
-
--- a text is a proto file or a set of files, and the text of its table was written
-pub record ChecksText (text : List ℕ) (out out' : Option (List ℕ)) : Type 0 where
-  pub table : Table
-  pub checks : ChecksAs text table
-  pub written : Appends out out' (table_text table)
 
 -- the command did its work on a text
 abbrev pub WorksOn : Command → List ℕ → Option (List ℕ) → Option (List ℕ) → Option (List ℕ) → Option (List ℕ)
@@ -68,22 +44,6 @@ WorksOn Audit text out out' wire wire' = AuditsText text out out'
 
 -- ---- what a command writes of a faulty text
 
--- A text was decoded up to its first fault, whose line was written: a fault of the table's text, or of the frames,
--- behind the lines of those in front of it.
-pub data CutsText (text : List ℕ) (out out' : Option (List ℕ)) : Type 0 where
-  in_text : (line : ℕ) (word : List ℕ) → IsTextFault text line word → Appends out out' (fault_line line word)
-      → CutsText text out out'
-  in_stream : (table : Table) (stream lines : List ℕ) (place : ℕ) (word : List ℕ) → Holds text table stream
-      → IsCutAt table 0 stream lines place word → Appends out out' (lines ++ fault_line place word)
-      → CutsText text out out'
-
--- a text was refused as a proto file or a set of files: its first fault was written
-pub record RefusesProto (text : List ℕ) (out out' : Option (List ℕ)) : Type 0 where
-  pub spot : Spot
-  pub word : List ℕ
-  pub fault : IsCheckFault text spot word
-  pub written : Appends out out' (spot_line spot word)
-
 -- the command wrote the first fault of a text
 abbrev pub Refuses : Command → List ℕ → Option (List ℕ) → Option (List ℕ) → Type 0
 Refuses Replay text out out' = RefusesScript text out out'
@@ -92,12 +52,6 @@ Refuses Check text out out' = RefusesProto text out out'
 Refuses Audit text out out' = RefusesAudit text out out'
 
 -- ---- faulty texts
-
--- a line is at fault, or the stream
-pub data HasDecodeFault (text : List ℕ) : Type 0 where
-  fault_in_text : (line : ℕ) (word : List ℕ) → IsTextFault text line word → HasDecodeFault text
-  fault_in_stream : (table : Table) (stream lines : List ℕ) (place : ℕ) (word : List ℕ) → Holds text table stream
-      → IsCutAt table 0 stream lines place word → HasDecodeFault text
 
 -- for the command a text has a first fault
 abbrev pub IsFaulty : Command → List ℕ → Type 0

@@ -1,11 +1,5 @@
-pub mod Auditing
-pub mod Checking
 pub mod Command
-pub mod DecodeInput
-pub mod Decoding
-pub mod FaultLines
-pub mod Laws
 pub mod Reading
 pub mod Replaying
 pub mod Runs
-pub mod Telling
+pub mod Told

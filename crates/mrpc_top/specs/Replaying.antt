@@ -6,7 +6,7 @@ use Rattle.script_words.specs.declared.fault.ScriptReason.{ScriptReason}
 use Rattle.script_text.specs.Texts.{Spells, IsFault}
 use Rattle.script_text.specs.declared.script.Script.{Script}
 use Rattle.replay_run.specs.Running.{Replays, Breaks, Stops}
-use Rattle.mrpc_top.specs.FaultLines.{WritesFront, fault_line}
+use Rattle.text_commands.specs.FaultLines.{WritesFront, fault_line}
 
 -- a text is that of a script, which was run whole
 abbrev pub RunsText : List ℕ → Option (List ℕ) → Option (List ℕ) → Option (List ℕ) → Option (List ℕ) → Type 0

@@ -21,9 +21,9 @@ use Rattle.run_text.specs.Counting.{counted_in}
 use Rattle.scenario_run.specs.Running.{HasRun}
 use Rattle.scenario_run.specs.declared.running.Run.{Run}
 use Rattle.mrpc_top.specs.Command.{IsInput}
-use Rattle.mrpc_top.specs.FaultLines.{WritesFront, fault_line}
+use Rattle.text_commands.specs.FaultLines.{WritesFront, fault_line}
 use Rattle.mrpc_top.specs.Reading.{ReadsPast}
-use Rattle.mrpc_top.specs.declared.reading.TheConstants.{INPUT_LIMIT}
+use Rattle.text_commands.specs.declared.status.TheConstants.{INPUT_LIMIT}
 use Rattle.mrpc_top.specs.declared.run.Running.{Running}
 use Rattle.mrpc_top.specs.declared.run.Running.TheVariants.{Scenario, Drill}
 

@@ -1,51 +1,24 @@
-//! The top call: the words of a command line, the whole input, and the answer.
+//! The commands that run nothing: the words of a command line, the whole input, and the answer.
 
-ghost use Rattle.std.specs.Prelude.{◌≡◌, ◌≢◌, ◌↔◌, ◌<◌, ◌≤◌, ◌⊎◌, List, ℕ, ◌++◌, length, All, IfOk, OnOk, IfSome, IfNone, Some};
-ghost use Rattle.std.specs.Io.KnownBytes.{Appends};
+ghost use Rattle.std.specs.Prelude.{◌≡◌, ◌≢◌, ◌↔◌, ◌≤◌, ◌⊎◌, List, ℕ, length, IfSome, IfNone, Some};
 ghost use Rattle.mrpc_base.specs.Faults.{HasCause, Rose};
-ghost use Rattle.mrpc_table.specs.declared.table.Table.{Table};
-ghost use Rattle.mrpc_top.specs.DecodeInput.{Holds, IsTextFault};
-ghost use Rattle.mrpc_top.specs.Decoding.{IsDecoded, IsCutAt};
-ghost use Rattle.mrpc_top.specs.Command.{command_word, Names, IsReplay, IsCommand, IsDone, IsRefused, IsBroken, IsCutShort, HasFault, IsFaulty, WorksOn, Refuses, DecodesText, ChecksText, CutsText, RefusesProto, spot_line};
-ghost use Rattle.mrpc_top.specs.FaultLines.{WritesFront, fault_line};
-ghost use Rattle.mrpc_top.specs.Auditing.{AuditsText, RefusesAudit};
+ghost use Rattle.mrpc_top.specs.Command.{command_word, Names, IsReplay, IsCommand, IsDone, IsRefused, IsBroken, IsCutShort, HasFault, IsFaulty, WorksOn, Refuses};
 ghost use Rattle.mrpc_top.specs.Replaying.{RunsText, BreaksText, StopsText, RefusesScript, HasScriptFault};
-ghost use Rattle.mrpc_top.specs.Checking.{spot_text};
+ghost use Rattle.replay_run.specs.Running.{Breaks, Replays, Stops};
+ghost use Rattle.script_text.specs.Lines.{IsScript};
 
-use crate::audit::{AuditFailure, audited_text, one_audit};
-use crate::check::{CheckFault, Spot, checked_text, one_check};
-use crate::decode_input::read_head;
-use crate::decoding::{Cut, decode_stream};
-use crate::laws::{meaning_law, text_law};
-use crate::reading::{INPUT_LIMIT, Input, read_input};
+use crate::discard;
+use crate::reading::{Input, read_input};
 use crate::replay::one_replay;
-use mrpc_base::{Sink, Source, write_all};
-use mrpc_table::{Bytes, Memory};
+use mrpc_base::{Sink, Source};
 use replay_run::{Stop, run_script};
-use script_text::{one_script, read_script};
+use script_text::{Script, one_script, read_script};
 use script_words::ScriptFault;
 use std::alloc::Global;
-
-/// The work is done.
-pub const DONE: u8 = 0;
-
-/// The words are no command.
-pub const NO_COMMAND: u8 = 1;
-
-/// The input has a fault, which was written.
-pub const FAULTY_INPUT: u8 = 2;
-
-/// No memory was found.
-pub const NO_MEMORY: u8 = 3;
-
-/// The input could not be read.
-pub const INPUT_FAILED: u8 = 4;
-
-/// The output could not be written.
-pub const OUTPUT_FAILED: u8 = 5;
-
-/// The frames could not be written.
-pub const WIRE_FAILED: u8 = 6;
+use text_commands::{
+    DONE, FAULTY_INPUT, INPUT_FAILED, INPUT_LIMIT, NO_COMMAND, NO_MEMORY, OUTPUT_FAILED,
+    WIRE_FAILED, audit_to, check_to, decode_to, one_audit, one_check, one_decoding, refuse,
+};
 
 /// Runs the command that the words name, and answers its exit status.
 ///
@@ -99,6 +72,12 @@ pub fn run_still<S: Source, K: Sink, W: Sink>(
     ensures refused { (command : Command) (text : List ℕ) → Names words.now.items command → S.left input.old ≡ Some text
         → HasFault command text → (result ≢ DONE) × (result ≢ WIRE_FAILED) }
 
+    // An input that has no fault is worked on, unless a device fails or memory is short.
+    ensures complete { (command : Command) (text : List ℕ) → Names words.now.items command
+        → S.left input.old ≡ Some text → (HasFault command text → ⊥)
+        → (Rose (S.faults input.old) (S.faults input.new) → ⊥) → (Rose (K.faults out.old) (K.faults out.new) → ⊥)
+        → (Rose (W.faults wire.old) (W.faults wire.new) → ⊥) → (result ≡ DONE) ⊎ (result ≡ NO_MEMORY) }
+
     // Only a replay sends frames, and none of an input that has a fault, whatever else fails.
     ensures unsent { (result ≡ FAULTY_INPUT) ⊎ (IsReplay words.now.items → ⊥) → wire.new ≡ wire.old }
     ensures sound_alone { (text : List ℕ) → IsReplay words.now.items → S.left input.old ≡ Some text
@@ -130,32 +109,6 @@ pub fn run_still<S: Source, K: Sink, W: Sink>(
         },
         None => NO_COMMAND,
     }
-}
-
-/// A text has one decoding. It is of one table and one stream or has one first fault, and never both; and a stream of
-/// bytes is frames to its end, with their lines, or has one first fault, with the lines in front of it, and never both.
-pub fn one_decoding()
-    ensures parts { (text stream other : List ℕ) (T U : Table) → Holds text T stream → Holds text U other
-        → (T ≡ U) × (stream ≡ other) }
-    ensures text_fault { (text word spelled : List ℕ) (line at : ℕ) → IsTextFault text line word
-        → IsTextFault text at spelled → (line ≡ at) × (word ≡ spelled) }
-    ensures no_text_fault { (text stream word : List ℕ) (T : Table) (line : ℕ) → Holds text T stream
-        → IsTextFault text line word → ⊥ }
-    ensures text_or_fault { (text : List ℕ) → ((T : Table) × (stream : List ℕ) × Holds text T stream)
-        ⊎ ((line : ℕ) × (word : List ℕ) × IsTextFault text line word) }
-    ensures lines { (T : Table) (stream told other : List ℕ) → IsDecoded T stream told → IsDecoded T stream other
-        → told ≡ other }
-    ensures cut { (T : Table) (stream told other word spelled : List ℕ) (place at : ℕ)
-        → IsCutAt T 0 stream told place word
-        → IsCutAt T 0 stream other at spelled → (place ≡ at) × (word ≡ spelled) × (told ≡ other) }
-    ensures no_cut { (T : Table) (stream told other word : List ℕ) (place : ℕ) → IsDecoded T stream told
-        → IsCutAt T 0 stream other place word → ⊥ }
-    ensures lines_or_cut { (T : Table) (stream : List ℕ) → All (λ byte. byte < 256) stream
-        → ((told : List ℕ) × IsDecoded T stream told)
-        ⊎ ((told : List ℕ) × (place : ℕ) × (word : List ℕ) × IsCutAt T 0 stream told place word) }
-{
-    text_law();
-    meaning_law();
 }
 
 /// A command of the program.
@@ -199,9 +152,9 @@ fn run<K: Sink, W: Sink>(
     one_audit();
     match command {
         Command::Replay => replay_text(alloc, text, out, wire),
-        Command::Decode => decode_text(alloc, text, out),
-        Command::Check => check_text(alloc, text, out),
-        Command::Audit => audit_text(alloc, text, out),
+        Command::Decode => decode_to(alloc, text, out),
+        Command::Check => check_to(alloc, text, out),
+        Command::Audit => audit_to(alloc, text, out),
     }
 }
 
@@ -252,12 +205,11 @@ fn replay_text<K: Sink, W: Sink>(alloc: Global, text: &[u8], out: &mut K, wire: 
 {
     one_script();
     match read_script(alloc, text) {
-        Ok(script) => match run_script(alloc, &script, out, wire) {
-            Ok(()) => DONE,
-            Err(Stop::Memory) => NO_MEMORY,
-            Err(Stop::Out) => OUTPUT_FAILED,
-            Err(Stop::Wire) => WIRE_FAILED,
-        },
+        Ok(script) => {
+            let status = replay(alloc, &script, out, wire);
+            discard(script);
+            status
+        }
         Err(ScriptFault::At { line, reason }) => {
             refuse(alloc, line, reason.word().as_bytes(), out)
         }
@@ -265,125 +217,27 @@ fn replay_text<K: Sink, W: Sink>(alloc: Global, text: &[u8], out: &mut K, wire: 
     }
 }
 
-// Reads a table's text and the frames behind it, and writes a line for each frame.
-fn decode_text<K: Sink>(alloc: Global, text: &[u8], out: &mut K) -> u8
-    requires short { length text.now ≤ INPUT_LIMIT }
-    ensures statuses { result ≤ OUTPUT_FAILED }
+// Runs a script.
+fn replay<K: Sink, W: Sink>(alloc: Global, script: &Script, out: &mut K, wire: &mut W) -> u8
+    requires script { IsScript script.now }
+    ensures statuses { result ≤ WIRE_FAILED }
     ensures some { (result ≢ NO_COMMAND) × (result ≢ INPUT_FAILED) }
-    ensures done { result ≡ DONE → DecodesText text.now (K.written out.old) (K.written out.new) }
-    ensures cut { result ≡ FAULTY_INPUT → CutsText text.now (K.written out.old) (K.written out.new) }
+    ensures sound { result ≢ FAULTY_INPUT }
+    ensures done { result ≡ DONE → Replays script.now (K.written out.old) (K.written out.new)
+        (W.written wire.old) (W.written wire.new) }
+    ensures broken { result ≡ WIRE_FAILED → Breaks script.now (K.written out.old) (K.written out.new)
+        (W.written wire.old) (W.written wire.new) }
+    ensures stopped { (result ≡ NO_MEMORY) ⊎ (result ≡ OUTPUT_FAILED) → Stops script.now
+        (K.written out.old) (K.written out.new) (W.written wire.old) (W.written wire.new) }
     ensures out_cause { HasCause (result ≡ OUTPUT_FAILED) (K.faults out.old) (K.faults out.new) }
+    ensures wire_rose { result ≡ WIRE_FAILED → Rose (W.faults wire.old) (W.faults wire.new) }
+    ensures wire_same { result ≡ DONE → W.faults wire.new ≡ W.faults wire.old }
+    ensures wire_never_falls { W.faults wire.old ≤ W.faults wire.new }
 {
-    let told = match read_head(alloc, text) {
-        Ok((table, stream)) => decode_stream(alloc, &table, stream, out),
-        Err(cut) => Err(cut),
-    };
-    match told {
+    match run_script(alloc, script, out, wire) {
         Ok(()) => DONE,
-        Err(Cut::Fault { place, word }) => refuse(alloc, place, word.as_bytes(), out),
-        Err(Cut::Memory) => NO_MEMORY,
-        Err(Cut::Out) => OUTPUT_FAILED,
+        Err(Stop::Memory) => NO_MEMORY,
+        Err(Stop::Out) => OUTPUT_FAILED,
+        Err(Stop::Wire) => WIRE_FAILED,
     }
-}
-
-// Reads a proto file or a set of files, and writes the text of its table.
-fn check_text<K: Sink>(alloc: Global, text: &[u8], out: &mut K) -> u8
-    requires short { length text.now ≤ INPUT_LIMIT }
-    ensures statuses { result ≤ OUTPUT_FAILED }
-    ensures some { (result ≢ NO_COMMAND) × (result ≢ INPUT_FAILED) }
-    ensures done { result ≡ DONE → ChecksText text.now (K.written out.old) (K.written out.new) }
-    ensures faulty { result ≡ FAULTY_INPUT → RefusesProto text.now (K.written out.old) (K.written out.new) }
-    ensures out_cause { HasCause (result ≡ OUTPUT_FAILED) (K.faults out.old) (K.faults out.new) }
-{
-    match checked_text(alloc, text) {
-        Ok(lines) => {
-            if write_all(out, lines.as_slice()) {
-                DONE
-            } else {
-                OUTPUT_FAILED
-            }
-        }
-        Err(CheckFault::At { spot, word }) => refuse_at(alloc, spot, word.as_bytes(), out),
-        Err(CheckFault::Memory) => NO_MEMORY,
-    }
-}
-
-// Reads an audit with the table and the policies that it is judged under, and writes whether its history is legal.
-fn audit_text<K: Sink>(alloc: Global, text: &[u8], out: &mut K) -> u8
-    requires short { length text.now ≤ INPUT_LIMIT }
-    ensures statuses { result ≤ OUTPUT_FAILED }
-    ensures some { (result ≢ NO_COMMAND) × (result ≢ INPUT_FAILED) }
-    ensures done { result ≡ DONE → AuditsText text.now (K.written out.old) (K.written out.new) }
-    ensures faulty { result ≡ FAULTY_INPUT → RefusesAudit text.now (K.written out.old) (K.written out.new) }
-    ensures out_cause { HasCause (result ≡ OUTPUT_FAILED) (K.faults out.old) (K.faults out.new) }
-{
-    match audited_text(alloc, text) {
-        Ok(answer) => {
-            if write_all(out, answer.as_slice()) {
-                DONE
-            } else {
-                OUTPUT_FAILED
-            }
-        }
-        Err(AuditFailure::At { line, word }) => refuse(alloc, line, word.as_bytes(), out),
-        Err(AuditFailure::Memory) => NO_MEMORY,
-    }
-}
-
-// Writes the line of a fault at a place or on a line.
-pub(crate) fn refuse<K: Sink>(alloc: Global, place: u64, word: &[u8], out: &mut K) -> u8
-    ensures statuses { (result ≡ FAULTY_INPUT) ⊎ ((result ≡ NO_MEMORY) ⊎ (result ≡ OUTPUT_FAILED)) }
-    ensures written { result ≡ FAULTY_INPUT
-        → Appends (K.written out.old) (K.written out.new) (fault_line place word.now) }
-    ensures front { result ≢ FAULTY_INPUT
-        → WritesFront (K.written out.old) (K.written out.new) (fault_line place word.now) }
-    ensures cause { HasCause (result ≡ OUTPUT_FAILED) (K.faults out.old) (K.faults out.new) }
-{
-    refuse_at(alloc, Spot::Line(place), word, out)
-}
-
-// Writes the line of a fault.
-fn refuse_at<K: Sink>(alloc: Global, spot: Spot, word: &[u8], out: &mut K) -> u8
-    ensures statuses { (result ≡ FAULTY_INPUT) ⊎ ((result ≡ NO_MEMORY) ⊎ (result ≡ OUTPUT_FAILED)) }
-    ensures written { result ≡ FAULTY_INPUT
-        → Appends (K.written out.old) (K.written out.new) (spot_line spot word.now) }
-    ensures front { result ≢ FAULTY_INPUT
-        → WritesFront (K.written out.old) (K.written out.new) (spot_line spot word.now) }
-    ensures cause { HasCause (result ≡ OUTPUT_FAILED) (K.faults out.old) (K.faults out.new) }
-{
-    match fault_text(alloc, spot, word) {
-        Err(Memory) => NO_MEMORY,
-        Ok(line) => {
-            if write_all(out, line.as_slice()) {
-                FAULTY_INPUT
-            } else {
-                OUTPUT_FAILED
-            }
-        }
-    }
-}
-
-fn append_spot(text: &mut Bytes, spot: Spot) -> Result<(), Memory>
-    ensures { OnOk result (text.new ≡ text.old ++ spot_text spot) }
-{
-    match spot {
-        Spot::Line(line) => text.append_decimal(line),
-        Spot::OfFile(file) => text.append_decimal(file),
-        Spot::InFile { file, line } => {
-            text.append_decimal(file)?;
-            text.append(b":")?;
-            text.append_decimal(line)
-        }
-    }
-}
-
-fn fault_text(alloc: Global, spot: Spot, word: &[u8]) -> Result<Bytes, Memory>
-    ensures { IfOk result (λ line. line ≡ spot_line spot word.now) }
-{
-    let mut line = Bytes::from_slice(alloc, b"fault ")?;
-    append_spot(&mut line, spot)?;
-    line.append(b" ")?;
-    line.append(word)?;
-    line.append(b"\n")?;
-    Ok(line)
 }

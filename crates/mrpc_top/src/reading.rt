@@ -6,9 +6,7 @@ ghost use Rattle.mrpc_top.specs.Reading.{OnWhole, IsAllOf, ReadsPast};
 
 use mrpc_base::{Got, Source};
 use std::alloc::{AllocError, Global};
-
-/// The most bytes that an input may have.
-pub(crate) const INPUT_LIMIT: usize = 16_777_216;
+use text_commands::INPUT_LIMIT;
 
 /// How many bytes are asked for in one read, at the most.
 const PIECE: usize = 65_536;

@@ -1,33 +1,38 @@
 //! `run` and `drill`: plans that are run over the links of a fabric.
 
-ghost use Rattle.std.specs.Prelude.{◌≡◌, ◌≢◌, ◌⊎◌, ◌≤◌, ◌++◌, ◌∷◌, List, ℕ, Option, Some, true, false, codes, decimal, IfOk, IfSome, IfNone, IsErrOf, OnOk};
+ghost use Rattle.std.specs.Prelude.{◌≡◌, ◌≢◌, ◌⊎◌, ◌≤◌, ◌++◌, ◌∷◌, List, ℕ, Option, Some, true, false, codes, decimal, IfOk, IfSome, IfNone, OnOk};
 ghost use Rattle.std.specs.Io.KnownBytes.{Appends};
 ghost use Rattle.mrpc_base.specs.Faults.{HasCause};
-ghost use Rattle.run_plan.specs.declared.plan.Plan.{Plan};
+ghost use Rattle.run_plan.specs.Plans.{IsPlan};
+ghost use Rattle.run_plan.specs.declared.plan.Plan.{Plan as ThePlan};
 ghost use Rattle.scenario.specs.Scenarios.{HasFault, IsTextOf};
 ghost use Rattle.scenario.specs.declared.fault.Entry.{Entry};
 ghost use Rattle.scenario.specs.declared.fault.ScenarioReason.{ScenarioReason};
 ghost use Rattle.telemetry.specs.Totals.{IsTotals, sums_of};
 ghost use Rattle.mrpc_top.specs.Command.{IsInput};
-ghost use Rattle.mrpc_top.specs.FaultLines.{WritesFront};
-ghost use Rattle.mrpc_top.specs.Runs.{HasPlan, HasRunFault, IsCallCount, NamesRun, StopsRun, TellsDrill, WritesRefusal, WritesRun, drill_line};
+ghost use Rattle.text_commands.specs.FaultLines.{WritesFront};
+ghost use Rattle.mrpc_top.specs.Runs.{HasPlan, HasRunFault, IsCallCount, NamesRun, StopsRun, WritesRefusal, WritesRun, drill_line};
+ghost use Rattle.mrpc_top.specs.Told.{IsPlanOf, WritesFrontOf, WritesTold};
 
-use crate::command::{
-    DONE, FAULTY_INPUT, INPUT_FAILED, NO_COMMAND, NO_MEMORY, OUTPUT_FAILED, WIRE_FAILED, refuse,
-};
-use crate::reading::{INPUT_LIMIT, Input, read_input};
+use crate::discard;
+use crate::reading::{Input, read_input};
 use drill_plan::{MAX_CALLS, drill_plan};
 use mrpc_base::{Clock, Fabric, Gate, Sink, Source, write_all};
 use mrpc_table::{Bytes, Decimal, Memory, number_of};
+use run_plan::Plan;
 use scenario::ScenarioFault;
 use scenario_laws::{a_said_plan_is_sound, one_scenario};
 use scenario_reader::read_scenario;
-use scenario_run::serve_plan;
+use scenario_run::{Run, serve_plan};
 use service::ServeFault;
 use std::alloc::Global;
 use std::sync::Wait;
 use std::thread::Threads;
 use telemetry::{Totals, totals_are_counts};
+use text_commands::{
+    DONE, FAULTY_INPUT, INPUT_FAILED, INPUT_LIMIT, NO_COMMAND, NO_MEMORY, OUTPUT_FAILED,
+    WIRE_FAILED, refuse,
+};
 
 /// A link of the run failed.
 pub const LINK_FAILED: u8 = WIRE_FAILED;
@@ -200,7 +205,7 @@ fn run_scenario<R: Threads + Wait + Sync, K: Sink, F: Fabric, C: Clock, G: Gate>
     ensures cut_short { (left left' : Option (List ℕ)) → IsInput left text.now
         → (result ≡ NO_MEMORY) ⊎ (result ≡ OUTPUT_FAILED) → StopsRun C.Clock F.L.Link F.pair clock.now
         (F.back fabric.old) (F.back fabric.new) Running.Scenario left left' (K.written out.old) (K.written out.new) }
-    ensures unopened { result ≡ FABRIC_FAILED → ((plan : Plan) × IsTextOf text.now plan) × (out.new ≡ out.old) }
+    ensures unopened { result ≡ FABRIC_FAILED → ((plan : ThePlan) × IsTextOf text.now plan) × (out.new ≡ out.old) }
     ensures unrun { result ≡ FAULTY_INPUT → fabric.new ≡ fabric.old }
     ensures away { (result ≡ DONE) ⊎ (result ≡ LINK_FAILED) → F.away fabric.new ≡ F.away fabric.old }
     ensures out_cause { HasCause (result ≡ OUTPUT_FAILED) (K.faults out.old) (K.faults out.new) }
@@ -209,10 +214,20 @@ fn run_scenario<R: Threads + Wait + Sync, K: Sink, F: Fabric, C: Clock, G: Gate>
     a_said_plan_is_sound();
     one_scenario();
     match read_scenario(alloc, text) {
-        Ok(plan) => match serve_plan(rt, alloc, &plan, fabric, clock, gate) {
-            Ok(run) => tell(run.text.as_slice(), run.failed, out),
-            Err(fault) => status_of(fault),
-        },
+        Ok(plan) => {
+            let status = run_and_tell(
+                rt,
+                alloc,
+                Running::Scenario,
+                &plan,
+                out,
+                fabric,
+                clock,
+                gate,
+            );
+            discard(plan);
+            status
+        }
         Err(ScenarioFault::At { entry, reason }) => {
             refuse(alloc, entry.number(), reason.word().as_bytes(), out)
         }
@@ -247,35 +262,84 @@ fn run_drill<R: Threads + Wait + Sync, K: Sink, F: Fabric, C: Clock, G: Gate>(
     ensures out_cause { HasCause (result ≡ OUTPUT_FAILED) (K.faults out.old) (K.faults out.new) }
     ensures fabric_cause { HasCause (result ≡ FABRIC_FAILED) (F.faults fabric.old) (F.faults fabric.new) }
 {
-    match drilled(rt, alloc, calls, fabric, clock, gate) {
-        Ok((line, failed)) => tell(line.as_slice(), failed, out),
+    match drill_plan(alloc, calls) {
+        Ok(plan) => {
+            let status = run_and_tell(
+                rt,
+                alloc,
+                Running::Drill(calls),
+                &plan,
+                out,
+                fabric,
+                clock,
+                gate,
+            );
+            discard(plan);
+            status
+        }
+        Err(Memory) => NO_MEMORY,
+    }
+}
+
+// Runs a plan, and writes what is told of its run.
+fn run_and_tell<R: Threads + Wait + Sync, K: Sink, F: Fabric, C: Clock, G: Gate>(
+    rt: &R,
+    alloc: Global,
+    running: Running,
+    plan: &Plan,
+    out: &mut K,
+    fabric: &mut F,
+    clock: &C,
+    gate: &G,
+) -> u8
+    requires plan { IsPlan plan.now }
+    ensures statuses { result ≤ FABRIC_FAILED }
+    ensures some { (result ≢ NO_COMMAND) × (result ≢ FAULTY_INPUT) × (result ≢ INPUT_FAILED) }
+    ensures done { (left : Option (List ℕ)) → IsPlanOf running left plan.now → result ≡ DONE → WritesRun C.Clock
+        F.L.Link F.pair clock.now (F.back fabric.old) (F.back fabric.new) false running left
+        (K.written out.old) (K.written out.new) }
+    ensures link { (left : Option (List ℕ)) → IsPlanOf running left plan.now → result ≡ LINK_FAILED → WritesRun C.Clock
+        F.L.Link F.pair clock.now (F.back fabric.old) (F.back fabric.new) true running left
+        (K.written out.old) (K.written out.new) }
+    ensures cut_short { (left left' : Option (List ℕ)) → IsPlanOf running left plan.now
+        → (result ≡ NO_MEMORY) ⊎ (result ≡ OUTPUT_FAILED) → StopsRun C.Clock F.L.Link F.pair clock.now
+        (F.back fabric.old) (F.back fabric.new) running left left' (K.written out.old) (K.written out.new) }
+    ensures unopened { result ≡ FABRIC_FAILED → out.new ≡ out.old }
+    ensures away { (result ≡ DONE) ⊎ (result ≡ LINK_FAILED) → F.away fabric.new ≡ F.away fabric.old }
+    ensures out_cause { HasCause (result ≡ OUTPUT_FAILED) (K.faults out.old) (K.faults out.new) }
+    ensures fabric_cause { HasCause (result ≡ FABRIC_FAILED) (F.faults fabric.old) (F.faults fabric.new) }
+{
+    totals_are_counts();
+    match serve_plan(rt, alloc, plan, fabric, clock, gate) {
+        Ok(run) => {
+            let status = tell_run(alloc, running, &run, out);
+            discard(run);
+            status
+        }
         Err(fault) => status_of(fault),
     }
 }
 
-// Runs the drill, and gives its line, and whether a link failed.
-fn drilled<R: Threads + Wait + Sync, F: Fabric, C: Clock, G: Gate>(
-    rt: &R,
-    alloc: Global,
-    calls: u64,
-    fabric: &mut F,
-    clock: &C,
-    gate: &G,
-) -> Result<(Bytes, bool), ServeFault>
-    requires { calls ≤ MAX_CALLS }
-    ensures told { IfOk result (λ told. TellsDrill C.Clock F.L.Link F.pair clock.now
-        (F.back fabric.old) (F.back fabric.new) told.1 calls told.0) }
-    ensures away { IfOk result (λ told. F.away fabric.new ≡ F.away fabric.old) }
-    ensures cause { HasCause (IsErrOf result ServeFault.Fabric) (F.faults fabric.old) (F.faults fabric.new) }
+// Writes what is told of a run.
+fn tell_run<K: Sink>(alloc: Global, running: Running, run: &Run, out: &mut K) -> u8
+    ensures statuses { result ≤ WIRE_FAILED }
+    ensures some { (result ≢ NO_COMMAND) × (result ≢ FAULTY_INPUT) × (result ≢ INPUT_FAILED) }
+    ensures done { result ≡ DONE
+        → (run.now.failed ≡ false) × WritesTold running run.now (K.written out.old) (K.written out.new) }
+    ensures link { result ≡ LINK_FAILED
+        → (run.now.failed ≡ true) × WritesTold running run.now (K.written out.old) (K.written out.new) }
+    ensures front { result ≡ OUTPUT_FAILED
+        → WritesFrontOf running run.now (K.written out.old) (K.written out.new) }
+    ensures silent { result ≡ NO_MEMORY → out.new ≡ out.old }
+    ensures cause { HasCause (result ≡ OUTPUT_FAILED) (K.faults out.old) (K.faults out.new) }
 {
-    totals_are_counts();
-    let plan = drill_plan(alloc, calls)?;
-    let run = match serve_plan(rt, alloc, &plan, fabric, clock, gate) {
-        Ok(run) => run,
-        Err(fault) => return Err(fault),
-    };
-    let line = drill_line(alloc, calls, &run.totals)?;
-    Ok((line, run.failed))
+    match running {
+        Running::Scenario => tell(run.text.as_slice(), run.failed, out),
+        Running::Drill(calls) => match drill_line(alloc, calls, &run.totals) {
+            Ok(line) => tell(line.as_slice(), run.failed, out),
+            Err(Memory) => NO_MEMORY,
+        },
+    }
 }
 
 // What a drill tells: `drill N took T sent S refused R stands D`.
@@ -283,15 +347,23 @@ fn drill_line(alloc: Global, calls: u64, totals: &Totals) -> Result<Bytes, Memor
     ensures line { IfOk result (λ line. line ≡ drill_line calls (sums_of totals.now)) }
     ensures totals { IsTotals totals.now }
 {
-    let (took, sent, refused, standing) = totals.sums();
-    let mut line = Bytes::from_slice(alloc, b"drill")?;
-    line.append_word(calls)?;
-    append_count(&mut line, b" took", took)?;
-    append_count(&mut line, b" sent", sent)?;
-    append_count(&mut line, b" refused", refused)?;
-    append_count(&mut line, b" stands", standing)?;
-    line.append(b"\n")?;
+    let mut line = Bytes::new(alloc);
+    append_drill(&mut line, calls, totals)?;
     Ok(line)
+}
+
+fn append_drill(line: &mut Bytes, calls: u64, totals: &Totals) -> Result<(), Memory>
+    ensures line { OnOk result (line.new ≡ line.old ++ drill_line calls (sums_of totals.now)) }
+    ensures totals { IsTotals totals.now }
+{
+    let (took, sent, refused, standing) = totals.sums();
+    line.append(b"drill")?;
+    line.append_word(calls)?;
+    append_count(line, b" took", took)?;
+    append_count(line, b" sent", sent)?;
+    append_count(line, b" refused", refused)?;
+    append_count(line, b" stands", standing)?;
+    line.append(b"\n")
 }
 
 // Appends a word and a count.

@@ -9,14 +9,15 @@ ghost use Rattle.mrpc_top.specs.declared.command.Command.TheVariants.{Replay};
 ghost use Rattle.mrpc_top.specs.declared.run.Running.{Running};
 ghost use Rattle.mrpc_top.specs.declared.run.Running.TheVariants.{Drill};
 
-use crate::command::{
-    DONE, FAULTY_INPUT, INPUT_FAILED, NO_COMMAND, NO_MEMORY, OUTPUT_FAILED, WIRE_FAILED, run_still,
-};
+use crate::command::run_still;
 use crate::run::{FABRIC_FAILED, LINK_FAILED, run_named, running_of};
 use mrpc_base::{Clock, Fabric, Gate, Sink, Source};
 use std::alloc::Global;
 use std::sync::Wait;
 use std::thread::Threads;
+use text_commands::{
+    DONE, FAULTY_INPUT, INPUT_FAILED, NO_COMMAND, NO_MEMORY, OUTPUT_FAILED, WIRE_FAILED,
+};
 
 /// Runs the command that the words name, and answers its exit status.
 ///
@@ -54,6 +55,12 @@ pub fn run_command<
         (S.left input.old) (S.left input.new) (K.written out.old) (K.written out.new) }
     ensures refused { (command : Command) (text : List ℕ) → Names words.now.items command → S.left input.old ≡ Some text
         → HasFault command text → (result ≢ DONE) × (result ≢ WIRE_FAILED) }
+
+    // An input that has no fault is worked on, unless a device fails or memory is short.
+    ensures complete { (command : Command) (text : List ℕ) → Names words.now.items command
+        → S.left input.old ≡ Some text → (HasFault command text → ⊥)
+        → (Rose (S.faults input.old) (S.faults input.new) → ⊥) → (Rose (K.faults out.old) (K.faults out.new) → ⊥)
+        → (Rose (W.faults wire.old) (W.faults wire.new) → ⊥) → (result ≡ DONE) ⊎ (result ≡ NO_MEMORY) }
 
     // Only a replay sends frames on the wire, and none of an input that has a fault.
     ensures unsent { (result ≡ FAULTY_INPUT) ⊎ (IsReplay words.now.items → ⊥) → wire.new ≡ wire.old }

@@ -14,8 +14,8 @@ returns-in-Replay-clause-refused g c fault = (
 
 pub returns-in-Decode-clause-faulty : goal.returns-in-Decode-clause-faulty
 returns-in-Decode-clause-faulty g c faulty =
-    cuts c.args.command c.args.text.now (g.K.Sink.written c.args.out.now) (g.K.Sink.written c.decode_text.new.out)
-    c.in-Decode.is (c.decode_text.ensures.cut faulty)
+    cuts c.args.command c.args.text.now (g.K.Sink.written c.args.out.now) (g.K.Sink.written c.decode_to.new.out)
+    c.in-Decode.is (c.decode_to.ensures.cut faulty)
 
 pub returns-in-Decode-clause-refused : goal.returns-in-Decode-clause-refused
 returns-in-Decode-clause-refused g c fault = (
@@ -28,23 +28,23 @@ returns-in-Decode-clause-refused g c fault = (
       c.args.command
       c.args.text.now
       (g.K.Sink.written c.args.out.now)
-      (g.K.Sink.written c.decode_text.new.out)
+      (g.K.Sink.written c.decode_to.new.out)
       c.in-Decode.is
       fault
-      (c.decode_text.ensures.done done),
-  λ failed. omega (arith, failed, c.decode_text.ensures.statuses),
+      (c.decode_to.ensures.done done),
+  λ failed. omega (arith, failed, c.decode_to.ensures.statuses),
 )
 
 pub returns-in-Check-clause-refused : goal.returns-in-Check-clause-refused
 returns-in-Check-clause-refused g c fault = (
   λ done. no_check c.one_check.ensures.never_both c.args.command c.args.text.now (g.K.Sink.written c.args.out.now)
-      (g.K.Sink.written c.check_text.new.out) c.in-Check.is fault (c.check_text.ensures.done done),
-  λ failed. omega (arith, failed, c.check_text.ensures.statuses),
+      (g.K.Sink.written c.check_to.new.out) c.in-Check.is fault (c.check_to.ensures.done done),
+  λ failed. omega (arith, failed, c.check_to.ensures.statuses),
 )
 
 pub returns-in-Audit-clause-refused : goal.returns-in-Audit-clause-refused
 returns-in-Audit-clause-refused g c fault = (
   λ done. no_audit c.one_audit.ensures.never_both c.args.command c.args.text.now (g.K.Sink.written c.args.out.now)
-      (g.K.Sink.written c.audit_text.new.out) c.in-Audit.is fault (c.audit_text.ensures.done done),
-  λ failed. omega (arith, failed, c.audit_text.ensures.statuses),
+      (g.K.Sink.written c.audit_to.new.out) c.in-Audit.is fault (c.audit_to.ensures.done done),
+  λ failed. omega (arith, failed, c.audit_to.ensures.statuses),
 )

@@ -1,8 +1,11 @@
-use Rattle.std.proofs.Common.{ℕ, List, subst, sym}
+use Rattle.std.proofs.Common.{◌≡◌, ◌∙◌, ℕ, List, Option, inl, inr, subst, sym}
 use Rattle.std.specs.Prelude.{String}
 use Rattle.std.specs.declared.alloc.Global.{Global}
-use Rattle.mrpc_top.specs.Command.{Names, of_text}
+use Rattle.mrpc_top.specs.Command.{IsFaulty, Names, of_text}
+use Rattle.mrpc_top.specs.Reading.{IsAllOf}
+use Rattle.mrpc_top.specs.declared.command.Command.{Command}
 use Rattle.mrpc_top.specs.Replaying.{HasScriptFault, StopsText}
+use Rattle.mrpc_top.proofs.Complete.{done-or-short, one-command, past-limit, refused-faulty}
 use Rattle.mrpc_top.proofs.Replays.{fault_of_whole, is_replay}
 use Rattle.mrpc_top.proofs.command.run_still.Goals as goal
 
@@ -21,3 +24,25 @@ returns-in-Whole-clause-cut_short g c replays e =
     of_text c.in-Whole.text.items (record { all = c.in-Whole.ensures.whole.1; short = c.in-Whole.ensures.whole.0 })
     (subst (λ (t : List ℕ). StopsText t (g.K.Sink.written c.args.out.now) (g.K.Sink.written c.run.new.out)
     (g.W.Sink.written c.args.wire.now) (g.W.Sink.written c.run.new.wire)) c.deref-in-Whole.ensures.value stops)
+
+pub returns-in-Whole-clause-complete : goal.returns-in-Whole-clause-complete
+returns-in-Whole-clause-complete g c command text names is sound reads writes sends =
+    let named = subst (λ (ws : List (String Global)). Names ws c.in-Some.command) c.deref.ensures.value c.in-Some.ensures.some in
+    let same : c.in-Some.command ≡ command = one-command c.args.words.now.items c.in-Some.command command named names in
+    let whole : text ≡ c.in-Whole.text.items =
+    subst (λ (l : Option (List ℕ)). IsAllOf l c.in-Whole.text.items) is c.in-Whole.ensures.whole.1 in
+    done-or-short c.run.result c.run.ensures.statuses c.run.ensures.some.0
+    (λ faulty. sound (inr (subst (λ (t : List ℕ). IsFaulty command t) (c.deref-in-Whole.ensures.value ∙ sym whole)
+    (subst (λ (k : Command). IsFaulty k c.deref-in-Whole.result.now) same
+    (refused-faulty c.in-Some.command _ _ _ (c.run.ensures.faulty faulty))))))
+    c.run.ensures.some.1
+    (λ failed. writes (c.run.ensures.out_cause.rose failed))
+    (λ failed. sends (c.run.ensures.wire_rose failed))
+
+pub returns-in-TooLong-clause-complete : goal.returns-in-TooLong-clause-complete
+returns-in-TooLong-clause-complete g c command text names is sound reads writes sends =
+    absurd (sound (inl (past-limit _ _ text (c.in-TooLong.ensures.too_long cc) is)))
+
+pub returns-in-Failed-clause-complete : goal.returns-in-Failed-clause-complete
+returns-in-Failed-clause-complete g c command text names is sound reads writes sends =
+    absurd (reads (c.in-Failed.ensures.cause.rose cc))

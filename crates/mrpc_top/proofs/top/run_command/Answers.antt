@@ -28,6 +28,11 @@ returns-in-Some-clause-refused g c command text names is fault =
     let named = subst (λ (ws : List (String Global)). NamesRun ws c.in-Some.running) c.deref.ensures.value c.in-Some.ensures.some in
     absurd (no_command c.args.words.now.items c.in-Some.running command named names)
 
+pub returns-in-Some-clause-complete : goal.returns-in-Some-clause-complete
+returns-in-Some-clause-complete g c command text names is sound reads writes sends =
+    let named = subst (λ (ws : List (String Global)). NamesRun ws c.in-Some.running) c.deref.ensures.value c.in-Some.ensures.some in
+    absurd (no_command c.args.words.now.items c.in-Some.running command named names)
+
 pub returns-in-Some-clause-sound_alone : goal.returns-in-Some-clause-sound_alone
 returns-in-Some-clause-sound_alone g c text replays is fault =
     let named = subst (λ (ws : List (String Global)). NamesRun ws c.in-Some.running) c.deref.ensures.value c.in-Some.ensures.some in

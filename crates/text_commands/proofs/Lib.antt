@@ -1,0 +1,14 @@
+mod AuditLines
+mod Audited
+mod CheckFaults
+mod CheckNeither
+mod DecodeAnswers
+mod DecodeNeither
+mod DecodeTexts
+mod Decodings
+mod KnownBytes
+mod OneAudit
+mod OneCheck
+mod OneDecoding
+mod SetSizes
+mod TextAnswers

@@ -1,0 +1,26 @@
+use Rattle.std.proofs.Common.{ℕ, List, subst, rules}
+use Rattle.std.specs.Prelude.{IsTrue}
+use Rattle.std.specs.Io.KnownBytes.{Appends}
+use Rattle.text_commands.specs.FaultLines.{fault_line}
+use Rattle.text_commands.proofs.audit.audit_to.Goals as goal
+
+pub returns-in-Err-At-clause-faulty : goal.returns-in-Err-At-clause-faulty
+returns-in-Err-At-clause-faulty g c = λ faulty.
+    let first = rw c.in-Err-At.field-0-is at c.in-Err-At.ensures.failure in
+    record {
+      at = c.in-Err-At.line;
+      word = c.in-Err-At.word.now;
+      fault = rw (c.in-Err-At.line-is, c.in-Err-At.word-is) first;
+      written = subst (λ bytes. Appends (g.K.Sink.written c.args.out.now) (g.K.Sink.written c.refuse.new.out) (fault_line c.in-Err-At.line bytes))
+          c.as_bytes.ensures.value (c.refuse.ensures.written faulty);
+    }
+
+pub returns-then-write_all-clause-done : goal.returns-then-write_all-clause-done
+returns-then-write_all-clause-done g c = λ done.
+    let yes : IsTrue c.write_all.result = search rules in
+    record {
+      answer = c.in-Ok.answer;
+      is_answer = c.in-Ok.ensures.answer;
+      written = subst (λ (bytes : List ℕ). Appends (g.K.Sink.written c.args.out.now) (g.K.Sink.written c.write_all.new.out) bytes)
+          c.as_slice.ensures (c.write_all.ensures.done yes);
+    }

@@ -1,0 +1,18 @@
+use Rattle.std.proofs.Common.{◌∙◌, ap}
+use Rattle.script_words.specs.Reasons.{reason_word}
+use Rattle.text_commands.proofs.Audited.{front_fault}
+use Rattle.text_commands.proofs.audit.audited_text.Goals as goal
+
+pub returns-in-Ok-clause-answer : goal.returns-in-Ok-clause-answer
+returns-in-Ok-clause-answer c = c.judged-answer.ensures.answer c.args.input.now c.in-Ok.ensures.read
+
+pub returns-in-Ok-clause-failure : goal.returns-in-Ok-clause-failure
+returns-in-Ok-clause-failure c = c.judged-answer.ensures.failure c.args.input.now c.in-Ok.ensures.read
+
+pub judged-answer-requires-clause-short : goal.judged-answer-requires-clause-short
+judged-answer-requires-clause-short c = (c.args.input.now, c.in-Ok.ensures.read, c.requires.short)
+
+pub returns-in-Err-At-clause-failure : goal.returns-in-Err-At-clause-failure
+returns-in-Err-At-clause-failure c =
+    let first = rw c.in-Err-At.field-0-is at c.in-Err-At.ensures.fault in
+    front_fault _ _ _ _ _ first c.in-Err-At.line-is (c.word.ensures ∙ ap reason_word c.in-Err-At.reason-is)

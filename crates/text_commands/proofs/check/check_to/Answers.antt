@@ -1,0 +1,26 @@
+use Rattle.std.proofs.Common.{◌∙◌, ℕ, List, subst, rules}
+use Rattle.std.specs.Prelude.{IsTrue}
+use Rattle.std.specs.Io.KnownBytes.{Appends}
+use Rattle.text_commands.specs.Checking.{spot_line}
+use Rattle.text_commands.proofs.check.check_to.Goals as goal
+
+pub returns-in-Err-At-clause-faulty : goal.returns-in-Err-At-clause-faulty
+returns-in-Err-At-clause-faulty g c = λ faulty.
+    let first = rw c.in-Err-At.field-0-is at c.in-Err-At.ensures.fault in
+    record {
+      spot = c.in-Err-At.spot;
+      word = c.in-Err-At.word.now;
+      fault = rw (c.in-Err-At.spot-is, c.in-Err-At.word-is) first;
+      written = subst (λ bytes. Appends (g.K.Sink.written c.args.out.now) (g.K.Sink.written c.refuse_at.new.out) (spot_line c.in-Err-At.spot bytes))
+          c.as_bytes.ensures.value (c.refuse_at.ensures.written faulty);
+    }
+
+pub returns-then-write_all-clause-done : goal.returns-then-write_all-clause-done
+returns-then-write_all-clause-done g c = λ done.
+    let yes : IsTrue c.write_all.result = search rules in
+    record {
+      table = c.in-Ok.ensures.checked.0;
+      checks = c.in-Ok.ensures.checked.1;
+      written = subst (λ (bytes : List ℕ). Appends (g.K.Sink.written c.args.out.now) (g.K.Sink.written c.write_all.new.out) bytes)
+          (c.as_slice.ensures ∙ c.in-Ok.ensures.checked.2) (c.write_all.ensures.done yes);
+    }

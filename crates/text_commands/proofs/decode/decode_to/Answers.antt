@@ -1,0 +1,31 @@
+use Rattle.std.proofs.Common.{◌≡◌, ◌∙◌, List, ℕ, Err, sym, subst}
+use Rattle.std.specs.Io.KnownBytes.{Appends}
+use Rattle.text_commands.specs.FaultLines.{fault_line}
+use Rattle.text_commands.specs.Decoded.CutsText.{in_text, in_stream}
+use Rattle.text_commands.specs.DecodeInput.{IsTextFault}
+use Rattle.text_commands.specs.Decoding.{IsCutAt}
+use Rattle.text_commands.specs.declared.decoding.Cut.TheVariants.{Fault}
+use Rattle.text_commands.proofs.DecodeTexts.{told_fault}
+use Rattle.text_commands.proofs.KnownBytes.{appends-more}
+use Rattle.text_commands.proofs.decode.decode_to.Goals as goal
+use Rattle.text_commands.proofs.decode.decode_to.Goals.{in-Ok, in-Err}
+
+pub returns-in-Err-Fault-clause-cut : goal.returns-in-Err-Fault-clause-cut
+returns-in-Err-Fault-clause-cut g c = λ faulty.
+    let old = g.K.Sink.written c.args.out.now in
+    let new = g.K.Sink.written c.refuse.new.out in
+    let place = c.in-Err-Fault.place in
+    let word = c.in-Err-Fault.word in
+    let fault : c.in-Err-Fault.field-0 ≡ Fault place word = rw c.in-Err-Fault.is at c.in-Err-Fault.field-0-is in
+    let written : Appends (g.K.Sink.written c.match-read_head.out) new (fault_line place word.now) =
+    subst (λ bytes. Appends (g.K.Sink.written c.match-read_head.out) new (fault_line place bytes)) c.as_bytes.ensures.value (c.refuse.ensures.written faulty) in
+    elim c.match-read_head.branch [
+      | in-Ok w ↦
+          let mid = g.K.Sink.written w.decode_stream-told.new.out in
+          let behind : Appends mid new (fault_line place word.now) = subst (λ out. Appends (g.K.Sink.written out) new (fault_line place word.now)) w.out-is written in
+          let cut = told_fault (λ p w'. (lines : List ℕ) × IsCutAt w.in-Ok.table 0 w.in-Ok.stream.now lines p w' × Appends old mid lines) w.decode_stream-told.result c.in-Err-Fault.field-0 place word (sym w.told-is ∙ c.in-Err-Fault.is) fault w.decode_stream-told.ensures.cut in
+          in_stream w.in-Ok.table w.in-Ok.stream.now cut.0 place word.now w.in-Ok.ensures.read cut.1 (appends-more old mid new cut.0 (fault_line place word.now) cut.2 behind)
+      | in-Err w ↦
+          let first : IsTextFault c.args.text.now place word.now = told_fault (IsTextFault c.args.text.now) (Err w.in-Err.cut) c.in-Err-Fault.field-0 place word (sym w.told-is ∙ c.in-Err-Fault.is) fault w.in-Err.ensures.cut in
+          in_text place word.now first (subst (λ out. Appends (g.K.Sink.written out) new (fault_line place word.now)) w.out-is written)
+    ]

@@ -1,0 +1,85 @@
+-- What `audit` tells of an audit: whether its history is legal, or the first fault of the input.
+use Rattle.std.specs.Prelude.{◌≡◌, ℕ, ◌+◌, List, [], ◌∷◌, codes, Option, ◌<◌, ◌^◌}
+use Rattle.std.specs.Fmt.{decimal}
+use Rattle.std.specs.Io.KnownBytes.{Appends}
+use Rattle.mrpc_table.specs.Text.{line}
+use Rattle.mrpc_table.specs.declared.table.Table.{Table}
+use Rattle.policy_blocks.specs.Declarations.{Declared}
+use Rattle.script_words.specs.Reasons.{reason_word}
+use Rattle.script_words.specs.declared.fault.ScriptReason.{ScriptReason}
+use Rattle.audit_input.specs.Inputs.{Says, IsFault}
+use Rattle.audit_rules.specs.declared.rule.Rule.{Rule}
+use Rattle.audit_rules.specs.declared.rule.Rule.TheVariants.{A, B, C, D, E, F, G, Stands}
+use Rattle.audit_check.specs.Checking.{IsChecked, IsFirstBad}
+use Rattle.audit_check.specs.declared.checked.Checked.{Checked}
+use Rattle.audit_check.specs.declared.checked.Checked.TheVariants.{Legal, Illegal}
+use Rattle.text_commands.specs.FaultLines.{fault_line}
+use Rattle.text_commands.specs.declared.audit.AuditFailure.{AuditFailure}
+use Rattle.text_commands.specs.declared.audit.AuditFailure.TheVariants.{At, Memory}
+
+-- the word of a rule
+abbrev pub rule_word : Rule → List ℕ
+rule_word A = codes "a"
+rule_word B = codes "b"
+rule_word C = codes "c"
+rule_word D = codes "d"
+rule_word E = codes "e"
+rule_word F = codes "f"
+rule_word G = codes "g"
+rule_word Stands = codes "stands"
+
+-- what is written of a text that stands behind so many lines of the input
+abbrev pub answer_line : ℕ → Checked → List ℕ
+answer_line before (Legal happenings stands) = line (codes "legal" ∷ decimal happenings ∷ decimal stands ∷ [])
+answer_line before (Illegal at rule) = line (codes "illegal" ∷ decimal (before + at) ∷ rule_word rule ∷ [])
+
+-- the input says a table, policies, a limit of loads and the text of an audit, of which this is written
+pub record IsAnswer (input answer : List ℕ) : Type 0 where
+  pub loads : ℕ
+  pub table : Table
+  pub declared : Declared
+  pub text : List ℕ
+  pub before : ℕ
+  pub says : Says input loads table declared text before
+  pub checked : Checked
+  pub is_checked : IsChecked table declared loads text checked
+  pub answer_is : answer ≡ answer_line before checked
+
+-- The first fault of an input, as it is printed: its line and a word. It is one of the lines up to `audit`, or the
+-- first line behind that is no line of an audit text.
+pub data IsAuditFault (input : List ℕ) (at : ℕ) (word : List ℕ) : Type 0 where
+  in_front : (reason : ScriptReason) → IsFault input at reason → word ≡ reason_word reason
+      → IsAuditFault input at word
+  in_text : (loads : ℕ) (T : Table) (d : Declared) (text : List ℕ) (before bad : ℕ)
+      → Says input loads T d text before → IsFirstBad T d text bad → at ≡ before + bad
+      → word ≡ codes "Audit" → IsAuditFault input at word
+
+-- what a fault says of an input; running out of memory says nothing
+abbrev pub IsFailureOf : List ℕ → AuditFailure → Type 0
+IsFailureOf input (At at word) = IsAuditFault input at word.now
+IsFailureOf input Memory = Unit {0}
+
+-- ---- what the command does
+
+-- an input was answered
+pub record AuditsText (input : List ℕ) (out out' : Option (List ℕ)) : Type 0 where
+  pub answer : List ℕ
+  pub is_answer : IsAnswer input answer
+  pub written : Appends out out' answer
+
+-- an input was refused: its first fault was written
+pub record RefusesAudit (input : List ℕ) (out out' : Option (List ℕ)) : Type 0 where
+  pub at : ℕ
+  pub word : List ℕ
+  pub fault : IsAuditFault input at word
+  pub written : Appends out out' (fault_line at word)
+
+abbrev pub HasAuditFault : List ℕ → Type 0
+HasAuditFault input = (at : ℕ) × (word : List ℕ) × IsAuditFault input at word
+
+-- ---- numbers of lines
+
+-- the line that an answer names can be counted in 64 bits behind so many lines
+abbrev pub IsNear : ℕ → Checked → Type 0
+IsNear before (Legal happenings stands) = Unit {0}
+IsNear before (Illegal at rule) = before + at < 2 ^ 64

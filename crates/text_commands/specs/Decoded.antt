@@ -1,0 +1,31 @@
+-- What `decode` does with the text of an input.
+use Rattle.std.specs.Prelude.{ℕ, List, ◌++◌, Option}
+use Rattle.std.specs.Io.KnownBytes.{Appends}
+use Rattle.mrpc_table.specs.declared.table.Table.{Table}
+use Rattle.text_commands.specs.DecodeInput.{Holds, IsTextFault}
+use Rattle.text_commands.specs.Decoding.{IsDecoded, IsCutAt}
+use Rattle.text_commands.specs.FaultLines.{fault_line}
+
+-- a text is a table's text and whole frames behind it, and their lines were written
+pub record DecodesText (text : List ℕ) (out out' : Option (List ℕ)) : Type 0 where
+  pub table : Table
+  pub stream : List ℕ
+  pub holds : Holds text table stream
+  pub lines : List ℕ
+  pub decoded : IsDecoded table stream lines
+  pub written : Appends out out' lines
+
+-- A text was decoded up to its first fault, whose line was written: a fault of the table's text, or of the frames,
+-- behind the lines of those in front of it.
+pub data CutsText (text : List ℕ) (out out' : Option (List ℕ)) : Type 0 where
+  in_text : (line : ℕ) (word : List ℕ) → IsTextFault text line word → Appends out out' (fault_line line word)
+      → CutsText text out out'
+  in_stream : (table : Table) (stream lines : List ℕ) (place : ℕ) (word : List ℕ) → Holds text table stream
+      → IsCutAt table 0 stream lines place word → Appends out out' (lines ++ fault_line place word)
+      → CutsText text out out'
+
+-- a line is at fault, or the stream
+pub data HasDecodeFault (text : List ℕ) : Type 0 where
+  fault_in_text : (line : ℕ) (word : List ℕ) → IsTextFault text line word → HasDecodeFault text
+  fault_in_stream : (table : Table) (stream lines : List ℕ) (place : ℕ) (word : List ℕ) → Holds text table stream
+      → IsCutAt table 0 stream lines place word → HasDecodeFault text

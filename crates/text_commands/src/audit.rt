@@ -1,0 +1,171 @@
+//! Checking an audit: whether it is that of a legal history, or the first fault of the input.
+
+ghost use Rattle.std.specs.Prelude.{◌≡◌, ◌≢◌, ◌≤◌, ◌++◌, List, ℕ, length, IfOk, IfErr, OnOk};
+ghost use Rattle.mrpc_base.specs.Faults.{HasCause};
+ghost use Rattle.mrpc_table.specs.Valid.{IsValid};
+ghost use Rattle.policy_blocks.specs.Declarations.{IsSound};
+ghost use Rattle.audit_input.specs.Inputs.{Says};
+ghost use Rattle.text_commands.specs.Auditing.{AuditsText, IsAnswer, IsAuditFault, IsFailureOf, IsNear, RefusesAudit, answer_line, rule_word};
+
+use crate::discard;
+use crate::laws::{audit_law, near_law};
+use crate::refusal::refuse;
+use crate::status::{
+    DONE, FAULTY_INPUT, INPUT_FAILED, INPUT_LIMIT, NO_COMMAND, NO_MEMORY, OUTPUT_FAILED,
+};
+use audit_check::{Checked, check_audit};
+use audit_input::{AuditInput, read_audit_input};
+use audit_rules::Rule;
+use audit_text::AuditFault;
+use mrpc_base::{Sink, write_all};
+use mrpc_table::{Bytes, Memory};
+use script_words::ScriptFault;
+use std::alloc::Global;
+
+/// Why an audit isn't judged.
+#[derive(Drop, Clone, Copy)]
+enum AuditFailure {
+    /// The input has its first fault on this line; this is the word of its reason.
+    At { line: u64, word: &'static str },
+    /// No memory was found.
+    Memory,
+}
+
+impl From<Memory> for AuditFailure {
+    ghost use Rattle.std.specs.Prelude.{◌≡◌};
+    ghost use Rattle.text_commands.specs.declared.audit.AuditFailure.TheVariants.{Memory as NoMemory};
+
+    ghost from_gives = { λ _ failure. failure ≡ NoMemory };
+
+    fn from(_: Memory) -> AuditFailure {
+        AuditFailure::Memory
+    }
+}
+
+/// An input has one answer or one first fault, and never both.
+pub fn one_audit()
+    ensures answers { (input one other : List ℕ) → IsAnswer input one → IsAnswer input other → one ≡ other }
+    ensures faults { (input word spelled : List ℕ) (line at : ℕ) → IsAuditFault input line word
+        → IsAuditFault input at spelled → (line ≡ at) × (word ≡ spelled) }
+    ensures never_both { (input answer word : List ℕ) (line : ℕ) → IsAnswer input answer
+        → IsAuditFault input line word → ⊥ }
+    ensures never_neither { (input : List ℕ) → ((answer : List ℕ) → IsAnswer input answer → ⊥)
+        → ((line : ℕ) (word : List ℕ) → IsAuditFault input line word → ⊥) → ⊥ }
+{
+    audit_law();
+}
+
+/// Reads an audit with the table and the policies that it is judged under, in an input of at most [`INPUT_LIMIT`] bytes,
+/// and writes whether its history is legal, or the first fault of the input as one line.
+pub fn audit_to<K: Sink>(alloc: Global, text: &[u8], out: &mut K) -> u8
+    requires short { length text.now ≤ INPUT_LIMIT }
+    ensures statuses { result ≤ OUTPUT_FAILED }
+    ensures some { (result ≢ NO_COMMAND) × (result ≢ INPUT_FAILED) }
+    ensures done { result ≡ DONE → AuditsText text.now (K.written out.old) (K.written out.new) }
+    ensures faulty { result ≡ FAULTY_INPUT → RefusesAudit text.now (K.written out.old) (K.written out.new) }
+    ensures out_cause { HasCause (result ≡ OUTPUT_FAILED) (K.faults out.old) (K.faults out.new) }
+{
+    match audited_text(alloc, text) {
+        Ok(answer) => {
+            if write_all(out, answer.as_slice()) {
+                DONE
+            } else {
+                OUTPUT_FAILED
+            }
+        }
+        Err(AuditFailure::At { line, word }) => refuse(alloc, line, word.as_bytes(), out),
+        Err(AuditFailure::Memory) => NO_MEMORY,
+    }
+}
+
+// The line that is written of an audit: whether it is that of a legal history.
+fn audited_text(alloc: Global, input: &[u8]) -> Result<Bytes, AuditFailure>
+    requires short { length input.now ≤ INPUT_LIMIT }
+    ensures answer { IfOk result (IsAnswer input.now) }
+    ensures failure { IfErr result (IsFailureOf input.now) }
+{
+    match read_audit_input(alloc, input) {
+        Ok(read) => {
+            let answer = judged(alloc, &read);
+            discard(read);
+            answer
+        }
+        Err(ScriptFault::At { line, reason }) => Err(AuditFailure::At {
+            line,
+            word: reason.word(),
+        }),
+        Err(ScriptFault::Memory) => Err(AuditFailure::Memory),
+    }
+}
+
+// The same, of an input that was read.
+fn judged(alloc: Global, read: &AuditInput<'_>) -> Result<Bytes, AuditFailure>
+    requires short { (input : List ℕ)
+        × Says input read.now.loads read.now.table read.now.declared read.now.text.now read.now.line
+        × (length input ≤ INPUT_LIMIT) }
+    requires valid { IsValid read.now.table }
+    requires sound { IsSound read.now.declared }
+    ensures answer { (input : List ℕ)
+        → Says input read.now.loads read.now.table read.now.declared read.now.text.now read.now.line
+        → IfOk result (IsAnswer input) }
+    ensures failure { (input : List ℕ)
+        → Says input read.now.loads read.now.table read.now.declared read.now.text.now read.now.line
+        → IfErr result (IsFailureOf input) }
+{
+    near_law();
+    match check_audit(alloc, &read.table, &read.declared, read.loads, read.text) {
+        Ok(checked) => Ok(answer_line(alloc, read.line, checked)?),
+        Err(AuditFault::Bad { line }) => Err(AuditFailure::At {
+            line: read.line + line,
+            word: "Audit",
+        }),
+        Err(AuditFault::Memory) => Err(AuditFailure::Memory),
+    }
+}
+
+// What is written of a text that stands behind so many lines of the input.
+fn answer_line(alloc: Global, before: u64, checked: Checked) -> Result<Bytes, Memory>
+    requires { IsNear before checked }
+    ensures { IfOk result (λ line. line ≡ answer_line before checked) }
+{
+    let mut line = Bytes::new(alloc);
+    append_answer(&mut line, before, checked)?;
+    Ok(line)
+}
+
+fn append_answer(line: &mut Bytes, before: u64, checked: Checked) -> Result<(), Memory>
+    requires { IsNear before checked }
+    ensures { OnOk result (line.new ≡ line.old ++ answer_line before checked) }
+{
+    match checked {
+        Checked::Legal { happenings, stands } => {
+            line.append(b"legal")?;
+            line.append_word(happenings)?;
+            line.append_word(stands)?;
+            line.append(b"\n")
+        }
+        Checked::Illegal { line: at, rule } => {
+            line.append(b"illegal")?;
+            line.append_word(before + at)?;
+            line.append(b" ")?;
+            line.append(rule_word(rule).as_bytes())?;
+            line.append(b"\n")
+        }
+    }
+}
+
+// The word of a rule.
+fn rule_word(rule: Rule) -> &'static str
+    ensures { result.now ≡ rule_word rule }
+{
+    match rule {
+        Rule::A => "a",
+        Rule::B => "b",
+        Rule::C => "c",
+        Rule::D => "d",
+        Rule::E => "e",
+        Rule::F => "f",
+        Rule::G => "g",
+        Rule::Stands => "stands",
+    }
+}

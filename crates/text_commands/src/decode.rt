@@ -1,0 +1,67 @@
+//! Decoding the text of an input: a line for each frame, or the first fault.
+
+ghost use Rattle.std.specs.Prelude.{◌≡◌, ◌≢◌, ◌<◌, ◌≤◌, ◌⊎◌, List, ℕ, length, All};
+ghost use Rattle.mrpc_base.specs.Faults.{HasCause};
+ghost use Rattle.mrpc_table.specs.declared.table.Table.{Table};
+ghost use Rattle.text_commands.specs.DecodeInput.{Holds, IsTextFault};
+ghost use Rattle.text_commands.specs.Decoded.{CutsText, DecodesText};
+ghost use Rattle.text_commands.specs.Decoding.{IsCutAt, IsDecoded};
+
+use crate::decode_input::read_head;
+use crate::decoding::{Cut, decode_stream};
+use crate::laws::{meaning_law, text_law};
+use crate::refusal::refuse;
+use crate::status::{
+    DONE, FAULTY_INPUT, INPUT_FAILED, INPUT_LIMIT, NO_COMMAND, NO_MEMORY, OUTPUT_FAILED,
+};
+use mrpc_base::Sink;
+use std::alloc::Global;
+
+/// Reads a table's text and the frames behind it, of at most [`INPUT_LIMIT`] bytes, and writes a line for each frame. The
+/// first fault of the text is written as a line `fault LINE REASON`, one of the frames as `fault PLACE REASON` behind the
+/// lines of those in front of it.
+pub fn decode_to<K: Sink>(alloc: Global, text: &[u8], out: &mut K) -> u8
+    requires short { length text.now ≤ INPUT_LIMIT }
+    ensures statuses { result ≤ OUTPUT_FAILED }
+    ensures some { (result ≢ NO_COMMAND) × (result ≢ INPUT_FAILED) }
+    ensures done { result ≡ DONE → DecodesText text.now (K.written out.old) (K.written out.new) }
+    ensures cut { result ≡ FAULTY_INPUT → CutsText text.now (K.written out.old) (K.written out.new) }
+    ensures out_cause { HasCause (result ≡ OUTPUT_FAILED) (K.faults out.old) (K.faults out.new) }
+{
+    let told = match read_head(alloc, text) {
+        Ok((table, stream)) => decode_stream(alloc, &table, stream, out),
+        Err(cut) => Err(cut),
+    };
+    match told {
+        Ok(()) => DONE,
+        Err(Cut::Fault { place, word }) => refuse(alloc, place, word.as_bytes(), out),
+        Err(Cut::Memory) => NO_MEMORY,
+        Err(Cut::Out) => OUTPUT_FAILED,
+    }
+}
+
+/// A text has one decoding. It is of one table and one stream or has one first fault, and never both; and a stream of
+/// bytes is frames to its end, with their lines, or has one first fault, with the lines in front of it, and never both.
+pub fn one_decoding()
+    ensures parts { (text stream other : List ℕ) (T U : Table) → Holds text T stream → Holds text U other
+        → (T ≡ U) × (stream ≡ other) }
+    ensures text_fault { (text word spelled : List ℕ) (line at : ℕ) → IsTextFault text line word
+        → IsTextFault text at spelled → (line ≡ at) × (word ≡ spelled) }
+    ensures no_text_fault { (text stream word : List ℕ) (T : Table) (line : ℕ) → Holds text T stream
+        → IsTextFault text line word → ⊥ }
+    ensures text_or_fault { (text : List ℕ) → ((T : Table) × (stream : List ℕ) × Holds text T stream)
+        ⊎ ((line : ℕ) × (word : List ℕ) × IsTextFault text line word) }
+    ensures lines { (T : Table) (stream told other : List ℕ) → IsDecoded T stream told → IsDecoded T stream other
+        → told ≡ other }
+    ensures cut { (T : Table) (stream told other word spelled : List ℕ) (place at : ℕ)
+        → IsCutAt T 0 stream told place word
+        → IsCutAt T 0 stream other at spelled → (place ≡ at) × (word ≡ spelled) × (told ≡ other) }
+    ensures no_cut { (T : Table) (stream told other word : List ℕ) (place : ℕ) → IsDecoded T stream told
+        → IsCutAt T 0 stream other place word → ⊥ }
+    ensures lines_or_cut { (T : Table) (stream : List ℕ) → All (λ byte. byte < 256) stream
+        → ((told : List ℕ) × IsDecoded T stream told)
+        ⊎ ((told : List ℕ) × (place : ℕ) × (word : List ℕ) × IsCutAt T 0 stream told place word) }
+{
+    text_law();
+    meaning_law();
+}

@@ -1,0 +1,61 @@
+//! The text in front of a stream of frames: two lines, the text of a table, and an `end` line.
+
+ghost use Rattle.std.specs.Prelude.{◌≡◌, ◌≢◌, ◌<◌, ◌^◌, length, IfOk, IfErr, Err};
+ghost use Rattle.mrpc_table.specs.Valid.{IsValid};
+ghost use Rattle.mrpc_table.specs.Text.{table_text};
+ghost use Rattle.text_commands.specs.DecodeInput.{OnFault, Holds, IsTextFault, IsFaultOfTable};
+
+use crate::decoding::Cut;
+use mrpc_table::{Table, line_count};
+use std::alloc::Global;
+use table_text::{TableFault, one_fault, read_table, split_table};
+
+const FIRST_LINE: &[u8] = b"mrpc-decode 1\n";
+
+const SECOND_LINE: &[u8] = b"table\n";
+
+const HEAD: &[u8] = b"mrpc-decode 1\ntable\n";
+
+/// The table that an input's text has, and the stream behind it.
+pub(crate) fn read_head(alloc: Global, text: &[u8]) -> Result<(Table, &[u8]), Cut>
+    requires short { length text.now < 2 ^ 63 }
+    ensures read { IfOk result (λ parts. Holds text.now parts.0 parts.1.now) }
+    ensures cut { IfErr result (OnFault (IsTextFault text.now)) }
+    ensures not_out { result ≢ Err Cut.Out }
+{
+    let Some(behind) = text.strip_prefix(FIRST_LINE) else {
+        return Err(fault(1, "Header"));
+    };
+    let Some(rest) = behind.strip_prefix(SECOND_LINE) else {
+        return Err(fault(2, "Word"));
+    };
+    match split_table(text, HEAD) {
+        Some((table, stream)) => Ok((read_lines(alloc, table)?, stream)),
+        None => {
+            read_lines(alloc, rest)?;
+            Err(fault(line_count(text) as u64 + 1, "Word"))
+        }
+    }
+}
+
+fn fault(place: u64, word: &'static str) -> Cut
+    ensures fault { OnFault (λ p w. (p ≡ place) × (w ≡ word.now)) result }
+    ensures not_out { result ≢ Cut.Out }
+{
+    Cut::Fault { place, word }
+}
+
+// The table of a text that begins in the third line.
+fn read_lines(alloc: Global, text: &[u8]) -> Result<Table, Cut>
+    requires short { length text.now < 2 ^ 63 }
+    ensures read { IfOk result (λ t. IsValid t × (text.now ≡ table_text t)) }
+    ensures cut { IfErr result (OnFault (IsFaultOfTable text.now)) }
+    ensures not_out { result ≢ Err Cut.Out }
+{
+    one_fault();
+    match read_table(alloc, text) {
+        Ok(table) => Ok(table),
+        Err(TableFault::At { line, reason }) => Err(fault(line + 2, reason.word())),
+        Err(TableFault::Memory) => Err(Cut::Memory),
+    }
+}
