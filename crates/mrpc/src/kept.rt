@@ -20,11 +20,21 @@ const FAULT: &[u8] = b"fault ";
 const LONGEST: usize = 64;
 
 /// A source whose bytes are kept as they are read.
-#[derive(Drop)]
 pub(crate) struct KeptSource<S: Source + Drop> {
     source: S,
     bytes: Bytes,
     is_whole: bool,
+}
+
+// By hand, as of the sink below, so that a drop is one call where it is needed, and not a drop of each part.
+impl<S: Source + Drop> Drop for KeptSource<S> {
+    fn drop(self) {
+        let KeptSource {
+            source: _source,
+            bytes: _bytes,
+            is_whole: _,
+        } = self;
+    }
 }
 
 impl<S: Source + Drop> KeptSource<S> {
@@ -77,13 +87,24 @@ impl<S: Source + Drop> Source for KeptSource<S> {
 
 /// A sink of which the line of a fault is kept, and the number of calls that a run tells of. The commands write a fault
 /// in a piece of its own, and a run all that it tells. What is shown of the run is taken away before that.
-#[derive(Drop)]
 pub(crate) struct KeptSink<'r, R, K: Sink + Drop> {
     sink: K,
     alloc: Global,
     fault: Bytes,
     calls: Option<u64>,
     progress: &'r Progress<'r, R>,
+}
+
+impl<'r, R, K: Sink + Drop> Drop for KeptSink<'r, R, K> {
+    fn drop(self) {
+        let KeptSink {
+            sink: _sink,
+            alloc: _,
+            fault: _fault,
+            calls: _,
+            progress: _,
+        } = self;
+    }
 }
 
 impl<'r, R: Eprint + Clock, K: Sink + Drop> KeptSink<'r, R, K> {

@@ -65,20 +65,50 @@ where
     R: Net<Stream = TcpStream, Listener = TcpListener>,
     R::File: Lock,
 {
-    let words = match words(rt) {
-        Ok(words) => words,
-        Err(WordsFault::NotText) => return say_status(rt.alloc(), NO_COMMAND, false, error),
-        Err(WordsFault::Memory) => return say_status(rt.alloc(), NO_MEMORY, false, error),
-    };
-    if let Some(asked) = asked_alone(&words) {
+    match words(rt) {
+        Ok(words) => status_of(rt, &words, input, out, error, progress),
+        Err(WordsFault::NotText) => say_status(rt.alloc(), NO_COMMAND, false, error),
+        Err(WordsFault::Memory) => say_status(rt.alloc(), NO_MEMORY, false, error),
+    }
+}
+
+// The same of these words.
+fn status_of<R, S: Source + Drop, K: Sink + Drop, E: Sink>(
+    rt: &R,
+    words: &Vec<String>,
+    input: &mut KeptSource<S>,
+    out: &mut KeptSink<'_, R, K>,
+    error: &mut E,
+    progress: &Progress<'_, R>,
+) -> u8
+where
+    R: Threads + Wait + Sync + Clock + Files + Eprint + AllocGlobal,
+    R: Net<Stream = TcpStream, Listener = TcpListener>,
+    R::File: Lock,
+{
+    if let Some(asked) = asked_alone(words) {
         let status = answer(rt.alloc(), asked, out);
         return say_status(rt.alloc(), status, false, error);
     }
-    let status = run_words(rt, &words, input, out, progress);
+    let status = run_words(rt, words, input, out, progress);
     progress.clear();
+    say_end(rt.alloc(), words, status, input, out, error, progress);
+    say_status(rt.alloc(), status, runs(words), error)
+}
+
+// Says what stands against the input, which words are no command, or how many calls a run told of.
+fn say_end<R: Eprint + Clock, S: Source + Drop, K: Sink + Drop, E: Sink>(
+    alloc: Global,
+    words: &[String],
+    status: u8,
+    input: &KeptSource<S>,
+    out: &KeptSink<'_, R, K>,
+    error: &mut E,
+    progress: &Progress<'_, R>,
+) {
     match words.first() {
-        Some(word) if status == FAULTY_INPUT => tell(rt.alloc(), word, input, out, error),
-        Some(_) if status == NO_COMMAND => say_words(rt.alloc(), &words, error),
+        Some(word) if status == FAULTY_INPUT => tell(alloc, word, input, out, error),
+        Some(_) if status == NO_COMMAND => say_words(alloc, words, error),
         Some(_) if status == DONE || status == LINK_FAILED => {
             if let Some(calls) = out.calls() {
                 progress.close(calls);
@@ -86,7 +116,6 @@ where
         }
         _ => {}
     }
-    say_status(rt.alloc(), status, runs(&words), error)
 }
 
 // Whether it is a run that the words name, if they name a command that sends.

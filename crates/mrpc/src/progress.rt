@@ -13,7 +13,6 @@ const EVERY: u64 = 1000;
 
 /// How a run goes, on standard error where that is a terminal: one line, which the worker writes anew that asks the gate
 /// once it is due, and at the end a line that stays. Elsewhere nothing is shown.
-#[derive(Drop)]
 pub(crate) struct Progress<'r, R> {
     rt: &'r R,
     // None where the system told no time then.
@@ -25,6 +24,21 @@ pub(crate) struct Progress<'r, R> {
     due: AtomicU64,
     // Whether the line stands on the terminal.
     stands: AtomicBool,
+}
+
+// By hand, so that a drop is one call where it is needed, and not a drop of each part.
+impl<'r, R> Drop for Progress<'r, R> {
+    fn drop(self) {
+        let Progress {
+            rt: _,
+            start: _,
+            tally: _tally,
+            is_shown: _,
+            began: _,
+            due: _,
+            stands: _,
+        } = self;
+    }
 }
 
 /// No round has begun.

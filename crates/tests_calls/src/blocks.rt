@@ -2,24 +2,22 @@
 
 use receive_heap::Extents;
 use std::alloc::Global;
-use std::test::Fail;
+use std::process::Abort;
 
 /// The orders of eight blocks.
 const ORDERS: u32 = 40320;
 
 // Eight blocks of two words, which fill a heap.
-fn full(alloc: Global) -> Result<Extents, Fail> {
-    let mut extents = Extents::open(alloc, 17)?;
+fn full(rt: &impl Abort, alloc: Global) -> Extents {
+    let mut extents = Extents::open(alloc, 17).expect(rt, "memory");
     for _ in 0..8_u64 {
-        extents.take(2)?;
+        extents.take(2).expect(rt, "a block");
     }
-    Ok(extents)
+    extents
 }
 
-// The words of the largest hole once the blocks were taken back, in the order that a number tells; none where one of
-// them wasn't held.
-fn largest_after(alloc: Global, order: u32) -> Result<Option<u64>, Fail> {
-    let mut extents = full(alloc)?;
+// Takes the blocks back in the order that a number tells; whether each was held.
+fn are_held(extents: &mut Extents, order: u32) -> bool {
     let mut left: [u64; 8] = [1, 2, 3, 4, 5, 6, 7, 8];
     let mut order = order;
     for taken in 0..8_u32 {
@@ -27,17 +25,26 @@ fn largest_after(alloc: Global, order: u32) -> Result<Option<u64>, Fail> {
         let at = (order % many) as usize;
         order /= many;
         if extents.reclaim(left[at]).is_err() {
-            return Ok(None);
+            return false;
         }
         left[at] = left[many as usize - 1];
     }
-    Ok(Some(extents.largest()))
+    true
+}
+
+// The words of the largest hole once the blocks were taken back in an order; 0 where one of them wasn't held.
+fn largest_after(rt: &impl Abort, alloc: Global, order: u32) -> u64 {
+    let mut extents = full(rt, alloc);
+    if are_held(&mut extents, order) {
+        extents.largest()
+    } else {
+        0
+    }
 }
 
 #[test]
-fn blocks_are_taken_back_in_every_order(rt: HostRuntime) -> Result<(), Fail> {
+fn blocks_are_taken_back_in_every_order(rt: HostRuntime) {
     for order in 0..ORDERS {
-        assert!(rt; largest_after(rt.alloc(), order)? == Some(16));
+        assert!(rt; largest_after(&rt, rt.alloc(), order) == 16);
     }
-    Ok(())
 }

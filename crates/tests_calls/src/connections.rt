@@ -1,12 +1,10 @@
 //! Connections whose steps are refused, whose link fails, that end, and that find no memory.
 
 use crate::connection::{Scene, Stepped};
-use crate::given::{SMALL, discard_table, table_of};
+use crate::discard;
+use crate::given::{SMALL, table_of};
 use conn_core::Drained;
 use std::process::Abort;
-
-// Each test hands its scene over to be dropped here.
-fn discard(_scene: Scene) {}
 
 // Frames of the message with 7 in its first field.
 const FIRST_WITH_7: &[u8] =
@@ -37,7 +35,7 @@ fn a_refused_step_is_no_happening(rt: HostRuntime) {
     let mut scene = Scene::open(&rt, rt.alloc(), &table, 0);
     refuse_steps(&rt, &mut scene);
     discard(scene);
-    discard_table(table);
+    discard(table);
 }
 
 fn fail_a_sending(rt: &impl Abort, scene: &mut Scene) {
@@ -61,7 +59,7 @@ fn behind_a_failed_sending_no_call_is_accepted(rt: HostRuntime) {
     let mut scene = Scene::open(&rt, rt.alloc(), &table, 2);
     fail_a_sending(&rt, &mut scene);
     discard(scene);
-    discard_table(table);
+    discard(table);
 }
 
 fn fail_while_calls_stand(rt: &impl Abort, scene: &mut Scene) {
@@ -84,7 +82,7 @@ fn a_connection_that_ends_refuses_the_calls_that_stand(rt: HostRuntime) {
     let mut scene = Scene::open(&rt, rt.alloc(), &table, 0);
     fail_while_calls_stand(&rt, &mut scene);
     discard(scene);
-    discard_table(table);
+    discard(table);
 }
 
 fn go_on_behind_a_lack_of_memory(rt: &impl Abort, scene: &mut Scene) {
@@ -109,5 +107,5 @@ fn what_finds_no_memory_leaves_the_connection_as_it_was(rt: HostRuntime) {
     let mut scene = Scene::open(&rt, rt.alloc(), &table, 0);
     go_on_behind_a_lack_of_memory(&rt, &mut scene);
     discard(scene);
-    discard_table(table);
+    discard(table);
 }

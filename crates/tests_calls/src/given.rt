@@ -32,6 +32,3 @@ pub fn with_number(rt: &impl Abort, alloc: Global, number: u64) -> Tree {
     fields.push(field).expect(rt, "memory");
     Tree { fields }
 }
-
-/// Tests hand their tables over to be dropped here: what a drop comes to is proved in each function that has one.
-pub fn discard_table(_table: Table) {}

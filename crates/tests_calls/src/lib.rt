@@ -1,9 +1,7 @@
-//! Tests of what a call goes through: the codec, its graph in a heap, a connection, the receive path, and the hellos in
-//! front. It has no code of its own, and nothing stands on it.
+//! Tests of what a call goes through: the codec, its graph in a heap, a connection, and the receive path. It has no code
+//! of its own, and nothing stands on it.
 #![tactic(auto)]
 
-#[cfg(test)]
-mod arrival_lines;
 #[cfg(test)]
 mod blocks;
 #[cfg(test)]
@@ -15,8 +13,6 @@ mod connections;
 #[cfg(test)]
 mod given;
 #[cfg(test)]
-mod hearing;
-#[cfg(test)]
 mod messages;
 #[cfg(test)]
 mod receiver;
@@ -24,3 +20,8 @@ mod receiver;
 mod receiving;
 #[cfg(test)]
 mod wanting;
+
+// What a drop comes to is proved in each function that has one. In this one it is one call, so values are handed over
+// to it.
+#[cfg(test)]
+pub(crate) fn discard<T: Drop>(_value: T) {}

@@ -2,16 +2,17 @@
 
 ghost use Rattle.std.specs.Prelude.{◌≤◌};
 
+use crate::discard;
+use crate::given::bytes_of;
 use frame_transport::FeedFault;
 use mrpc_base::{PlainWords, Stores};
-use mrpc_table::{Bytes, Lines, Memory, Table};
+use mrpc_table::{Lines, Memory, Table};
 use policy_access::{Access, read_access};
 use receive_core::{Arrival, DropCause, Inbound};
 use receive_heap::{Block, NotHeld};
 use std::alloc::Global;
 use std::marker::Model;
 use std::process::Abort;
-use std::test::Fail;
 use table_text::read_table;
 
 /// What a turn told, without its tree.
@@ -111,17 +112,11 @@ impl Scene {
     }
 
     /// One turn under the policy of a line tells this.
-    pub fn tells_under(
-        &mut self,
-        rt: &impl Abort,
-        alloc: Global,
-        line: &[u8],
-        expected: Told,
-    ) -> Result<(), Fail> {
-        let policy = self.policy_of(alloc, line)?;
+    pub fn tells_under(&mut self, rt: &impl Abort, alloc: Global, line: &[u8], expected: Told) {
+        let policy = self.policy_of(rt, alloc, line);
         let told = self.turn(Some(&policy)).expect(rt, "a turn");
+        discard(policy);
         assert!(rt; told == expected);
-        Ok(())
     }
 
     /// Takes a block back.
@@ -152,9 +147,9 @@ impl Scene {
     }
 
     // The policy of a line.
-    fn policy_of(&self, alloc: Global, line: &[u8]) -> Result<Access, Fail> {
+    fn policy_of(&self, rt: &impl Abort, alloc: Global, line: &[u8]) -> Access {
         let mut lines = Lines::new(alloc);
-        lines.push(Bytes::from_slice(alloc, line)?)?;
-        Ok(read_access(alloc, &lines, &self.table)?)
+        lines.push(bytes_of(rt, alloc, line)).expect(rt, "memory");
+        read_access(alloc, &lines, &self.table).expect(rt, "a policy")
     }
 }

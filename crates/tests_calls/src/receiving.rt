@@ -8,7 +8,6 @@ use receive_heap::{Block, NotHeld};
 use std::alloc::Global;
 use std::process::Abort;
 use std::slice;
-use std::test::Fail;
 use wire_decode::DecodeReason;
 
 // A request with 150 in its field.
@@ -100,7 +99,7 @@ fn frames_are_dropped_by_their_first_cause(rt: HostRuntime) {
 }
 
 #[test]
-fn the_policy_of_the_turn_counts(rt: HostRuntime) -> Result<(), Fail> {
+fn the_policy_of_the_turn_counts(rt: HostRuntime) {
     let mut scene = Scene::open(&rt, rt.alloc(), SMALL, 4);
     assert!(rt; scene.feed(REQUEST));
     assert!(rt; scene.feed(REQUEST));
@@ -111,9 +110,8 @@ fn the_policy_of_the_turn_counts(rt: HostRuntime) -> Result<(), Fail> {
     };
     scene.tells(&rt, waiting);
     let denied = Told::Dropped(1, DropCause::Denied { rule: 0 });
-    scene.tells_under(&rt, rt.alloc(), b"default deny", denied)?;
+    scene.tells_under(&rt, rt.alloc(), b"default deny", denied);
     scene.tells(&rt, Told::Nothing);
-    Ok(())
 }
 
 // Two frames whose bytes come in two pieces, cut at a place, arrive, and nothing behind them.

@@ -7,6 +7,8 @@ mod ends;
 #[cfg(test)]
 mod gates;
 #[cfg(test)]
+mod left;
+#[cfg(test)]
 mod lines;
 #[cfg(test)]
 mod prepared;
@@ -20,3 +22,8 @@ mod streams;
 mod threads;
 #[cfg(test)]
 mod turns;
+
+// What a drop comes to is proved in each function that has one. In this one it is one call, so values are handed over
+// to it.
+#[cfg(test)]
+pub(crate) fn discard<T: Drop>(_value: T) {}

@@ -2,12 +2,12 @@
 
 ghost use Rattle.run_plan.specs.Plans.{IsPlan};
 
+use crate::discard;
 use crate::gates::CountingGate;
 use crate::prepared::{Prepared, PreparedFabric};
-use crate::runs::{ONE_CALL, plan_of, ran};
+use crate::runs::{ONE_CALL, Told, plan_of, ran};
 use crate::streams::{hello_of, longest, nested, push_request};
 use run_plan::Plan;
-use scenario_run::Run;
 use std::alloc::Global;
 use std::process::Abort;
 use std::sync::Wait;
@@ -31,51 +31,87 @@ fn listener(rt: &impl Abort, alloc: Global) -> Plan
     plan_of(rt, alloc, "workers = 1\n", LISTENER)
 }
 
-// A run in which connection 1 has this end of its link.
+// What a run tells in which connection 1 has this end of its link.
 fn ran_with<R: Abort + Threads + Wait + Sync>(
     rt: &R,
     alloc: Global,
-    plan: &Plan,
+    plan: Plan,
     end: Prepared,
-) -> Run
-    requires { IsPlan plan.now }
+) -> Told
+    requires { IsPlan plan }
 {
     let other = Prepared::giving(alloc, Vec::new(alloc));
-    let mut fabric = PreparedFabric::new(rt, alloc, end, other);
-    let gate = CountingGate::new();
-    ran(rt, alloc, plan, &mut fabric, &gate)
+    let fabric = PreparedFabric::new(rt, alloc, end, other);
+    ran(rt, alloc, plan, fabric, &CountingGate::new())
 }
 
-// These lines of connection 1, and the rest, are what a run tells.
-fn assert_lines(rt: &impl Abort, alloc: Global, run: &Run, lines: &[u8]) {
+// The run told these lines of connection 1, and the rest.
+fn assert_lines(rt: &impl Abort, alloc: Global, told: &Told, lines: &[u8]) {
     let mut expected = lines.to_vec(alloc).expect(rt, "memory");
     expected.extend_from_slice(REST).expect(rt, "memory");
-    assert!(rt; run.text.as_slice() == expected.as_slice());
+    assert!(rt; told.text.as_slice() == expected.as_slice());
 }
 
-// A listener that is given these bytes tells these lines.
-fn assert_heard<R: Abort + Threads + Wait + Sync>(
+// A listener whose link is this one tells these lines, and no call of the link fails.
+fn assert_told<R: Abort + Threads + Wait + Sync>(
     rt: &R,
     alloc: Global,
-    bytes: &[u8],
+    end: Prepared,
     lines: &[u8],
 ) {
-    let bytes = bytes.to_vec(alloc).expect(rt, "memory");
-    let plan = listener(rt, alloc);
-    let run = ran_with(rt, alloc, &plan, Prepared::giving(alloc, bytes));
-    assert!(rt; !run.failed);
-    assert_lines(rt, alloc, &run, lines);
+    let told = ran_with(rt, alloc, listener(rt, alloc), end);
+    assert!(rt; !told.failed);
+    assert_lines(rt, alloc, &told, lines);
+}
+
+// Bytes that a listener is given, and the lines that it tells then.
+type Row<'a> = (&'a [u8], &'a [u8]);
+
+fn assert_heard<R: Abort + Threads + Wait + Sync>(rt: &R, alloc: Global, rows: &[Row]) {
+    for (bytes, lines) in rows {
+        let bytes = bytes.to_vec(alloc).expect(rt, "memory");
+        assert_told(rt, alloc, Prepared::giving(alloc, bytes), *lines);
+    }
 }
 
 #[test]
 fn what_is_no_hello_leaves_a_connection_unbound(rt: HostRuntime) {
-    let alloc = rt.alloc();
-    assert_heard(&rt, alloc, b"", b"unbound 1 ended\n");
-    assert_heard(&rt, alloc, b"\0\0\0\0\x09", b"unbound 1 cut 4 Kind\n");
-    let request = b"\0\0\0\0\x01\x01\0\0\0\0\0\x02\0\0\0\x01";
-    assert_heard(&rt, alloc, request, b"unbound 1 hello 0\n");
-    let no_table = b"\0\0\0\x04\x03\x02\0\0\0\0\0\x02\0\0\0\0S\nx\n";
-    assert_heard(&rt, alloc, no_table, b"unbound 1 hello 2\n");
+    let rows: [Row; 10] = [
+        (b"", b"unbound 1 ended\n"),
+        (b"\0\0\0\x01\x03\x02", b"unbound 1 ended\n"),
+        (b"\0\x04\0\x01", b"unbound 1 cut 0 TooLong\n"),
+        (b"\0\0\0\0\x09", b"unbound 1 cut 4 Kind\n"),
+        (b"\0\0\0\0\x03\x03", b"unbound 1 cut 5 Version\n"),
+        (
+            b"\0\0\0\0\x01\x01\0\0\0\0\0\x02\0\0\0\x01",
+            b"unbound 1 hello 0\n",
+        ),
+        (
+            b"\0\0\0\x01\x03\x02\0\0\0\0\0\x02\0\0\0\0S",
+            b"unbound 1 hello 1\n",
+        ),
+        (
+            b"\0\0\0\x04\x03\x02\0\0\0\0\0\x02\0\0\0\0S\nx\n",
+            b"unbound 1 hello 2\n",
+        ),
+        (
+            b"\0\0\0\x02\x03\x02\0\0\0\0\0\x02\0\0\0\09\n",
+            b"unbound 1 hello 1\n",
+        ),
+        (
+            b"\0\0\0\x23\x03\x02\0\0\0\0\0\x02\0\0\0\0S\nmessage M\nfield 0 plain uint64 a\n",
+            b"unbound 1 hello 3\n",
+        ),
+    ];
+    assert_heard(&rt, rt.alloc(), &rows);
+}
+
+// The hello of a listener's peer, of a version.
+fn peer_hello(rt: &impl Abort, alloc: Global, version: u8) -> Vec<u8> {
+    let plan = listener(rt, alloc);
+    let hello = hello_of(rt, alloc, &plan, version);
+    discard(plan);
+    hello
 }
 
 // A listener that is given a hello of a version, and these bytes behind it, tells these lines.
@@ -86,39 +122,65 @@ fn assert_behind<R: Abort + Threads + Wait + Sync>(
     bytes: &[u8],
     lines: &[u8],
 ) {
-    let plan = listener(rt, alloc);
-    let mut stream = hello_of(rt, alloc, &plan, version);
+    let mut stream = peer_hello(rt, alloc, version);
     stream.extend_from_slice(bytes).expect(rt, "memory");
-    let run = ran_with(rt, alloc, &plan, Prepared::giving(alloc, stream));
-    assert!(rt; !run.failed);
-    assert_lines(rt, alloc, &run, lines);
+    assert_told(rt, alloc, Prepared::giving(alloc, stream), lines);
 }
+
+// The same of each row, behind a hello of version 2.
+fn assert_each_behind<R: Abort + Threads + Wait + Sync>(rt: &R, alloc: Global, rows: &[Row]) {
+    for (bytes, lines) in rows {
+        assert_behind(rt, alloc, 2, *bytes, *lines);
+    }
+}
+
+const MISMATCH: &[u8] = b"unbound 1 mismatch 33 102 109\n";
 
 #[test]
 fn a_hello_of_version_1_asks_for_the_same_text(rt: HostRuntime) {
-    let alloc = rt.alloc();
-    assert_behind(&rt, alloc, 2, b"", b"");
-    assert_behind(&rt, alloc, 1, b"", b"unbound 1 mismatch 33 102 109\n");
+    assert_behind(&rt, rt.alloc(), 2, b"", b"");
+    assert_behind(&rt, rt.alloc(), 1, b"", MISMATCH);
+}
+
+// An end that is given these bytes, nothing at first, and then one at a time.
+fn slowly(rt: &impl Abort, alloc: Global, bytes: Vec<u8>) -> Prepared {
+    let mut end = Prepared::giving(alloc, bytes);
+    for at in 0..200_usize {
+        end.lengths.push(at % 2).expect(rt, "memory");
+    }
+    end
+}
+
+#[test]
+fn a_hello_may_come_in_pieces(rt: HostRuntime) {
+    let end = slowly(&rt, rt.alloc(), peer_hello(&rt, rt.alloc(), 1));
+    assert_told(&rt, rt.alloc(), end, MISMATCH);
 }
 
 #[test]
 fn a_stream_that_ends_within_a_frame_is_cut(rt: HostRuntime) {
-    let alloc = rt.alloc();
-    assert_behind(&rt, alloc, 2, b"\0\0\0", b"cut 1 70 Short\n");
-    let payload = b"\0\0\0\x02\x01\x01\0\0\0\0\0\x02\0\0\0\x01\x08";
-    assert_behind(&rt, alloc, 2, payload, b"cut 1 70 Short\n");
-    assert_behind(&rt, alloc, 2, b"\0\x04\0\0\x01\x01", b"cut 1 70 Short\n");
+    let rows: [Row; 3] = [
+        (b"\0\0\0", b"cut 1 70 Short\n"),
+        (
+            b"\0\0\0\x02\x01\x01\0\0\0\0\0\x02\0\0\0\x01\x08",
+            b"cut 1 70 Short\n",
+        ),
+        (b"\0\x04\0\0\x01\x01", b"cut 1 70 Short\n"),
+    ];
+    assert_each_behind(&rt, rt.alloc(), &rows);
 }
 
 #[test]
 fn a_stream_is_cut_where_it_has_no_frame(rt: HostRuntime) {
-    let alloc = rt.alloc();
-    assert_behind(&rt, alloc, 2, b"\0\x04\0\x01", b"cut 1 70 TooLong\n");
-    assert_behind(&rt, alloc, 2, b"\0\0\0\0\0", b"cut 1 74 Kind\n");
-    assert_behind(&rt, alloc, 2, b"\0\0\0\0\x04", b"cut 1 74 Kind\n");
-    assert_behind(&rt, alloc, 2, b"\0\0\0\0\x01\0", b"cut 1 75 Version\n");
-    assert_behind(&rt, alloc, 2, b"\0\0\0\0\x02\x02", b"cut 1 75 Version\n");
-    assert_behind(&rt, alloc, 2, b"\0\0\0\0\x03\x03", b"cut 1 75 Version\n");
+    let rows: [Row; 6] = [
+        (b"\0\x04\0\x01", b"cut 1 70 TooLong\n"),
+        (b"\0\0\0\0\0", b"cut 1 74 Kind\n"),
+        (b"\0\0\0\0\x04", b"cut 1 74 Kind\n"),
+        (b"\0\0\0\0\x01\0", b"cut 1 75 Version\n"),
+        (b"\0\0\0\0\x02\x02", b"cut 1 75 Version\n"),
+        (b"\0\0\0\0\x03\x03", b"cut 1 75 Version\n"),
+    ];
+    assert_each_behind(&rt, rt.alloc(), &rows);
 }
 
 #[test]
@@ -130,15 +192,15 @@ fn a_payload_may_be_as_long_as_the_limit(rt: HostRuntime) {
     assert_behind(&rt, alloc, 2, bytes.as_slice(), lines);
 }
 
-// A hello, a request of method 7, one that the policy denies, and one of no field.
+// A hello, a request of method 258, one that the policy denies, and one of no field.
 const DROPPED: &[u8] = b"\0\0\0\0\x03\x02\0\0\0\0\0\x02\0\0\0\0\
-    \0\0\0\0\x01\x01\0\x07\0\0\0\x02\0\0\0\x01\
+    \0\0\0\0\x01\x01\x01\x02\0\0\0\x02\0\0\0\x01\
     \0\0\0\x02\x01\x01\0\0\0\0\0\x02\0\0\0\x02\x08\x07\
     \0\0\0\0\x01\x01\0\0\0\0\0\x02\0\0\0\x03";
 
 #[test]
 fn each_cause_of_a_dropped_frame_is_told(rt: HostRuntime) {
-    let lines = b"dropped 1 3 0 0 Hello\ndropped 1 1 7 1 NoMethod\n\
+    let lines = b"dropped 1 3 0 0 Hello\ndropped 1 1 258 1 NoMethod\n\
         dropped 1 1 0 2 access p seven\ndropped 1 1 0 3 Oversize 8 8\n";
     assert_behind(&rt, rt.alloc(), 2, DROPPED, lines);
 }
@@ -171,15 +233,22 @@ fn each_fault_of_a_payload_is_told(rt: HostRuntime) {
     assert_behind(&rt, rt.alloc(), 2, bytes.as_slice(), lines);
 }
 
-// The end of a plan's connection 1 whose sends and receives of these numbers fail. It is given a hello.
-fn failing(rt: &impl Abort, alloc: Global, plan: &Plan, sends: &[u64], receives: &[u64]) -> Prepared
-    requires { IsPlan plan.now }
-{
-    Prepared {
-        bytes: hello_of(rt, alloc, plan, 2),
-        failing_sends: sends.to_vec(alloc).expect(rt, "memory"),
-        failing_receives: receives.to_vec(alloc).expect(rt, "memory"),
-    }
+// An end that is given this hello, and whose sends and receives of these numbers fail.
+fn failing(
+    rt: &impl Abort,
+    alloc: Global,
+    hello: Vec<u8>,
+    sends: &[u64],
+    receives: &[u64],
+) -> Prepared {
+    let mut end = Prepared::giving(alloc, hello);
+    end.failing_sends
+        .extend_from_slice(sends)
+        .expect(rt, "memory");
+    end.failing_receives
+        .extend_from_slice(receives)
+        .expect(rt, "memory");
+    end
 }
 
 fn assert_fails<R: Abort + Threads + Wait + Sync>(
@@ -189,11 +258,10 @@ fn assert_fails<R: Abort + Threads + Wait + Sync>(
     receives: &[u64],
     lines: &[u8],
 ) {
-    let plan = listener(rt, alloc);
-    let end = failing(rt, alloc, &plan, sends, receives);
-    let run = ran_with(rt, alloc, &plan, end);
-    assert!(rt; run.failed);
-    assert_lines(rt, alloc, &run, lines);
+    let end = failing(rt, alloc, peer_hello(rt, alloc, 2), sends, receives);
+    let told = ran_with(rt, alloc, listener(rt, alloc), end);
+    assert!(rt; told.failed);
+    assert_lines(rt, alloc, &told, lines);
 }
 
 #[test]
@@ -204,14 +272,17 @@ fn a_link_that_fails_before_the_hello_is_told(rt: HostRuntime) {
     assert_fails(&rt, alloc, &[], &[2], b"");
 }
 
+const SENT_ONCE: &[u8] = b"took 1 1 0 0 2 1 1 copy 089601\nsent 1 1 19\nunbound 2 ended\n\
+    method 0 1 1 0 0\ntotals 1 1 0 0\n";
+
+// Under version 1 it is bound by a hello with its own text.
 fn assert_sent_before_it_fails<R: Abort + Threads + Wait + Sync>(rt: &R, alloc: Global) {
     let plan = plan_of(rt, alloc, "workers = 1\n", ONE_CALL);
-    let end = failing(rt, alloc, &plan, &[2], &[]);
-    let run = ran_with(rt, alloc, &plan, end);
-    assert!(rt; run.failed);
-    let lines = b"took 1 1 0 0 2 1 1 copy 089601\nsent 1 1 19\nunbound 2 ended\n\
-        method 0 1 1 0 0\ntotals 1 1 0 0\n";
-    assert!(rt; run.text.as_slice() == lines.as_slice());
+    let hello = hello_of(rt, alloc, &plan, 1);
+    let end = failing(rt, alloc, hello, &[2], &[]);
+    let told = ran_with(rt, alloc, plan, end);
+    assert!(rt; told.failed);
+    assert!(rt; told.text.as_slice() == SENT_ONCE);
 }
 
 // Its frame was in the queue before.

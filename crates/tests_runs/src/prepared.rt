@@ -6,12 +6,24 @@ use mrpc_base::{Fabric, MemLink, OpenFault};
 use std::alloc::Global;
 use std::process::Abort;
 
-/// What one end of a link is given, and which of its sends and receives fail, counted from 1.
-#[derive(Drop)]
+/// What one end of a link is given, in pieces of which lengths, and which of its sends and receives fail, counted from 1.
 pub(crate) struct Prepared {
     pub bytes: Vec<u8>,
+    pub lengths: Vec<usize>,
     pub failing_sends: Vec<u64>,
     pub failing_receives: Vec<u64>,
+}
+
+// By hand, as of the fabric below, so that a drop is one call where it is needed, and not a drop of each part.
+impl Drop for Prepared {
+    fn drop(self) {
+        let Prepared {
+            bytes: _bytes,
+            lengths: _lengths,
+            failing_sends: _failing_sends,
+            failing_receives: _failing_receives,
+        } = self;
+    }
 }
 
 impl Prepared {
@@ -19,6 +31,7 @@ impl Prepared {
     pub(crate) fn giving(alloc: Global, bytes: Vec<u8>) -> Prepared {
         Prepared {
             bytes,
+            lengths: Vec::new(alloc),
             failing_sends: Vec::new(alloc),
             failing_receives: Vec::new(alloc),
         }
@@ -32,26 +45,31 @@ impl Prepared {
     {
         let Prepared {
             bytes,
+            lengths,
             failing_sends,
             failing_receives,
         } = self;
-        MemLink::new(
-            alloc,
-            bytes,
-            Vec::new(alloc),
-            failing_sends,
-            failing_receives,
-        )
+        MemLink::new(alloc, bytes, lengths, failing_sends, failing_receives)
     }
 }
 
 /// A fabric that opens one link, of these two ends.
-#[derive(Drop)]
 pub(crate) struct PreparedFabric<'r, R> {
     rt: &'r R,
     alloc: Global,
     prepared: Option<(Prepared, Prepared)>,
     ends: Ends<MemLink>,
+}
+
+impl<'r, R> Drop for PreparedFabric<'r, R> {
+    fn drop(self) {
+        let PreparedFabric {
+            rt: _,
+            alloc: _,
+            prepared: _prepared,
+            ends: _ends,
+        } = self;
+    }
 }
 
 impl<'r, R: Abort> PreparedFabric<'r, R> {

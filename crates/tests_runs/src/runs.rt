@@ -2,7 +2,9 @@
 
 ghost use Rattle.run_plan.specs.Plans.{IsPlan};
 
+use crate::discard;
 use mrpc_base::{Fabric, FixedClock, Gate};
+use mrpc_table::Bytes;
 use run_plan::Plan;
 use scenario_reader::read_scenario;
 use scenario_run::{Run, serve_plan};
@@ -33,17 +35,34 @@ pub(crate) fn plan_of(rt: &impl Abort, alloc: Global, key: &str, rest: &str) -> 
         .expect(rt, "a plan")
 }
 
-/// A run at a clock that stands still at 0.
-pub(crate) fn ran<R: Abort + Threads + Wait + Sync, F: Fabric, G: Gate>(
+/// What a run told, and whether a link failed.
+#[derive(Drop)]
+pub(crate) struct Told {
+    pub text: Bytes,
+    pub failed: bool,
+}
+
+/// What a run of a plan tells, over links of a fabric, at a clock that stands still at 0. Plan and fabric are owned here:
+/// what a drop comes to is proved in each function that has one.
+pub(crate) fn ran<R: Abort + Threads + Wait + Sync, F: Fabric + Drop, G: Gate>(
     rt: &R,
     alloc: Global,
-    plan: &Plan,
-    fabric: &mut F,
+    plan: Plan,
+    mut fabric: F,
     gate: &G,
-) -> Run
-    requires { IsPlan plan.now }
+) -> Told
+    requires { IsPlan plan }
 {
-    serve_plan(rt, alloc, plan, fabric, &FixedClock(0), gate)
-        .ok()
-        .expect(rt, "a run")
+    let run = serve_plan(rt, alloc, &plan, &mut fabric, &FixedClock(0), gate);
+    discard(plan);
+    told_of(run.ok().expect(rt, "a run"))
+}
+
+fn told_of(run: Run) -> Told {
+    let Run {
+        text,
+        totals: _totals,
+        failed,
+    } = run;
+    Told { text, failed }
 }

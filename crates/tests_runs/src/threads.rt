@@ -29,11 +29,10 @@ pub(crate) fn memory<'r, R: Abort + Wait>(rt: &'r R, alloc: Global) -> MemFabric
 fn assert_workers_meet<R: Abort + Threads + Wait + Sync>(rt: &R, alloc: Global) {
     let plan = plan_of(rt, alloc, "workers = 2\n", ONE_CALL);
     let gate = MeetingGate::new();
-    let mut fabric = memory(rt, alloc);
-    let run = ran(rt, alloc, &plan, &mut fabric, &gate);
+    let told = ran(rt, alloc, plan, memory(rt, alloc), &gate);
     assert!(rt; gate.missed() == 0);
     assert!(rt; gate.has_begun());
-    assert!(rt; run.text.as_slice() == ONE_CALL_TOLD);
+    assert!(rt; told.text.as_slice() == ONE_CALL_TOLD);
 }
 
 // The first call of the gate for either connection waits for that of the other.
@@ -45,11 +44,11 @@ fn two_workers_run_beside_each_other(rt: HostRuntime) {
 fn assert_worker_goes_on<R: Abort + Threads + Wait + Sync>(rt: &R, alloc: Global) {
     let plan = plan_of(rt, alloc, "workers = 1\n", ONE_CALL);
     let waits = Waits::new();
-    let mut fabric = SlowFabric::new(rt, alloc, memory(rt, alloc), &waits);
-    let run = ran(rt, alloc, &plan, &mut fabric, &waits.gate);
+    let fabric = SlowFabric::new(rt, alloc, memory(rt, alloc), &waits);
+    let told = ran(rt, alloc, plan, fabric, &waits.gate);
     assert!(rt; waits.sends.load(Ordering::SeqCst) == 1);
     assert!(rt; waits.missed.load(Ordering::SeqCst) == 0);
-    assert!(rt; run.text.as_slice() == ONE_CALL_TOLD);
+    assert!(rt; told.text.as_slice() == ONE_CALL_TOLD);
 }
 
 // A send of connection 1 waits until the worker asks the gate again. A worker that sends itself never does.

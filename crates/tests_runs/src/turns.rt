@@ -1,5 +1,6 @@
 //! In which order one worker gives connections their rounds.
 
+use crate::discard;
 use crate::gates::NotingGate;
 use crate::prepared::{Prepared, PreparedFabric};
 use crate::runs::{plan_of, ran};
@@ -52,10 +53,9 @@ fn take_turns(conns: &[u32]) -> bool {
 fn assert_turns<R: Abort + Threads + Wait + Sync>(rt: &R, alloc: Global) {
     let plan = plan_of(rt, alloc, "workers = 1\n", TWO_CALLS);
     let gate = NotingGate::new(rt, alloc);
-    let mut fabric = memory(rt, alloc);
-    let run = ran(rt, alloc, &plan, &mut fabric, &gate);
+    let told = ran(rt, alloc, plan, memory(rt, alloc), &gate);
     let conns = gate.into_conns();
-    assert!(rt; run.text.as_slice().ends_with(b"totals 4 4 0 0\n"));
+    assert!(rt; told.text.as_slice().ends_with(b"totals 4 4 0 0\n"));
     assert!(rt; conns.starts_with(&[1, 2, 3, 4]));
     assert!(rt; take_turns(conns.as_slice()));
 }
@@ -84,9 +84,9 @@ fn assert_weights<R: Abort + Threads + Wait + Sync>(rt: &R, alloc: Global) {
     let hello = hello_of(rt, alloc, &plan, 2);
     let first = requests(rt, alloc, hello.as_slice(), 9);
     let second = requests(rt, alloc, hello.as_slice(), 3);
-    let mut fabric = PreparedFabric::new(rt, alloc, first, second);
+    let fabric = PreparedFabric::new(rt, alloc, first, second);
     let gate = NotingGate::new(rt, alloc);
-    let _run = ran(rt, alloc, &plan, &mut fabric, &gate);
+    discard(ran(rt, alloc, plan, fabric, &gate));
     assert!(rt;
         gate.into_conns()
             .starts_with(&[1, 1, 1, 2, 1, 1, 1, 2, 1, 1, 1, 2])

@@ -1,7 +1,5 @@
-//! The lowest crates, each by itself: devices in memory and of the system, lists, totals, rates, blocks of a heap, and
-//! the weighted order.
+//! The lowest crates, each by itself: devices in memory and of the system, lists, totals, rates, and the weighted order.
 
-mod blocks;
 mod devices;
 mod lists;
 mod order;

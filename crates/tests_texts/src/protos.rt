@@ -1,4 +1,3 @@
-//! Proto files: their tokens, what is read of them, and their tables.
+//! Proto files: their tokens.
 
-mod files;
 mod tokens;

@@ -1,4 +1,4 @@
-//! What is read and written as text or as bytes: tables, records, frames and hellos.
+//! What is read and written as text or as bytes: tables, records, links over a sink, and what hellos compare.
 
 mod frames;
 mod hellos;

@@ -16,6 +16,18 @@ const BROKEN: &[u8] = b"took 2 1 0 0 2 0 1 copy -\n\
     took 1 1 0 0 2 1 1 copy 0807\ntook 1 2 0 0 2 1 1 copy 0807\ntook 1 3 0 0 2 1 1 copy 0807\n\
     sent 1 1 18\nrefused 1 2 transport\nrefused 1 3 transport\nstands 2 1 0 -\n";
 
+// The same, where the seventh line can't be written either.
+const BROKEN_OFF: &[u8] = b"took 2 1 0 0 2 0 1 copy -\n\
+    took 1 1 0 0 2 1 1 copy 0807\ntook 1 2 0 0 2 1 1 copy 0807\ntook 1 3 0 0 2 1 1 copy 0807\n\
+    sent 1 1 18\nrefused 1 2 transport\n";
+
+// What the replay of the script, whose calls fail as listed, leaves where it ends with this status.
+fn replayed(rt: &impl Abort, alloc: Global, failing: Failing, status: u8) -> Devices {
+    let mut devices = Devices::new(rt, alloc, SCRIPT, failing);
+    assert!(rt; replay(rt, alloc, &mut devices) == status);
+    devices
+}
+
 fn replay(rt: &impl Abort, alloc: Global, devices: &mut Devices) -> u8 {
     let words = words_of(rt, alloc, "replay");
     run_still(
@@ -41,8 +53,7 @@ fn a_failed_read_leaves_all_unwritten(rt: HostRuntime) {
         lines: &[],
         beside: &[],
     };
-    let mut devices = Devices::new(&rt, rt.alloc(), SCRIPT, failing);
-    assert!(rt; replay(&rt, rt.alloc(), &mut devices) == INPUT_FAILED);
+    let devices = replayed(&rt, rt.alloc(), failing, INPUT_FAILED);
     has_written(&rt, &devices, b"", 0);
 }
 
@@ -54,8 +65,7 @@ fn calls_that_stand_are_refused_behind_a_failed_frame(rt: HostRuntime) {
         lines: &[],
         beside: &[2],
     };
-    let mut devices = Devices::new(&rt, rt.alloc(), SCRIPT, failing);
-    assert!(rt; replay(&rt, rt.alloc(), &mut devices) == WIRE_FAILED);
+    let devices = replayed(&rt, rt.alloc(), failing, WIRE_FAILED);
     has_written(&rt, &devices, BROKEN, 18);
     assert!(rt; devices.beside.calls() == 2);
 }
@@ -67,8 +77,7 @@ fn a_failed_line_behind_a_failed_frame_counts(rt: HostRuntime) {
         lines: &[7],
         beside: &[2],
     };
-    let mut devices = Devices::new(&rt, rt.alloc(), SCRIPT, failing);
-    assert!(rt; replay(&rt, rt.alloc(), &mut devices) == OUTPUT_FAILED);
-    has_written(&rt, &devices, &BROKEN[..BROKEN.len() - 37], 18);
+    let devices = replayed(&rt, rt.alloc(), failing, OUTPUT_FAILED);
+    has_written(&rt, &devices, BROKEN_OFF, 18);
     assert!(rt; devices.out.calls() == 7);
 }

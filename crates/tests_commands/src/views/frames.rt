@@ -10,6 +10,13 @@ const CUT_OFF: &[u8] =
     b"mrpc-decode 1\ntable\nmessage M\nfield 1 plain uint64 a\nmethod 0 S Get M M\nend\n\
       \x00\x00\x00\x03\x01\x01\x00\x00\x00\x00\x00\x01\x00\x00\x00\x01\x08\x96\x01\x00";
 
+// What the view of the frames, whose calls fail as listed, leaves where it ends with this status.
+fn shown(rt: &impl Abort, alloc: Global, failing: Failing, status: u8) -> Devices {
+    let mut devices = Devices::new(rt, alloc, CUT_OFF, failing);
+    assert!(rt; show(rt, alloc, &mut devices) == status);
+    devices
+}
+
 fn show(rt: &impl Abort, alloc: Global, devices: &mut Devices) -> u8 {
     let words = words_of(rt, alloc, "frames");
     run_view(
@@ -28,8 +35,7 @@ fn a_failed_read_leaves_all_unwritten(rt: HostRuntime) {
         lines: &[],
         beside: &[],
     };
-    let mut devices = Devices::new(&rt, rt.alloc(), CUT_OFF, failing);
-    assert!(rt; show(&rt, rt.alloc(), &mut devices) == INPUT_FAILED);
+    let devices = shown(&rt, rt.alloc(), failing, INPUT_FAILED);
     assert!(rt; devices.out.calls() == 0);
 }
 
@@ -40,8 +46,7 @@ fn nothing_is_said_behind_a_failed_line(rt: HostRuntime) {
         lines: &[2],
         beside: &[],
     };
-    let mut devices = Devices::new(&rt, rt.alloc(), CUT_OFF, failing);
-    assert!(rt; show(&rt, rt.alloc(), &mut devices) == OUTPUT_FAILED);
+    let devices = shown(&rt, rt.alloc(), failing, OUTPUT_FAILED);
     assert!(rt; devices.out.calls() == 2);
     assert!(rt; devices.beside.calls() == 0);
 }
@@ -53,7 +58,6 @@ fn the_fault_counts_where_its_sentence_fails(rt: HostRuntime) {
         lines: &[],
         beside: &[1],
     };
-    let mut devices = Devices::new(&rt, rt.alloc(), CUT_OFF, failing);
-    assert!(rt; show(&rt, rt.alloc(), &mut devices) == FAULTY_INPUT);
+    let devices = shown(&rt, rt.alloc(), failing, FAULTY_INPUT);
     assert!(rt; devices.out.written().ends_with(b"fault 19 Short\n"));
 }

@@ -15,7 +15,7 @@ pub(crate) fn table(rt: &impl Abort, alloc: Global, text: &[u8]) -> Table
     read_table(alloc, text).expect(rt, "a table")
 }
 
-pub(crate) fn is_text(rt: &impl Abort, bytes: &Bytes, expected: &[u8]) {
+fn is_text(rt: &impl Abort, bytes: &Bytes, expected: &[u8]) {
     assert!(rt; bytes.as_slice() == expected);
 }
 

@@ -1,6 +1,7 @@
 // A heap, and the notes of what was stored to it.
 ghost use Rattle.std.specs.Prelude.{◌≡◌, []};
 
+use crate::discard;
 use mrpc_base::{Room, Stores, Words};
 use shared_heap::{Note, Reader, Writer, open};
 use std::alloc::Global;
@@ -15,9 +16,6 @@ pub(crate) fn a_heap(rt: &impl Abort, alloc: Global) -> (Writer, Reader)
     open(alloc, 4).expect(rt, "memory")
 }
 
-// A test hands its heap over to be dropped here: what a drop comes to is proved in each function that has one.
-pub(crate) fn discard(_writer: Writer, _reader: Reader) {}
-
 #[test]
 fn a_met_note_brings_its_stores(rt: HostRuntime) {
     let (mut writer, mut reader) = a_heap(&rt, rt.alloc());
@@ -28,7 +26,8 @@ fn a_met_note_brings_its_stores(rt: HostRuntime) {
     reader.meet(writer.note());
     reader.meet(early);
     assert_loaded(&rt, &mut reader);
-    discard(writer, reader);
+    discard(writer);
+    discard(reader);
 }
 
 fn assert_new(rt: &impl Abort, writer: &mut Writer, reader: &mut Reader)

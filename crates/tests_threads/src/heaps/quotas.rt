@@ -1,6 +1,7 @@
 // Quotas whose tickets are drawn from several seats.
 ghost use Rattle.std.specs.Prelude.{◌≡◌, ◌≤◌, ◌+◌, length};
 
+use crate::discard;
 use mrpc_base::Tickets;
 use std::alloc::Global;
 use std::process::Abort;
@@ -13,8 +14,6 @@ fn a_new_quota_counts_from_zero(rt: HostRuntime) {
     assert_counts(&rt, &mut seat);
     discard(seat);
 }
-
-fn discard(_seat: Seat) {}
 
 fn assert_counts(rt: &impl Abort, seat: &mut Seat)
     requires { seat.old.quota.words ≡ 2 }

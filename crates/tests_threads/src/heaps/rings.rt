@@ -2,7 +2,8 @@
 ghost use Rattle.std.specs.Prelude.{◌≡◌, ◌≤◌, ◌<◌, ◌+◌, [], length};
 ghost use Rattle.descriptor_ring.specs.Rings.{IsOf};
 
-use crate::heaps::notes::{a_heap, discard};
+use crate::discard;
+use crate::heaps::notes::a_heap;
 use descriptor_ring::{
     Descriptor, NumberReceiver, NumberSender, NumberTaken, NumbersSent, Receiver, Sender, Sent,
     Taken, open, open_numbers,
@@ -73,10 +74,8 @@ fn a_full_ring_of_numbers_refuses_and_is_closed_once_there_is_room(rt: HostRunti
     let sent = closed(&rt, sender);
     receiver.hear_all(sent);
     assert_ends(&rt, &mut receiver);
-    discard_numbers(receiver);
+    discard(receiver);
 }
-
-fn discard_numbers(_receiver: NumberReceiver) {}
 
 fn assert_none<R: Abort + Wait>(rt: &R, receiver: &mut NumberReceiver)
     ensures { receiver.new.ring ≡ receiver.old.ring }
@@ -175,11 +174,10 @@ fn a_full_ring_of_one_descriptor_refuses(rt: HostRuntime) {
     sender.hear(receiver.progress());
     receiver.hear_all(all_sent(&rt, sender));
     assert_all_came(&rt, &mut reader, &mut receiver);
-    discard_descriptors(receiver);
-    discard(writer, reader);
+    discard(receiver);
+    discard(writer);
+    discard(reader);
 }
-
-fn discard_descriptors(_receiver: Receiver) {}
 
 fn assert_one_waits<R: Abort + Wait>(rt: &R, writer: &mut Writer, sender: &mut Sender)
     requires words { writer.old.heap.words ≡ 4 }

@@ -1,6 +1,7 @@
 // A link over a queue, and the writer that passes its frames on.
 ghost use Rattle.std.specs.Prelude.{◌≡◌};
 
+use crate::discard;
 use crate::links::talks::{Talked, talk};
 use link_queue::{Passed, QueueLink, WriterEnd, open};
 use mrpc_base::{Came, Handed, Link, MemLink};
@@ -169,8 +170,6 @@ fn written_for_nobody<R: Abort + Wait>(rt: &R, alloc: Global) -> WriterEnd<MemLi
     discard(link);
     writer.run()
 }
-
-fn discard<R: Wait>(_link: QueueLink<R>) {}
 
 fn assert_sends<R: Abort + Wait>(rt: &R, link: &mut QueueLink<R>) {
     assert!(rt; link.send(&[5, 6]) == Handed::Done);

@@ -167,8 +167,26 @@ impl Found {
     }
 }
 
-// Visits an item of each way by so many workers.
+// Visits an item of each way by so many workers, under a flag that is set before or not. All come back by number.
 fn visits_of<R: Abort + Threads + Wait + Sync>(
+    rt: &R,
+    alloc: Global,
+    ways: &[Way],
+    workers: usize,
+    is_set: bool,
+) -> Found
+    requires { (1 ≤ workers) × (workers ≤ 8) }
+{
+    let common = Common::new(rt, alloc);
+    if is_set {
+        common.stop.set();
+    }
+    let found = visits_with(rt, alloc, &common, ways, workers);
+    assert!(rt; found.in_order);
+    found
+}
+
+fn visits_with<R: Abort + Threads + Wait + Sync>(
     rt: &R,
     alloc: Global,
     common: &Common<R>,
@@ -195,45 +213,36 @@ fn visits_of<R: Abort + Threads + Wait + Sync>(
 
 #[test]
 fn one_worker_visits_ready_items_in_turn(rt: HostRuntime) {
-    let common = Common::new(&rt, rt.alloc());
-    let found = visits_of(&rt, rt.alloc(), &common, &[Way::Works(50); 7], 1);
+    let found = visits_of(&rt, rt.alloc(), &[Way::Works(50); 7], 1, false);
     assert!(rt; !found.stopped);
-    assert!(rt; found.in_order);
     assert!(rt; found.planned);
     assert!(rt; found.strays == 0);
 }
 
 #[test]
 fn many_workers_make_all_visits(rt: HostRuntime) {
-    let common = Common::new(&rt, rt.alloc());
     let ways = [
         Way::Works(5),
         Way::Works(2000),
         Way::Works(1),
         Way::Works(300),
     ];
-    let found = visits_of(&rt, rt.alloc(), &common, &ways, 8);
+    let found = visits_of(&rt, rt.alloc(), &ways, 8, false);
     assert!(rt; !found.stopped);
-    assert!(rt; found.in_order);
     assert!(rt; found.planned);
 }
 
 #[test]
 fn a_flag_that_a_visit_sets_stops_many_workers(rt: HostRuntime) {
-    let common = Common::new(&rt, rt.alloc());
-    let found = visits_of(&rt, rt.alloc(), &common, &[Way::Stops; 5], 8);
+    let found = visits_of(&rt, rt.alloc(), &[Way::Stops; 5], 8, false);
     assert!(rt; found.stopped);
-    assert!(rt; found.in_order);
     assert!(rt; found.most >= 3);
 }
 
 #[test]
 fn a_flag_that_is_set_lets_nothing_begin(rt: HostRuntime) {
-    let common = Common::new(&rt, rt.alloc());
-    common.stop.set();
-    let found = visits_of(&rt, rt.alloc(), &common, &[Way::Stops; 3], 2);
+    let found = visits_of(&rt, rt.alloc(), &[Way::Stops; 3], 2, true);
     assert!(rt; found.stopped);
-    assert!(rt; found.in_order);
     assert!(rt; found.most == 0);
 }
 
@@ -242,9 +251,7 @@ const FEW: u64 = 5000;
 
 #[test]
 fn a_worker_with_nothing_to_do_rests(rt: HostRuntime) {
-    let common = Common::new(&rt, rt.alloc());
-    let found = visits_of(&rt, rt.alloc(), &common, &[Way::Waits, Way::Sleeps], 2);
+    let found = visits_of(&rt, rt.alloc(), &[Way::Waits, Way::Sleeps], 2, false);
     assert!(rt; !found.stopped);
-    assert!(rt; found.in_order);
     assert!(rt; found.most <= FEW);
 }

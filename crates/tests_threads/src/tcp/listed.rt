@@ -1,4 +1,5 @@
 // A link over a socket whose answers are listed.
+use crate::discard;
 use crate::tcp::listed_socket::ListedSocket;
 use mrpc_base::{Came, Handed, Link};
 use std::alloc::Global;
@@ -21,9 +22,6 @@ fn link<'r, R: Abort>(
     let socket = ListedSocket::new(alloc, incoming, writes, reads);
     SocketLink::new(rt, alloc, socket, 1, 2)
 }
-
-// Tests hand their links over to be dropped here: what a drop comes to is proved in each function that has one.
-fn discard<R>(_link: SocketLink<R, ListedSocket>) {}
 
 fn sends<R: Wait + Clock>(link: &mut SocketLink<R, ListedSocket>, frame: &[u8]) -> bool {
     link.send(frame) == Handed::Done
@@ -58,104 +56,176 @@ fn taken<R>(link: &SocketLink<R, ListedSocket>) -> u32 {
     digits
 }
 
-#[test]
-fn a_frame_goes_out_byte_by_byte(rt: HostRuntime) {
-    let writes = [Wrote::Took(1), Wrote::Full, Wrote::Took(1), Wrote::Full];
-    let mut link = link(&rt, rt.alloc(), &[], &writes, &[Came::Idle; 2]);
-    assert_goes_out(&rt, &mut link);
+// What is done with a link, and what comes of it.
+#[derive(Clone, Copy)]
+enum Step<'a> {
+    // The frame is sent.
+    Sends(&'a [u8]),
+    // It fails.
+    Fails(&'a [u8]),
+    // This comes next.
+    Gives(u32),
+    // The link is finished.
+    Finish,
+    // The socket took these bytes so far.
+    Taken(u32),
+    // So many calls failed so far.
+    Faults(u64),
+    // The socket was told that no more bytes go out.
+    Finished,
+}
+
+// Whether a step comes to what it says.
+fn holds<R: Wait + Clock>(link: &mut SocketLink<R, ListedSocket>, step: Step) -> bool {
+    match step {
+        Step::Sends(frame) => sends(link, frame),
+        Step::Fails(frame) => !sends(link, frame),
+        Step::Gives(bytes) => next(link) == bytes,
+        Step::Finish => {
+            link.finish();
+            true
+        }
+        Step::Taken(bytes) => taken(link) == bytes,
+        Step::Faults(count) => link.faults() == count,
+        Step::Finished => link.socket().finished,
+    }
+}
+
+// A link whose socket has bytes to give and answers as listed goes through these steps.
+fn assert_steps<R: Abort + Wait + Clock>(
+    rt: &R,
+    alloc: Global,
+    incoming: &[u8],
+    writes: &[Wrote],
+    reads: &[Came],
+    steps: &[Step],
+) {
+    let mut link = link(rt, alloc, incoming, writes, reads);
+    assert_all(rt, &mut link, steps);
     discard(link);
 }
 
-fn assert_goes_out<R: Abort + Wait + Clock>(rt: &R, link: &mut SocketLink<R, ListedSocket>) {
-    assert!(rt; sends(link, &[1, 2, 3]));
-    assert!(rt; sends(link, &[]));
-    assert!(rt; sends(link, &[4]));
-    assert!(rt; taken(link) == 1234);
-    assert!(rt; link.faults() == 0);
+fn assert_all<R: Abort + Wait + Clock>(
+    rt: &R,
+    link: &mut SocketLink<R, ListedSocket>,
+    steps: &[Step],
+) {
+    let mut place = 0u32;
+    for step in steps {
+        assert!(rt; holds(link, *step), "step {place}");
+        place = place.wrapping_add(1);
+    }
+}
+
+#[test]
+fn a_frame_goes_out_byte_by_byte(rt: HostRuntime) {
+    assert_steps(
+        &rt,
+        rt.alloc(),
+        &[],
+        &[Wrote::Took(1), Wrote::Full, Wrote::Took(1), Wrote::Full],
+        &[Came::Idle; 2],
+        &[
+            Step::Sends(&[1, 2, 3]),
+            Step::Sends(&[]),
+            Step::Sends(&[4]),
+            Step::Taken(1234),
+            Step::Faults(0),
+        ],
+    );
 }
 
 #[test]
 fn what_comes_while_a_frame_waits_is_received_first(rt: HostRuntime) {
-    let writes = [Wrote::Took(1), Wrote::Full, Wrote::Full];
-    let reads = [Came::Bytes(2), Came::Bytes(1)];
-    let mut link = link(&rt, rt.alloc(), &[5, 6, 7, 8], &writes, &reads);
-    assert_comes_first(&rt, &mut link);
-    discard(link);
-}
-
-fn assert_comes_first<R: Abort + Wait + Clock>(rt: &R, link: &mut SocketLink<R, ListedSocket>) {
-    assert!(rt; sends(link, &[1, 2, 3]));
-    assert!(rt; next(link) == 56);
-    assert!(rt; next(link) == 7);
-    assert!(rt; next(link) == 8);
-    assert!(rt; next(link) == END);
-    assert!(rt; next(link) == END);
+    assert_steps(
+        &rt,
+        rt.alloc(),
+        &[5, 6, 7, 8],
+        &[Wrote::Took(1), Wrote::Full, Wrote::Full],
+        &[Came::Bytes(2), Came::Bytes(1)],
+        &[
+            Step::Sends(&[1, 2, 3]),
+            Step::Gives(56),
+            Step::Gives(7),
+            Step::Gives(8),
+            Step::Gives(END),
+            Step::Gives(END),
+        ],
+    );
 }
 
 #[test]
 fn an_end_found_while_a_frame_waits_is_told_behind_the_bytes(rt: HostRuntime) {
-    let reads = [Came::Bytes(1), Came::End];
-    let mut link = link(&rt, rt.alloc(), &[5], &[Wrote::Full; 3], &reads);
-    assert_end_behind(&rt, &mut link);
-    discard(link);
-}
-
-fn assert_end_behind<R: Abort + Wait + Clock>(rt: &R, link: &mut SocketLink<R, ListedSocket>) {
-    assert!(rt; sends(link, &[1, 2, 3]));
-    assert!(rt; next(link) == 5);
-    assert!(rt; next(link) == END);
-    assert!(rt; sends(link, &[4]));
-    assert!(rt; taken(link) == 1234);
+    assert_steps(
+        &rt,
+        rt.alloc(),
+        &[5],
+        &[Wrote::Full; 3],
+        &[Came::Bytes(1), Came::End],
+        &[
+            Step::Sends(&[1, 2, 3]),
+            Step::Gives(5),
+            Step::Gives(END),
+            Step::Sends(&[4]),
+            Step::Taken(1234),
+        ],
+    );
 }
 
 #[test]
 fn a_frame_that_fails_midway_cuts_the_link(rt: HostRuntime) {
-    let writes = [Wrote::Took(2), Wrote::Failed];
-    let mut link = link(&rt, rt.alloc(), &[5], &writes, &[]);
-    assert_cut(&rt, &mut link);
-    discard(link);
-}
-
-fn assert_cut<R: Abort + Wait + Clock>(rt: &R, link: &mut SocketLink<R, ListedSocket>) {
-    assert!(rt; !sends(link, &[1, 2, 3]));
-    assert!(rt; link.socket().finished);
-    assert!(rt; !sends(link, &[4]));
-    assert!(rt; taken(link) == 12);
-    // After a reset the socket would answer that the other side has finished.
-    assert!(rt; next(link) == FAILED);
-    assert!(rt; link.faults() == 3);
+    assert_steps(
+        &rt,
+        rt.alloc(),
+        &[5],
+        &[Wrote::Took(2), Wrote::Failed],
+        &[],
+        &[
+            Step::Fails(&[1, 2, 3]),
+            Step::Finished,
+            Step::Fails(&[4]),
+            Step::Taken(12),
+            // After a reset the socket would answer that the other side has finished.
+            Step::Gives(FAILED),
+            Step::Faults(3),
+        ],
+    );
 }
 
 #[test]
 fn a_reset_while_a_frame_waits_fails_it(rt: HostRuntime) {
-    let reads = [Came::Bytes(1), Came::Failed];
-    let mut link = link(&rt, rt.alloc(), &[5], &[Wrote::Full; 2], &reads);
-    assert_fails_it(&rt, &mut link);
-    discard(link);
-}
-
-fn assert_fails_it<R: Abort + Wait + Clock>(rt: &R, link: &mut SocketLink<R, ListedSocket>) {
-    assert!(rt; !sends(link, &[1, 2, 3]));
-    assert!(rt; next(link) == 5);
-    assert!(rt; next(link) == FAILED);
-    assert!(rt; link.faults() == 2);
+    assert_steps(
+        &rt,
+        rt.alloc(),
+        &[5],
+        &[Wrote::Full; 2],
+        &[Came::Bytes(1), Came::Failed],
+        &[
+            Step::Fails(&[1, 2, 3]),
+            Step::Gives(5),
+            Step::Gives(FAILED),
+            Step::Faults(2),
+        ],
+    );
 }
 
 #[test]
 fn a_receive_answers_what_the_socket_does(rt: HostRuntime) {
-    let reads = [Came::Idle, Came::Failed];
-    let mut link = link(&rt, rt.alloc(), &[5], &[], &reads);
-    assert_answers(&rt, &mut link);
-    discard(link);
-}
-
-fn assert_answers<R: Abort + Wait + Clock>(rt: &R, link: &mut SocketLink<R, ListedSocket>) {
-    assert!(rt; next(link) == IDLE);
-    assert!(rt; link.faults() == 0);
-    assert!(rt; next(link) == FAILED);
-    assert!(rt; next(link) == FAILED);
-    link.finish();
-    assert!(rt; link.socket().finished);
-    assert!(rt; !sends(link, &[4]));
-    assert!(rt; link.faults() == 3);
+    assert_steps(
+        &rt,
+        rt.alloc(),
+        &[5],
+        &[],
+        &[Came::Idle, Came::Failed],
+        &[
+            Step::Gives(IDLE),
+            Step::Faults(0),
+            Step::Gives(FAILED),
+            Step::Gives(FAILED),
+            Step::Finish,
+            Step::Finished,
+            Step::Fails(&[4]),
+            Step::Faults(3),
+        ],
+    );
 }

@@ -1,9 +1,12 @@
 // Over the system's TCP.
+use crate::discard;
 use mrpc_base::{Came, Fabric, Handed, Link, OpenFault};
+use std::alloc::Global;
 use std::io::ErrorKind;
 use std::net::TcpStream;
 use std::process::Abort;
 use std::sync::Wait;
+use std::thread::Threads;
 use std::{io, thread};
 use tcp_fabric::{Ends, Loopback, Network, SocketLink, TcpFabric};
 
@@ -37,17 +40,26 @@ fn received<R: Wait, L: Link>(rt: &R, link: &mut L) -> u64 {
     unreachable!()
 }
 
+// Both ends of a link of a fabric talk, in a thread each.
+fn both_talk<R, F>(rt: &R, alloc: Global, mut fabric: F) -> (u64, u64)
+where
+    R: Abort + Threads + Wait + Sync,
+    F: Fabric + Drop,
+{
+    let (first, second) = fabric.open_pair(1, 2).expect(rt, "a pair");
+    let frame = vec![in alloc; 7u8; FRAME].expect(rt, "memory");
+    let bytes = frame.as_slice();
+    thread::join(
+        rt,
+        move || talk(rt, first, bytes),
+        move || talk(rt, second, bytes),
+    )
+}
+
 #[test]
 fn two_ends_with_full_sockets_go_on(rt: HostRuntime) {
-    let mut fabric = TcpFabric::new(&rt, rt.alloc(), Loopback::new(&rt));
-    let (first, second) = fabric.open_pair(1, 2).expect(&rt, "a pair");
-    let frame = vec![in rt.alloc(); 7u8; FRAME].expect(&rt, "memory");
-    let bytes = frame.as_slice();
-    let (one, other) = thread::join(
-        &rt,
-        move || talk(&rt, first, bytes),
-        move || talk(&rt, second, bytes),
-    );
+    let fabric = TcpFabric::new(&rt, rt.alloc(), Loopback::new(&rt));
+    let (one, other) = both_talk(&rt, rt.alloc(), fabric);
     assert!(rt; one == 32 * 262_160);
     assert!(rt; other == 32 * 262_160);
 }
@@ -61,18 +73,14 @@ fn a_peer_that_is_reset_is_a_failure(rt: HostRuntime) {
         first_port,
         second_port,
     } = ends;
-    let mut link = SocketLink::new(&rt, rt.alloc(), first, first_port, second_port);
-    // Bytes that the peer never reads make its closing a reset.
-    assert_hands_over(&rt, &mut link);
-    drop(second);
-    assert_reset(&rt, &mut link);
+    let link = SocketLink::new(&rt, rt.alloc(), first, first_port, second_port);
+    assert_reset(&rt, link, second);
 }
 
-fn assert_hands_over<R: Abort, L: Link>(rt: &R, link: &mut L) {
+// Bytes that the peer never reads make its closing a reset.
+fn assert_reset<R: Abort, L: Link + Drop, P: Drop>(rt: &R, mut link: L, peer: P) {
     assert!(rt; link.send(b"half a frame") == Handed::Done);
-}
-
-fn assert_reset<R: Abort, L: Link>(rt: &R, link: &mut L) {
+    discard(peer);
     assert!(rt; link.receive(&mut [0; 8]) == Came::Failed);
     assert!(rt; link.send(b"more") == Handed::Failed);
 }
@@ -89,9 +97,14 @@ impl Network for Refusing {
     }
 }
 
+fn is_refused<F: Fabric>(fabric: &mut F) -> bool {
+    matches!(fabric.open_pair(1, 2).err(), Some(OpenFault::Failed))
+}
+
 #[test]
 fn an_opening_that_is_refused_is_counted(rt: HostRuntime) {
     let mut fabric = TcpFabric::new(&rt, rt.alloc(), Refusing);
-    assert!(rt; matches!(fabric.open_pair(1, 2), Err(OpenFault::Failed)));
+    assert!(rt; is_refused(&mut fabric));
     assert!(rt; fabric.faults() == 1);
+    discard(fabric);
 }

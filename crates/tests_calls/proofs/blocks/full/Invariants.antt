@@ -3,4 +3,4 @@ use Rattle.tests_calls.proofs.blocks.full.Given as goal
 
 -- each block took a number
 abbrev pub invariant-loop : goal.invariant-loop
-invariant-loop l = l.extents.next ≤ l.counter + 1
+invariant-loop g l = l.extents.next ≤ l.counter + 1
