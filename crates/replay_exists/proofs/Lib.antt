@@ -1,0 +1,16 @@
+mod Adding
+mod Doing
+mod Drains
+mod Ends
+mod Found
+mod Further
+mod Growing
+mod Heaps
+mod Lines
+mod Offences
+mod Outcomes
+mod Scripts
+mod Taking
+mod Turning
+mod Turns
+mod Walking
