@@ -13,7 +13,7 @@ pub struct Cuts {
 
 impl Cuts {
     // All calls stand at position 0.
-    pub fn new() -> Cuts
+    pub(crate) fn new() -> Cuts
         ensures { result.behind ≡ replicate 8 0 }
     {
         Cuts {
@@ -22,7 +22,7 @@ impl Cuts {
     }
 
     // The position of the call at a place.
-    pub fn position(&self, place: u32) -> u32
+    pub(crate) fn position(&self, place: u32) -> u32
         ensures { result ≡ position_at place self.now.behind }
     {
         let mut position = 0;
@@ -36,7 +36,7 @@ impl Cuts {
     }
 
     // All calls behind a position go back to it.
-    pub fn zero_behind(&mut self, at: usize)
+    pub(crate) fn zero_behind(&mut self, at: usize)
         requires { at ≤ 8 }
         ensures { self.new.behind ≡ zeroed at self.old.behind }
     {
@@ -44,7 +44,7 @@ impl Cuts {
     }
 
     // The engine at a position leaves: calls behind it move up by one.
-    pub fn close_up(&mut self, at: usize)
+    pub(crate) fn close_up(&mut self, at: usize)
         requires { at < 8 }
         ensures { self.new.behind ≡ closed_up at self.old.behind }
     {
@@ -53,7 +53,7 @@ impl Cuts {
     }
 
     // The first call at a position goes on.
-    pub fn raise(&mut self, at: usize)
+    pub(crate) fn raise(&mut self, at: usize)
         requires at { at < 8 }
         requires room { slice_index self.old.behind at < 64 }
         ensures raised { self.new.behind ≡ raised at self.old.behind }
@@ -63,7 +63,7 @@ impl Cuts {
     }
 
     // The call at a place leaves the row.
-    pub fn take_out(&mut self, place: u32)
+    pub(crate) fn take_out(&mut self, place: u32)
         ensures { self.new.behind ≡ taken_out place self.old.behind }
     {
         for cut in self.behind.iter_mut() {
@@ -72,7 +72,7 @@ impl Cuts {
     }
 
     // The call at a place and those behind it begin again.
-    pub fn lower_to(&mut self, place: u32)
+    pub(crate) fn lower_to(&mut self, place: u32)
         ensures { self.new.behind ≡ lowered place self.old.behind }
     {
         self.behind = self.behind.map(|cut| cut.min(place));

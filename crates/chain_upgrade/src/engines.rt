@@ -11,7 +11,7 @@ use engine_core::{Engine, MAX_ENGINES};
 use mrpc_table::Name;
 
 // The position of the engine of a name.
-pub fn place_of(engines: &[Engine], name: &Name) -> Option<usize>
+pub(crate) fn place_of(engines: &[Engine], name: &Name) -> Option<usize>
     ensures { result ≡ position (λ e. is_named name.now e.entry) engines.now }
 {
     engines
@@ -20,7 +20,7 @@ pub fn place_of(engines: &[Engine], name: &Name) -> Option<usize>
 }
 
 // Gives the name back where nothing stands against an attachment.
-pub fn may_attach(engines: &[Engine], at: u32, name: Name) -> Result<Name, ChainFault>
+pub(crate) fn may_attach(engines: &[Engine], at: u32, name: Name) -> Result<Name, ChainFault>
     requires { length engines.now ≤ 8 }
     ensures refused { IfErr result (λ fault. (attached : ℕ) (label : List ℕ) (policy : Policy)
         → IsSomeAnd (refusal_in fault) (λ refusal. Refuses
@@ -46,7 +46,7 @@ pub fn may_attach(engines: &[Engine], at: u32, name: Name) -> Result<Name, Chain
 }
 
 // Puts an engine at a position, for which there is room.
-pub fn put(engines: &mut Vec<Engine>, at: usize, engine: Engine)
+pub(crate) fn put(engines: &mut Vec<Engine>, at: usize, engine: Engine)
     requires at { at ≤ length engines.old.items }
     requires room { length engines.old.items < vec_capacity engines.old }
     ensures items { engines.new.items ≡ insert engines.old.items at engine }
@@ -59,7 +59,7 @@ pub fn put(engines: &mut Vec<Engine>, at: usize, engine: Engine)
 }
 
 // Brings every bucket to a moment; a lower moment counts as the last one.
-pub fn clock_all(engines: &mut [Engine], now: u64)
+pub(crate) fn clock_all(engines: &mut [Engine], now: u64)
     ensures { engines.new ≡ map (λ e. clocked now e) engines.old }
 {
     for engine in engines.iter_mut() {

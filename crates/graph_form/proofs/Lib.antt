@@ -7,6 +7,4 @@ mod Inserting
 mod Limits
 mod NormalTree
 mod Joined
-mod Plain
-mod PlainNormal
 mod Rows

@@ -2,7 +2,6 @@ pub mod Forgotten
 pub mod Loading
 pub mod Malformed
 pub mod Placed
-pub mod Plain
 pub mod Roles
 pub mod Stored
 pub mod Words
