@@ -12,6 +12,7 @@ mod Rows
 mod Said
 mod Same
 mod ShortNumbers
+mod Spelled
 mod Stands
 mod Telling
 mod Texts

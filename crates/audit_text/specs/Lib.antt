@@ -4,6 +4,7 @@ pub mod Kinds
 pub mod Labels
 pub mod LineWords
 pub mod Lines
+pub mod Numbers
 pub mod Pieces
 pub mod Reading
 pub mod Said

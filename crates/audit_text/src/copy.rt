@@ -1,8 +1,8 @@
 //! Lines of acceptances.
 
-ghost use Rattle.std.specs.Prelude.{◌≡◌, ◌<◌, ◌^◌, ℕ, List, [], ◌∷◌, Some, length, option_map, IfOk, IfSome};
+ghost use Rattle.std.specs.Prelude.{◌≡◌, ◌<◌, ◌^◌, ℕ, List, [], ◌∷◌, Some, length, option_map, slice_index, IfOk, IfSome, MatchOption};
 ghost use Rattle.std.specs.Str.{bytes_eq};
-ghost use Rattle.hex.specs.Hex.{IsBytes};
+ghost use Rattle.hex.specs.Hex.{IsBytes, encode_lower, lower_digits};
 ghost use Rattle.mrpc_table.specs.Calls.{message_at};
 ghost use Rattle.mrpc_table.specs.Node.{Node};
 ghost use Rattle.mrpc_table.specs.Normal.{IsNormal};
@@ -11,12 +11,11 @@ ghost use Rattle.wire_base.specs.Encoding.{encoding};
 ghost use Rattle.call_history.specs.declared.happening.Taken.{Taken};
 ghost use Rattle.audit_text.specs.Lines.{copy_words, hex_word};
 ghost use Rattle.audit_text.specs.Writable.{IsAcceptance, IsTaken};
-ghost use Rattle.audit_text.specs.Copies.{head_said, malformed_said, reason_said, taken_words, IsCopied};
+ghost use Rattle.audit_text.specs.Copies.{head_said, malformed_said, reason_said, taken_words, with_digits, IsCopied};
 ghost use Rattle.audit_text.specs.Reading.{words_in, Reads};
 
 use crate::laws::an_encoding_is_bytes;
-use crate::word::{Rest, end, last64, next, number16, number32, number64};
-use crate::writing::append_hex_word;
+use crate::word::{Rest, last64, next, number16, number32, number64};
 use call_history::{Taken, TookCopy};
 use graph_form::Reason;
 use hex::FromHexError;
@@ -24,6 +23,9 @@ use mrpc_table::{Bytes, Memory, Table, Tree, is_word};
 use std::alloc::Global;
 use wire_decode::{DecodeFault, decode, meaning_of_encoding};
 use wire_encode::encode;
+
+/// The hexadecimal digits.
+const DIGITS: &[u8; 16] = b"0123456789abcdef";
 
 /// The numbers of an accepted call, as its line has them before the copy.
 #[derive(Clone, Copy)]
@@ -138,13 +140,50 @@ fn decoded(alloc: Global, word: &[u8], table: &Table, message: u32) -> Result<Op
     }
 }
 
-/// Whether a word has the digits of these bytes.
-fn spells(alloc: Global, word: &[u8], bytes: &[u8]) -> Result<bool, Memory>
-    ensures { IfOk result (λ b. b ≡ bytes_eq word.now (hex_word bytes.now)) }
+/// A hexadecimal digit.
+fn digit(value: u8) -> u8
+    requires { value < 16 }
+    ensures { result ≡ slice_index lower_digits value }
 {
-    let mut digits = Bytes::with_room(alloc, word.len())?;
-    append_hex_word(alloc, &mut digits, bytes)?;
-    Ok(is_word(word, &digits.as_slice()[1..]))
+    DIGITS[usize::from(value)]
+}
+
+/// What stands behind the two digits of a byte, where a word begins with them.
+fn behind_digits(word: &[u8], byte: u8) -> Option<&[u8]>
+    ensures { MatchOption result ((rest : List ℕ) → word.now ≡ with_digits byte rest → ⊥)
+        (λ rest. word.now ≡ with_digits byte rest.now) }
+{
+    let [high, low, others @ ..] = word else {
+        return None;
+    };
+    if *high != digit(byte / 16) || *low != digit(byte % 16) {
+        return None;
+    }
+    Some(others)
+}
+
+/// Whether a word is the digits of these bytes.
+fn are_digits(word: &[u8], bytes: &[u8]) -> bool
+    ensures { result ≡ bytes_eq word.now (encode_lower bytes.now) }
+{
+    let mut left = word;
+    for byte in bytes {
+        let Some(behind) = behind_digits(left, *byte) else {
+            return false;
+        };
+        left = behind;
+    }
+    is_word(left, b"")
+}
+
+/// Whether a word has the digits of these bytes.
+fn spells(word: &[u8], bytes: &[u8]) -> bool
+    ensures { result ≡ bytes_eq word.now (hex_word bytes.now) }
+{
+    if bytes.is_empty() {
+        return is_word(word, b"-");
+    }
+    are_digits(word, bytes)
 }
 
 /// The message whose encoding a word spells. What the digits mean is encoded again, so that no other spelling is taken.
@@ -158,14 +197,14 @@ fn copied(alloc: Global, word: &[u8], table: &Table, message: u32) -> Result<Opt
         return Ok(None);
     };
     let encoding = encode(alloc, &tree, table, message)?;
-    if spells(alloc, word, encoding.as_slice())? {
+    if spells(word, encoding.as_slice()) {
         Ok(Some(tree))
     } else {
         Ok(None)
     }
 }
 
-/// The word of a copy, as the last one.
+/// The word of a copy, as the last one. (No other text spells an encoding: no space is a digit.)
 fn copy_at(
     alloc: Global,
     rest: Rest<'_>,
@@ -177,13 +216,10 @@ fn copy_at(
     ensures { Reads (IsCopied table.now message) (λ t. hex_word (encoding table.now message t) ∷ [])
         (words_in rest.entry) result }
 {
-    let Some((word, rest)) = next(rest) else {
-        return Ok(None);
-    };
-    let Some(()) = end(rest) else {
-        return Ok(None);
-    };
-    copied(alloc, word, table, message)
+    match rest {
+        None => Ok(None),
+        Some(text) => copied(alloc, text, table, message),
+    }
 }
 
 /// What was taken of a call of a method. A copy has a method that the table has.

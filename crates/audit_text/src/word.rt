@@ -1,7 +1,10 @@
 //! The words of a line, from the left.
 
-ghost use Rattle.std.specs.Prelude.{◌≡◌, ◌≤◌, ◌^◌, length, option_map};
-ghost use Rattle.mrpc_table.specs.Lines.{in_64_bits, number_of, words_of};
+ghost use Rattle.std.specs.Prelude.{◌≡◌, ◌^◌, ◌∷◌, true, IfSome, Some, option_map};
+ghost use Rattle.std.specs.Char.{is_ascii_digit};
+ghost use Rattle.std.specs.List.{list_all};
+ghost use Rattle.mrpc_table.specs.Lines.{is_decimal, words_of};
+ghost use Rattle.audit_text.specs.Numbers.{IsNumberBefore};
 ghost use Rattle.audit_text.specs.Reading.{end_said, first_said, last_said, name_said, number_said, words_in};
 
 use mrpc_table::{Decimal, cut, is_name_form, number_of};
@@ -33,48 +36,77 @@ pub(crate) fn end(rest: Rest<'_>) -> Option<()>
 /// So many digits spell a number of 64 bits, whichever they are.
 const FEW_DIGITS: usize = 19;
 
-/// The number that a word of few digits spells.
-fn short_number(word: &[u8]) -> Option<u64>
-    requires { length word.now ≤ FEW_DIGITS }
-    ensures { result ≡ number_of word.now }
+/// Whether digits are a number: there are some, and no zero stands in front of others.
+fn is_number(digits: &[u8]) -> bool
+    requires { list_all is_ascii_digit digits.now ≡ true }
+    ensures { result ≡ is_decimal digits.now }
 {
-    let [first, others @ ..] = word else {
-        return None;
-    };
-    if *first == b'0' && !others.is_empty() {
-        return None;
+    match digits {
+        [] => false,
+        [first, others @ ..] => *first != b'0' || others.is_empty(),
     }
+}
+
+/// The number that the first digits of a text spell, at most 19 of them, and what stands behind these; none where they
+/// are no number.
+fn front_number(text: &[u8]) -> Option<(u64, &[u8])>
+    ensures { IfSome result (λ r. IsNumberBefore text.now r.0 r.1.now) }
+{
+    let most = text.len().min(FEW_DIGITS);
     let mut number: u64 = 0;
-    for digit in word {
-        if !digit.is_ascii_digit() {
-            return None;
-        }
-        number = number * 10 + u64::from(*digit - b'0');
+    let mut count = 0;
+    while count < most && text[count].is_ascii_digit() {
+        number = number * 10 + u64::from(text[count] - b'0');
+        count += 1;
     }
-    Some(number)
+    if !is_number(&text[..count]) {
+        return None;
+    }
+    Some((number, &text[count..]))
 }
 
-/// The number that a word spells. (Most words of an audit are short numbers, none of which can be too large at any
-/// digit.)
-fn number_in(word: &[u8]) -> Option<Decimal>
-    ensures { result ≡ option_map in_64_bits (number_of word.now) }
+/// What stands behind the space with which a text begins.
+fn behind_space(text: &[u8]) -> Option<&[u8]>
+    ensures { IfSome result (λ r. text.now ≡ 32 ∷ r.now) }
 {
-    if word.len() > FEW_DIGITS {
-        return number_of(word);
+    match text {
+        [b' ', others @ ..] => Some(others),
+        _ => None,
     }
-    let number = short_number(word)?;
-    Some(Decimal::Small(number))
 }
 
-/// A number of 64 bits.
+/// A number of few digits as the first word, and what is left. None where the first word is another.
+fn short_number(text: &[u8]) -> Option<(u64, Rest<'_>)>
+    ensures { IfSome result (λ p. number_said (2 ^ 64) (words_of text.now) ≡ Some (p.0, words_in p.1)) }
+{
+    let (number, behind) = front_number(text)?;
+    if behind.is_empty() {
+        return Some((number, None));
+    }
+    let others = behind_space(behind)?;
+    Some((number, Some(others)))
+}
+
+/// A number of 64 bits, by its whole word.
+#[tactic(auto, unfolding(crate::specs::Reading::number_said))]
+fn any_number(rest: Rest<'_>) -> Option<(u64, Rest<'_>)>
+    ensures { option_map (λ p. (p.0, words_in p.1)) result ≡ number_said (2 ^ 64) (words_in rest.entry) }
+{
+    let (word, behind) = next(rest)?;
+    match number_of(word) {
+        Some(Decimal::Small(number)) => Some((number, behind)),
+        _ => None,
+    }
+}
+
+/// A number of 64 bits. (Most words of an audit are short numbers, whose digits are looked at once.)
 #[tactic(auto, unfolding(crate::specs::Reading::number_said))]
 pub(crate) fn number64(rest: Rest<'_>) -> Option<(u64, Rest<'_>)>
     ensures { option_map (λ p. (p.0, words_in p.1)) result ≡ number_said (2 ^ 64) (words_in rest.entry) }
 {
-    let (word, behind) = next(rest)?;
-    match number_in(word) {
-        Some(Decimal::Small(number)) => Some((number, behind)),
-        _ => None,
+    match short_number(rest?) {
+        Some(found) => Some(found),
+        None => any_number(rest),
     }
 }
 
