@@ -60,33 +60,48 @@ begins s quotas out wire tenants undrawn = (
 )
 
 -- all of what happened, and a front of what comes behind it
-tells-front : (s : Script) (before end : State) (more : List ℕ) (out out' : Option (List ℕ)) → text s end ≡ audit s.table before.history ++ more
-    → TellsBehind out out' (audit s.table before.history) more → TellsFront s before end out out'
-tells-front s before end more out out' same tells = record {
+tells-front : (s : Script) (before : State) (all more : List ℕ) (out out' : Option (List ℕ)) → all ≡ audit s.table before.history ++ more
+    → TellsBehind out out' (audit s.table before.history) more → TellsFront s before all out out'
+tells-front s before all more out out' same tells = record {
   many = tells.many;
   least = tells.least;
   most = subst (λ t. tells.many ≤ length t) (sym same) tells.most;
   told = subst (λ t. Appends out out' (take tells.many t)) (sym same) tells.told;
 }
 
+-- what happened was told, and nothing else
+tells-all : (s : Script) (st : State) (out out' : Option (List ℕ)) → Appends out out' (audit s.table st.history) → TellsFront s st (audit s.table st.history) out out'
+tells-all s st out out' told =
+    let happened : List ℕ = audit s.table st.history in
+    tells-front s st happened [] out out' (sym (append-nil happened)) (tells-none out out' happened [] told)
+
+-- a front of a text is one of a longer text
+tells-more : (s : Script) (before : State) (xs ys : List ℕ) (out out' : Option (List ℕ)) → TellsFront s before xs out out' → TellsFront s before (xs ++ ys) out out'
+tells-more s before xs ys out out' tells = record {
+  many = tells.many;
+  least = tells.least;
+  most = let few : tells.many ≤ length xs = tells.most in omega (arith, length-append xs ys, few);
+  told = subst (Appends out out') (sym (take-append-le tells.many xs ys tells.most)) tells.told;
+}
+
 pub stops-as_it_is : (s : Script) (l : Line) (cs : List Connection) (quotas : Counters) (out wire : Option (List ℕ)) (b : Before s l cs quotas out wire) → Stops s b.out out b.wire wire
 stops-as_it_is s l cs quotas out wire b =
     stops_in b.st b.st (record { lines = b.lines; behind = l ∷ b.others; order = b.order; leads = b.ran.leads; begun = inl refl })
-    (tells-front s b.st b.st (all_stands b.st.opened) b.out out refl (tells-none b.out out (audit s.table b.st.history) (all_stands b.st.opened) b.ran.told))
+    (tells-all s b.st b.out out b.ran.told)
     b.ran.handed
 
 pub stops-after : (s : Script) (cs : List Connection) (quotas : Counters) (out out' wire wire' : Option (List ℕ)) (a : After s s.lines cs quotas out out' wire wire')
     (last : Option (List ℕ)) → TellsSome out' last (all_stands (map opened_of cs)) → Stops s out last wire wire'
 stops-after s cs quotas out out' wire wire' a last some =
     stops_in a.0 a.0 (record { lines = s.lines; behind = []; order = sym (append-nil s.lines); leads = a.1.leads; begun = inl refl })
-    (tells-front s a.0 a.0 (all_stands a.0.opened) out last refl (tells-behind out out' last (audit s.table a.0.history) (all_stands a.0.opened) a.1.told
+    (tells-front s a.0 (text s a.0) (all_stands a.0.opened) out last refl (tells-behind out out' last (audit s.table a.0.history) (all_stands a.0.opened) a.1.told
     (subst (λ os. TellsSome out' last (all_stands os)) a.1.holds.opened some)))
     a.1.handed
 
 pub stops-at_once : (s : Script) (out wire : Option (List ℕ)) → Stops s out out wire wire
 stops-at_once s out wire =
     stops_in start start (record { lines = []; behind = s.lines; order = refl; leads = refl; begun = inl refl })
-    (tells-front s start start (all_stands []) out out refl (tells-none out out [] (all_stands []) (appends-nothing out)))
+    (record { many = 0; least = omega arith; most = omega arith; told = appends-nothing out })
     (appends-nothing wire)
 
 -- ---- a connection is opened
@@ -182,18 +197,6 @@ module _ (laws : HistoryLaws) (s : Script) where
   -- the text of what happened so far, and of the piece
   audit-more : (h : History) (conn : ℕ) (piece : List Happening) → audit s.table (h ++ map (on_connection conn) piece) ≡ audit s.table h ++ audit s.table (map (on_connection conn) piece)
   audit-more h conn piece = flat_map-append (audit_line s.table) h (map (on_connection conn) piece)
-
-  text-more : (h : History) (conn : ℕ) (piece : List Happening) (stands : List ℕ)
-      → audit s.table (h ++ map (on_connection conn) piece) ++ stands ≡ audit s.table h ++ (audit s.table (map (on_connection conn) piece) ++ stands)
-  text-more h conn piece stands = ap (λ t. t ++ stands) (audit-more h conn piece) ∙ append_assoc (audit s.table h) (audit s.table (map (on_connection conn) piece)) stands
-
-  -- a front of some text is one of a longer text
-  tells-some-more : (out out' : Option (List ℕ)) (xs ys : List ℕ) → TellsSome out out' xs → TellsSome out out' (xs ++ ys)
-  tells-some-more out out' xs ys some = (
-    some.0,
-    (let few : some.0 ≤ length xs = some.1 in omega (arith, length-append xs ys, few)),
-    subst (Appends out out') (sym (take-append-le some.0 xs ys some.1)) some.2,
-  )
 
   -- the line went on to this connection, by this piece
   goes-on : (l : Line) (cs : List Connection) (quotas : Counters) (out wire : Option (List ℕ)) (b : Before s l cs quotas out wire) (place : ℕ) (c : Connection) (it : IsCut cs place c) (other : Opened)
@@ -352,13 +355,12 @@ module _ (laws : HistoryLaws) (s : Script) where
   -- all of what happened before, and a front of the piece's lines
   tells-piece : (l : Line) (cs : List Connection) (quotas : Counters) (out out' wire : Option (List ℕ)) (b : Before s l cs quotas out wire) (c : Connection) (st : State) (piece : List Happening)
       → st.history ≡ b.st.history ++ map (on_connection c.calls.conn) piece → TellsSome out out' (audit s.table (map (on_connection c.calls.conn) piece))
-      → TellsFront s b.st st b.out out'
+      → TellsFront s b.st (audit s.table st.history) b.out out'
   tells-piece l cs quotas out out' wire b c st piece same some =
       let lines : List ℕ = audit s.table (map (on_connection c.calls.conn) piece) in
-      let stands : List ℕ = all_stands st.opened in
-      tells-front s b.st st (lines ++ stands) b.out out'
-      (ap (λ h. audit s.table h ++ stands) same ∙ text-more b.st.history c.calls.conn piece stands)
-      (tells-behind b.out out out' (audit s.table b.st.history) (lines ++ stands) b.ran.told (tells-some-more out out' lines stands some))
+      tells-front s b.st (audit s.table st.history) lines b.out out'
+      (ap (audit s.table) same ∙ audit-more b.st.history c.calls.conn piece)
+      (tells-behind b.out out out' (audit s.table b.st.history) lines b.ran.told some)
 
   untold-some : (c mid : Connection) (piece : List Happening) (out out' : Option (List ℕ)) → IsPiece (course c.calls).past (course mid.calls).past piece → mid.told ≡ length c.calls.happenings
       → mid.calls.conn ≡ c.calls.conn → TellsSome out out' (untold s.table mid) → TellsSome out out' (audit s.table (map (on_connection c.calls.conn) piece))
@@ -373,7 +375,7 @@ module _ (laws : HistoryLaws) (s : Script) where
       (sym hands.frames ∙ ap (λ (d : Course). frames_behind T c.calls.conn d.past) same ∙ sym (append-nil past)) in
       let nothing : Appends wire wire' [] = subst (λ fs. Appends wire wire' (joined fs)) none hands.told in
       stops_in b.st b.st (record { lines = b.lines; behind = l ∷ b.others; order = b.order; leads = b.ran.leads; begun = inl refl })
-      (tells-front s b.st b.st (all_stands b.st.opened) b.out out refl (tells-none b.out out (audit s.table b.st.history) (all_stands b.st.opened) b.ran.told))
+      (tells-all s b.st b.out out b.ran.told)
       (subst (Appends b.wire wire') (append-nil (sent s b.st)) (appends-more b.wire wire wire' (sent s b.st) [] b.ran.handed nothing))
 
   stops-partly : (l : Line) (cs : List Connection) (place : ℕ) (c : Connection) (quotas : Counters) (out wire wire' : Option (List ℕ)) → IsScript s → (b : Before s l cs quotas out wire) (it : IsCut cs place c)
@@ -429,6 +431,7 @@ module _ (laws : HistoryLaws) (s : Script) where
       let next : State = next_state b.st (map opened_of it.front) (opened_of mid) (map opened_of it.back) c.calls.conn piece in
       let is : IsOn l cs quotas out wire b c (course mid.calls) piece = is-on l cs quotas out wire b place c (course mid.calls) piece script it added in
       stops_behind next broken.tried (leads-until l cs quotas out wire wire' b place c it mid piece q q' on broken added)
-      (tells-piece l cs quotas out out' wire b c next piece refl (untold-some c mid piece out out' added (broken.keeps.told ∙ ready.told) broken.keeps.same.conn some))
+      (tells-more s b.st (audit s.table next.history) (all_stands next.opened) b.out out'
+      (tells-piece l cs quotas out out' wire b c next piece refl (untold-some c mid piece out out' added (broken.keeps.told ∙ ready.told) broken.keeps.same.conn some)))
       broken.hands.many broken.hands.few
       (breaks-on l cs quotas out wire wire' b c (course mid.calls) piece broken.tried is broken.hands)

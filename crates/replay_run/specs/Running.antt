@@ -1,5 +1,5 @@
 -- What the run of a script leaves (this project's own).
-use Rattle.std.specs.Prelude.{◌≡◌, ℕ, ◌<◌, ◌≤◌, ◌⊎◌, List, ◌∷◌, ◌++◌, length, take, Option}
+use Rattle.std.specs.Prelude.{◌≡◌, ℕ, ◌<◌, ◌≤◌, ◌⊎◌, List, [], ◌∷◌, ◌++◌, length, take, Option}
 use Rattle.std.specs.List.{flat_map}
 use Rattle.std.specs.Io.KnownBytes.{Appends}
 use Rattle.mrpc_table.specs.declared.call.Call.{Call}
@@ -60,19 +60,26 @@ pub record RunsInto (s : Script) (before end : State) : Type 0 where
   pub leads : Leads s start lines before
   pub begun : (end ≡ before) ⊎ ((l : Line) × (others : List Line) × (behind ≡ l ∷ others) × Begins s before l end)
 
--- some text was written: all of what happened before the last line, and a front of what may be written of the end
-pub record TellsFront (s : Script) (before end : State) (out out' : Option (List ℕ)) : Type 0 where
+-- what may be written where these lines are left: what happened, and the calls that stand only where none is left
+abbrev pub text_before : Script → List Line → State → List ℕ
+text_before s [] end = text s end
+text_before s (l ∷ lines) end = audit s.table end.history
+
+-- a front of a text was written, and in it all of what happened before the last line
+pub record TellsFront (s : Script) (before : State) (all : List ℕ) (out out' : Option (List ℕ)) : Type 0 where
   pub many : ℕ
   pub least : length (audit s.table before.history) ≤ many
-  pub most : many ≤ length (text s end)
-  pub told : Appends out out' (take many (text s end))
+  pub most : many ≤ length all
+  pub told : Appends out out' (take many all)
 
 -- The run stopped: with all frames of the calls that were sent, or behind a sending that failed. So each sending that
--- is told is on the wire, and those that aren't told are of one line.
+-- is told is on the wire, and those that aren't told are of one line. A call that stands is told only where no line is
+-- left to run: behind the last one, or behind the one whose sending failed.
 pub data Stops (s : Script) (out out' wire wire' : Option (List ℕ)) : Type 0 where
-  stops_in : (before end : State) → RunsInto s before end → TellsFront s before end out out'
+  stops_in : (before end : State) (runs : RunsInto s before end)
+      → TellsFront s before (text_before s runs.behind end) out out'
       → Appends wire wire' (sent s end) → Stops s out out' wire wire'
   stops_behind : (end : State) (tried : Call) (leads : LeadsUntil s tried end)
-      → TellsFront s leads.before end out out'
+      → TellsFront s leads.before (text s end) out out'
       → (n : ℕ) → n < length (frame_of s.table tried)
       → Appends wire wire' (sent s end ++ take n (frame_of s.table tried)) → Stops s out out' wire wire'

@@ -1,4 +1,4 @@
--- The words of a `store` line with short numbers.
+-- The words of lines with short numbers.
 use Rattle.std.proofs.Common.{◌≡◌, ℕ, suc, ◌+◌, ◌-◌, ◌*◌, ◌^◌, ◌==◌, ◌<◌, ◌≤◌, true, false, nat_le, All, List, [], ◌∷◌, length, take, get_or, Some, ap, sym, subst, ◌∙◌, refl, arith, leb-true, le-ltb, lt-ltb, append-nil}
 use Rattle.std.specs.Char.{digit_value, is_ascii_digit}
 use Rattle.std.specs.List.{list_all, AllByRecursion}
@@ -15,8 +15,10 @@ use Rattle.script_words.specs.Forms.{form_in, sorts_of}
 use Rattle.script_words.specs.Lines.{AreSaid}
 use Rattle.script_words.specs.Values.{plain}
 use Rattle.script_words.specs.declared.form.Form.TheVariants as form
-use Rattle.script_text.specs.Stores.{store_words, IsNumberBefore}
+use Rattle.script_text.specs.Stores.{store_words, submit_words, turn_words, IsNumberBefore}
 use Rattle.script_text.specs.Words.{IsSaid}
+use Rattle.script_text.specs.declared.short.Submit.{Submit}
+use Rattle.script_text.specs.declared.short.Turn.{Turn}
 use Rattle.script_text.specs.declared.store.Store.{Store}
 
 -- ---- digits
@@ -99,4 +101,39 @@ is_store line first second third conn place value begins c p v low high =
       has_form = subst (λ (ws : List (List ℕ)). form_in ws ≡ Some form.Store) (sym words) refl;
       said = subst (λ (ws : List (List ℕ)). AreSaid (sorts_of form.Store) ws (store_words s)) (sym words)
           ((refl, refl), ((c.spells, (low, high)), ((place, p.spells, small_is place p.small), ((plain value, v.spells, v.small, refl), tt))));
+    }
+
+pub is_submit : (line first second third : List ℕ) (conn method addr : ℕ)
+    → line ≡ 115 ∷ 117 ∷ 98 ∷ 109 ∷ 105 ∷ 116 ∷ 32 ∷ first → IsNumberBefore first conn (32 ∷ second)
+    → IsNumberBefore second method (32 ∷ third) → IsNumberBefore third addr [] → 1 ≤ conn → conn ≤ 16 → method ≤ 65535
+    → IsSaid form.Submit line (submit_words (record { conn = conn; method = method; addr = addr }))
+is_submit line first second third conn method addr begins c m a low high few =
+    let s : Submit = record { conn = conn; method = method; addr = addr } in
+    let submit : List ℕ = 115 ∷ 117 ∷ 98 ∷ 109 ∷ 105 ∷ 116 ∷ [] in
+    let words : words_of line ≡ submit ∷ c.digits ∷ m.digits ∷ a.digits ∷ [] =
+    ap words_of begins ∙ ap (λ (ws : List (List ℕ)). submit ∷ ws) (word_before c
+    ∙ ap (λ (ws : List (List ℕ)). c.digits ∷ ws) (word_before m ∙ ap (λ (ws : List (List ℕ)). m.digits ∷ ws) (last_word a))) in
+    let none : 0 ≤ method = omega arith in
+    let least : 0 ≤ addr = omega arith in
+    let most : addr ≤ 2 ^ 64 - 1 = omega (arith, a.small) in
+    record {
+      has_form = subst (λ (ws : List (List ℕ)). form_in ws ≡ Some form.Submit) (sym words) refl;
+      said = subst (λ (ws : List (List ℕ)). AreSaid (sorts_of form.Submit) ws (submit_words s)) (sym words)
+          ((refl, refl), ((c.spells, (low, high)), ((m.spells, (none, few)), ((a.spells, (least, most)), tt))));
+    }
+
+pub is_turn : (line first second : List ℕ) (conn at : ℕ)
+    → line ≡ 116 ∷ 117 ∷ 114 ∷ 110 ∷ 32 ∷ first → IsNumberBefore first conn (32 ∷ second)
+    → IsNumberBefore second at [] → 1 ≤ conn → conn ≤ 16
+    → IsSaid form.Turn line (turn_words (record { conn = conn; at = Small at }))
+is_turn line first second conn at begins c a low high =
+    let t : Turn = record { conn = conn; at = Small at } in
+    let turn : List ℕ = 116 ∷ 117 ∷ 114 ∷ 110 ∷ [] in
+    let words : words_of line ≡ turn ∷ c.digits ∷ a.digits ∷ [] =
+    ap words_of begins ∙ ap (λ (ws : List (List ℕ)). turn ∷ ws) (word_before c
+    ∙ ap (λ (ws : List (List ℕ)). c.digits ∷ ws) (last_word a)) in
+    record {
+      has_form = subst (λ (ws : List (List ℕ)). form_in ws ≡ Some form.Turn) (sym words) refl;
+      said = subst (λ (ws : List (List ℕ)). AreSaid (sorts_of form.Turn) ws (turn_words t)) (sym words)
+          ((refl, refl), ((c.spells, (low, high)), ((at, a.spells, small_is at a.small), tt)));
     }

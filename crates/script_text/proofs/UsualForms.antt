@@ -1,6 +1,6 @@
 -- Lines of the usual forms: words that are right for one of them are of that form.
 use Rattle.std.proofs.Common.{◌≡◌, ℕ, List, [], ◌∷◌, Some, refl, sym, ap, subst, ◌∙◌, inl, inr}
-use Rattle.script_words.specs.Forms.{form_in, sorts_of, conn, method, any}
+use Rattle.script_words.specs.Forms.{form_in, sorts_of, conn}
 use Rattle.script_words.specs.Keywords.{spelling}
 use Rattle.script_words.specs.Lines.{AreSaid}
 use Rattle.script_words.specs.Sorts.{Meaning, word, number, unbounded, name, Says}
@@ -66,23 +66,11 @@ is_drain ws ms h =
     let t = two (sort.Key keyword.Drain) conn ws ms h in
     by_words form.Drain ws (t.0 ∷ t.1 ∷ []) t.4 (by_words form.Drain (t.0 ∷ t.1 ∷ []) (spelling keyword.Drain ∷ t.1 ∷ []) (ap (λ (u : List ℕ). u ∷ t.1 ∷ []) (key_word keyword.Drain t.0 t.2 t.3)) refl)
 
-is_turn : (ws : List (List ℕ)) (ms : List Meaning) → AreSaid (sorts_of form.Turn) ws ms → form_in ws ≡ Some form.Turn
-is_turn ws ms h =
-    let t = three (sort.Key keyword.Turn) conn sort.Unbounded ws ms h in
-    by_words form.Turn ws (t.0 ∷ t.1 ∷ t.2 ∷ []) t.5
-    (by_words form.Turn (t.0 ∷ t.1 ∷ t.2 ∷ []) (spelling keyword.Turn ∷ t.1 ∷ t.2 ∷ []) (ap (λ (u : List ℕ). u ∷ t.1 ∷ t.2 ∷ []) (key_word keyword.Turn t.0 t.3 t.4)) refl)
-
 is_upgrade : (ws : List (List ℕ)) (ms : List Meaning) → AreSaid (sorts_of form.Upgrade) ws ms → form_in ws ≡ Some form.Upgrade
 is_upgrade ws ms h =
     let t = four (sort.Key keyword.Upgrade) conn sort.Name sort.Name ws ms h in
     by_words form.Upgrade ws (t.0 ∷ t.1 ∷ t.2 ∷ t.3 ∷ []) t.6
     (by_words form.Upgrade (t.0 ∷ t.1 ∷ t.2 ∷ t.3 ∷ []) (spelling keyword.Upgrade ∷ t.1 ∷ t.2 ∷ t.3 ∷ []) (ap (λ (u : List ℕ). u ∷ t.1 ∷ t.2 ∷ t.3 ∷ []) (key_word keyword.Upgrade t.0 t.4 t.5)) refl)
-
-is_submit : (ws : List (List ℕ)) (ms : List Meaning) → AreSaid (sorts_of form.Submit) ws ms → form_in ws ≡ Some form.Submit
-is_submit ws ms h =
-    let t = four (sort.Key keyword.Submit) conn method any ws ms h in
-    by_words form.Submit ws (t.0 ∷ t.1 ∷ t.2 ∷ t.3 ∷ []) t.6
-    (by_words form.Submit (t.0 ∷ t.1 ∷ t.2 ∷ t.3 ∷ []) (spelling keyword.Submit ∷ t.1 ∷ t.2 ∷ t.3 ∷ []) (ap (λ (u : List ℕ). u ∷ t.1 ∷ t.2 ∷ t.3 ∷ []) (key_word keyword.Submit t.0 t.4 t.5)) refl)
 
 moved : (f g : Form) → f ≡ g → (ws : List (List ℕ)) (ms : List Meaning) → AreSaid (sorts_of f) ws ms
     → ((xs : List (List ℕ)) (ns : List Meaning) → AreSaid (sorts_of g) xs ns → form_in xs ≡ Some g) → form_in ws ≡ Some f
@@ -91,7 +79,5 @@ moved f g e ws ms h is =
 
 -- words that are right for a usual form are of that form
 pub form_is : (f : Form) → IsUsual f → (ws : List (List ℕ)) (ms : List Meaning) → AreSaid (sorts_of f) ws ms → form_in ws ≡ Some f
-form_is f (inl e) ws ms h = moved f form.Submit e ws ms h is_submit
-form_is f (inr (inl e)) ws ms h = moved f form.Turn e ws ms h is_turn
-form_is f (inr (inr (inl e))) ws ms h = moved f form.Upgrade e ws ms h is_upgrade
-form_is f (inr (inr (inr e))) ws ms h = moved f form.Drain e ws ms h is_drain
+form_is f (inl e) ws ms h = moved f form.Upgrade e ws ms h is_upgrade
+form_is f (inr e) ws ms h = moved f form.Drain e ws ms h is_drain

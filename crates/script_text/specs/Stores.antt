@@ -1,14 +1,23 @@
--- The code's own: what a `store` line with short numbers says.
+-- The code's own: what lines with short numbers say.
 use Rattle.std.specs.Prelude.{◌≡◌, ℕ, ◌^◌, ◌<◌, true, List, [], ◌∷◌, ◌++◌}
 use Rattle.std.specs.Char.{is_ascii_digit}
 use Rattle.std.specs.List.{list_all}
 use Rattle.script_words.specs.Sorts.{Meaning, word, number, unbounded}
 use Rattle.script_words.specs.Values.{IsNumber}
 use Rattle.script_words.specs.declared.keyword.Keyword.TheVariants as keyword
+use Rattle.script_text.specs.declared.short.Submit.{Submit}
+use Rattle.script_text.specs.declared.short.Turn.{Turn}
 use Rattle.script_text.specs.declared.store.Store.{Store}
 
 abbrev pub store_words : Store → List Meaning
 store_words s = word keyword.Store ∷ number s.conn ∷ unbounded s.place ∷ number s.value ∷ []
+
+-- those of a request
+abbrev pub submit_words : Submit → List Meaning
+submit_words s = word keyword.Submit ∷ number s.conn ∷ number s.method ∷ number s.addr ∷ []
+
+abbrev pub turn_words : Turn → List Meaning
+turn_words t = word keyword.Turn ∷ number t.conn ∷ unbounded t.at ∷ []
 
 -- digits that spell a number of 64 bits, and what stands behind them
 pub record IsNumberBefore (text : List ℕ) (n : ℕ) (rest : List ℕ) : Type 0 where

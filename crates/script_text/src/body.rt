@@ -4,7 +4,7 @@ ghost use Rattle.std.specs.Prelude.{◌≡◌, ◌+◌, ◌*◌, ◌<◌, ◌≤
 ghost use Rattle.mrpc_table.specs.declared.limits.TheConstants.{MAX_HEAP, MAX_LOADS};
 ghost use Rattle.script_words.specs.Meanings.{meanings_of};
 ghost use Rattle.script_words.specs.Sorts.{IsIn, number_at};
-ghost use Rattle.script_text.specs.Stores.{store_words};
+ghost use Rattle.script_text.specs.Stores.{store_words, submit_words, turn_words};
 ghost use Rattle.script_text.specs.Words.{IsSaid};
 ghost use Rattle.script_text.specs.Keeping.{words_kept, links_kept, heap_kept, place_kept, load_kept, work_kept, policy_kept, kind_at, conn_said, store_said, race_said, submit_said, attaching, attach_said, detaching, detach_said, upgrading, upgrade_said, turn_said, moment_said, send_said, drain_said, line_said, IsMade, IsFreshBody, CanAdd, connections_after, submissions_after};
 
@@ -12,6 +12,7 @@ use crate::chain::{Kind, Link};
 use crate::connections::Connections;
 use crate::limits::MAX_WORK;
 use crate::script::{Line, Lines};
+use crate::short::{Submit, Turn};
 use crate::store::Store;
 use mrpc_table::{Decimal, Memory, Name};
 use policy_blocks::Declarations;
@@ -85,6 +86,16 @@ fn policy_in(declared: &Declarations, name: &[u8]) -> Result<usize, ScriptReason
     match declared.policy(name) {
         Some(place) => Ok(place),
         None => Err(ScriptReason::Unknown),
+    }
+}
+
+/// The line, or the flaw that a reason is.
+fn made(said: Result<Line, ScriptReason>) -> Result<Line, Flaw>
+    ensures { IsMade said result }
+{
+    match said {
+        Ok(line) => Ok(line),
+        Err(reason) => Err(Flaw::Reason(reason)),
     }
 }
 
@@ -182,6 +193,32 @@ impl Body {
         }
     }
 
+    /// The line that submits a call, a request where the number is 0, where the connection is open and calls may load
+    /// as much.
+    #[tactic(auto, unfolding(crate::specs::Keeping::submit_said))]
+    pub(crate) fn submitted(
+        &self,
+        loads: u64,
+        submit: Submit,
+        number: u64,
+    ) -> Result<Line, ScriptReason>
+        requires conn { IsIn 1 16 submit.conn }
+        requires method { submit.method ≤ 65535 }
+        requires number { number < 2 ^ 32 }
+        requires small { loads ≤ MAX_LOADS }
+        requires few { self.now.submissions ≤ MAX_WORK }
+        ensures { result ≡ submit_said loads self.now (submit_words submit) number }
+    {
+        self.heap(submit.conn)?;
+        self.has_room(loads)?;
+        Ok(Line::Submit {
+            conn: submit.conn as u32,
+            method: submit.method as u16,
+            number: number as u32,
+            addr: submit.addr,
+        })
+    }
+
     #[tactic(auto, unfolding(crate::specs::Keeping::submit_said))]
     fn submit(&self, loads: u64, words: &[Said<'_>], number: u64) -> Result<Line, ScriptReason>
         requires conn { IsIn 1 16 (number_at (meanings_of words.now) 1) }
@@ -191,15 +228,12 @@ impl Body {
         requires few { self.now.submissions ≤ MAX_WORK }
         ensures { result ≡ submit_said loads self.now (meanings_of words.now) number }
     {
-        let conn = number_at(words, 1);
-        self.heap(conn)?;
-        self.has_room(loads)?;
-        Ok(Line::Submit {
-            conn: conn as u32,
-            method: number_at(words, 2) as u16,
-            number: number as u32,
+        let submit = Submit {
+            conn: number_at(words, 1),
+            method: number_at(words, 2),
             addr: number_at(words, 3),
-        })
+        };
+        self.submitted(loads, submit, number)
     }
 
     /// The position at which a policy is attached, and its place among the declared ones.
@@ -294,21 +328,28 @@ impl Body {
         })
     }
 
+    /// The line of a turn, where the connection is open and an engine stands at the position.
+    #[tactic(auto, unfolding(crate::specs::Keeping::turn_said))]
+    pub(crate) fn turned(&self, turn: Turn) -> Result<Line, ScriptReason>
+        requires { IsIn 1 16 turn.conn }
+        ensures { result ≡ turn_said self.now (turn_words turn) }
+    {
+        self.heap(turn.conn)?;
+        let at = self.connections.at(turn.conn).links.engine(turn.at)?;
+        Ok(Line::Turn {
+            conn: turn.conn as u32,
+            at,
+        })
+    }
+
     #[tactic(auto, unfolding(crate::specs::Keeping::turn_said))]
     fn turn(&self, words: &[Said<'_>]) -> Result<Line, ScriptReason>
         requires { IsIn 1 16 (number_at (meanings_of words.now) 1) }
         ensures { result ≡ turn_said self.now (meanings_of words.now) }
     {
-        let conn = number_at(words, 1);
-        self.heap(conn)?;
-        let at = self
-            .connections
-            .at(conn)
-            .links
-            .engine(unbounded_at(words, 2))?;
-        Ok(Line::Turn {
-            conn: conn as u32,
-            at,
+        self.turned(Turn {
+            conn: number_at(words, 1),
+            at: unbounded_at(words, 2),
         })
     }
 
@@ -361,18 +402,18 @@ impl Body {
         ensures { IsMade (line_said loads declared.now self.now form (meanings_of words.now)) result }
     {
         match form {
-            Form::Conn => Ok(self.conn(words)?),
-            Form::Store => Ok(self.store(words)?),
-            Form::Race => Ok(self.race(words)?),
-            Form::Submit => Ok(self.submit(loads, words, 0)?),
-            Form::Reply => Ok(self.submit(loads, words, number_at(words, 4))?),
+            Form::Conn => made(self.conn(words)),
+            Form::Store => made(self.store(words)),
+            Form::Race => made(self.race(words)),
+            Form::Submit => made(self.submit(loads, words, 0)),
+            Form::Reply => made(self.submit(loads, words, number_at(words, 4))),
             Form::Attach => self.attach(alloc, declared, words),
             Form::Detach => self.detach(alloc, words),
             Form::Upgrade => self.upgrade(alloc, declared, words),
-            Form::Moment => Ok(self.moment(words)?),
-            Form::Turn => Ok(self.turn(words)?),
-            Form::Send => Ok(self.send(words)?),
-            Form::Drain => Ok(self.drain(words)?),
+            Form::Moment => made(self.moment(words)),
+            Form::Turn => made(self.turn(words)),
+            Form::Send => made(self.send(words)),
+            Form::Drain => made(self.drain(words)),
             Form::Tenant
             | Form::Access
             | Form::Rate

@@ -9,9 +9,9 @@ ghost use Rattle.policy_blocks.specs.Blocks.{is_skipped};
 ghost use Rattle.policy_blocks.specs.Items.{item_form, Declares};
 ghost use Rattle.script_words.specs.Meanings.{meanings_of};
 ghost use Rattle.script_words.specs.Forms.{form_in};
-ghost use Rattle.script_words.specs.declared.form.Form.TheVariants.{Store as StoreForm};
+ghost use Rattle.script_words.specs.declared.form.Form.TheVariants.{Store as StoreForm, Submit as SubmitForm, Turn as TurnForm};
 ghost use Rattle.script_text.specs.Changes.{seen, IsKept, IsSaidBy, IsFlawOf, IsChange, IsSaidChange, IsLineFault, IsItemFault, IsStopOf};
-ghost use Rattle.script_text.specs.Stores.{store_words};
+ghost use Rattle.script_text.specs.Stores.{store_words, submit_words, turn_words};
 ghost use Rattle.script_text.specs.Usual.{IsUsual};
 ghost use Rattle.script_text.specs.Words.{IsSaid};
 ghost use Rattle.script_text.specs.declared.limits.TheConstants.{MAX_WORK};
@@ -19,6 +19,7 @@ ghost use Rattle.script_text.specs.declared.limits.TheConstants.{MAX_WORK};
 use crate::body::{Body, Flaw};
 use crate::laws::one_laws;
 use crate::script::Line;
+use crate::short::{Submit, Turn, short_submit, short_turn};
 use crate::store::{Store, short_store};
 use memchr::memchr;
 use mrpc_table::Table;
@@ -150,8 +151,6 @@ fn usual_form(first: u8) -> Option<Form>
     ensures { IfSome result IsUsual }
 {
     match first {
-        b's' => Some(Form::Submit),
-        b't' => Some(Form::Turn),
         b'u' => Some(Form::Upgrade),
         b'd' => Some(Form::Drain),
         _ => None,
@@ -202,22 +201,80 @@ fn stored(
     }
 }
 
-/// The line that a text begins with, and what stands behind it, where that line stores a word, its numbers are short,
-/// and nothing stands against it. None for each other line.
-pub(crate) fn front_store<'a>(
+/// The line that words say which say that a call is submitted, where nothing stands against it.
+fn submitted(
+    loads: u64,
+    declared: &Declarations,
+    body: &Body,
+    line: &[u8],
+    submit: Submit,
+) -> Option<Line>
+    requires small { loads ≤ MAX_LOADS }
+    requires kept { IsKept loads declared.now body.now }
+    requires few { body.now.submissions ≤ MAX_WORK }
+    requires said { IsSaid SubmitForm line.now (submit_words submit) }
+    ensures { IfSome result (λ made. IsSaidChange loads (seen declared.now body.now) line.now (Change.Line made)) }
+{
+    one_laws();
+    if body.closed {
+        return None;
+    }
+    match body.submitted(loads, submit, 0) {
+        Ok(made) => Some(made),
+        Err(_) => None,
+    }
+}
+
+/// The line that words say which say that an engine has a turn, where nothing stands against it.
+fn turned(loads: u64, declared: &Declarations, body: &Body, line: &[u8], turn: Turn) -> Option<Line>
+    requires kept { IsKept loads declared.now body.now }
+    requires said { IsSaid TurnForm line.now (turn_words turn) }
+    ensures { IfSome result (λ made. IsSaidChange loads (seen declared.now body.now) line.now (Change.Line made)) }
+{
+    one_laws();
+    if body.closed {
+        return None;
+    }
+    match body.turned(turn) {
+        Ok(made) => Some(made),
+        Err(_) => None,
+    }
+}
+
+/// What a line says that stores a word, submits a request or gives an engine a turn, where its numbers are short, and
+/// nothing stands against it. None for each other line.
+fn short_line(loads: u64, declared: &Declarations, body: &Body, line: &[u8]) -> Option<Line>
+    requires small { loads ≤ MAX_LOADS }
+    requires kept { IsKept loads declared.now body.now }
+    requires few { body.now.submissions ≤ MAX_WORK }
+    ensures { IfSome result (λ made. IsSaidChange loads (seen declared.now body.now) line.now (Change.Line made)) }
+{
+    if let Some(store) = short_store(line) {
+        return stored(loads, declared, body, line, store);
+    }
+    if let Some(turn) = short_turn(line) {
+        return turned(loads, declared, body, line, turn);
+    }
+    submitted(loads, declared, body, line, short_submit(line)?)
+}
+
+/// The line that a text begins with, and what stands behind it, where that line is short (`short_line`). None for each
+/// other line.
+pub(crate) fn front_line<'a>(
     loads: u64,
     declared: &Declarations,
     body: &Body,
     text: &'a [u8],
 ) -> Option<(Line, &'a [u8])>
-    requires { IsKept loads declared.now body.now }
+    requires small { loads ≤ MAX_LOADS }
+    requires kept { IsKept loads declared.now body.now }
+    requires few { body.now.submissions ≤ MAX_WORK }
     ensures { (T : TheTable) → IfSome result (λ r. IsChange loads T (seen declared.now body.now) text.now
         (Change.Line r.0) r.1.now) }
 {
     one_laws();
     let (line, behind) = cut_line(text)?;
-    let store = short_store(line)?;
-    let made = stored(loads, declared, body, line, store)?;
+    let made = short_line(loads, declared, body, line)?;
     Some((made, behind))
 }
 

@@ -18,6 +18,7 @@ mod laws;
 mod limits;
 mod read;
 mod script;
+mod short;
 mod store;
 
 pub use laws::one_script;

@@ -12,7 +12,7 @@ ghost use Rattle.script_text.specs.Texts.{Reaches, Spells, IsFaultOf};
 ghost use Rattle.script_text.specs.declared.script.Script.{Script as TheScript};
 
 use crate::body::Body;
-use crate::change::{Change, first_change, front_store};
+use crate::change::{Change, first_change, front_line};
 use crate::laws::{one_laws, one_script};
 use crate::script::{Lines, Script};
 use mrpc_table::{Memory, Table, line_count};
@@ -123,7 +123,7 @@ fn read_lines(
     };
     let mut rest = text;
     while !rest.is_empty() {
-        if let Some((line, behind)) = front_store(loads, &declared, &body, rest) {
+        if let Some((line, behind)) = front_line(loads, &declared, &body, rest) {
             match body.add(alloc, &declared, line) {
                 Ok(()) => {}
                 Err(Memory) => return Err(Stop::Memory),

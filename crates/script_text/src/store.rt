@@ -23,7 +23,7 @@ pub(crate) struct Store {
 
 /// The number that the first digits of a text spell, and what stands behind them; none where a text doesn't begin with
 /// a number. Of more digits than surely fit, the last ones are left.
-fn front_number(text: &[u8]) -> Option<(u64, &[u8])>
+pub(crate) fn front_number(text: &[u8]) -> Option<(u64, &[u8])>
     ensures { IfSome result (λ r. IsNumberBefore text.now r.0 r.1.now) }
 {
     let most = text.len().min(FEW_DIGITS);
@@ -51,7 +51,7 @@ fn is_number(digits: &[u8]) -> bool
 }
 
 /// What stands behind the space with which a text begins.
-fn behind_space(text: &[u8]) -> Option<&[u8]>
+pub(crate) fn behind_space(text: &[u8]) -> Option<&[u8]>
     ensures { IfSome result (λ r. text.now ≡ 32 ∷ r.now) }
 {
     match text {

@@ -2,7 +2,7 @@ use Rattle.script_text.specs.Changes.{seen}
 use Rattle.script_text.specs.declared.change.Change.TheVariants as change
 use Rattle.script_text.proofs.Changing.{said_change}
 use Rattle.script_text.proofs.TextLines.{cut_is}
-use Rattle.script_text.proofs.change.front_store.Goals as goal
+use Rattle.script_text.proofs.change.front_line.Goals as goal
 
 pub returns : goal.returns
 returns c T =

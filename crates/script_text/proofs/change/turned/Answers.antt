@@ -1,0 +1,23 @@
+use Rattle.std.proofs.Common.{◌≢◌, refl, sym, ◌∙◌}
+use Rattle.script_words.specs.declared.form.Form.TheVariants as form
+use Rattle.script_text.specs.Stores.{turn_words}
+use Rattle.script_text.specs.declared.change.Change.TheVariants as change
+use Rattle.script_text.proofs.Changing.{open_change}
+use Rattle.script_text.proofs.Kept.{said_by}
+use Rattle.script_text.proofs.Ranges.{number_of}
+use Rattle.script_text.proofs.change.turned.Goals as goal
+
+goes_on : form.Turn ≢ form.Close
+goes_on e = cc
+
+pub turned-requires : goal.turned-requires
+turned-requires c = number_of form.Turn c.args.line.now (turn_words c.args.turn) 1 1 16 c.requires.said refl
+
+pub returns-in-Ok : goal.returns-in-Ok
+returns-in-Ok c =
+    let d = c.args.declared.now in
+    let body = c.args.body.now in
+    let line = c.args.line.now in
+    let m = turn_words c.args.turn in
+    let same = said_by c.args.loads d body c.requires.kept form.Turn line m c.requires.said refl goes_on in
+    open_change c.one_laws.ensures c.args.loads d body line form.Turn m (change.Line c.in-Ok.made) c.requires.said refl c.if-body.false (goes_on, sym same ∙ sym c.turned.ensures ∙ c.in-Ok.is)
