@@ -142,11 +142,10 @@ same-flag true c is = sym (is.0 refl)
 same-flag false true is = is.1 refl
 same-flag false false is = refl
 
--- five texts, one after another
-pub five-texts : (out a b c d e o1 o2 o3 o4 o5 : List ℕ) → o1 ≡ out ++ a → o2 ≡ o1 ++ b → o3 ≡ o2 ++ c → o4 ≡ o3 ++ d
-    → o5 ≡ o4 ++ e → o5 ≡ out ++ (a ++ b ++ c ++ d ++ e)
-five-texts out a b c d e o1 o2 o3 o4 o5 first second third fourth fifth =
+-- four texts, one after another
+pub four-texts : (out a b c d o1 o2 o3 o4 : List ℕ) → o1 ≡ out ++ a → o2 ≡ o1 ++ b → o3 ≡ o2 ++ c → o4 ≡ o3 ++ d
+    → o4 ≡ out ++ (a ++ b ++ c ++ d)
+four-texts out a b c d o1 o2 o3 o4 first second third fourth =
     let two : o2 ≡ out ++ (a ++ b) = second ∙ ap (λ o. o ++ b) first ∙ append_assoc out a b in
     let three : o3 ≡ out ++ (a ++ b ++ c) = third ∙ ap (λ o. o ++ c) two ∙ append_assoc out (a ++ b) c in
-    let four : o4 ≡ out ++ (a ++ b ++ c ++ d) = fourth ∙ ap (λ o. o ++ d) three ∙ append_assoc out (a ++ b ++ c) d in
-    fifth ∙ ap (λ o. o ++ e) four ∙ append_assoc out (a ++ b ++ c ++ d) e
+    fourth ∙ ap (λ o. o ++ d) three ∙ append_assoc out (a ++ b ++ c) d

@@ -1,19 +1,22 @@
 //! The whole text of what a run tells.
 
-ghost use Rattle.std.specs.Prelude.{◌≡◌, ◌++◌, List, ℕ, All, IfOk, OnOk};
+ghost use Rattle.std.specs.Prelude.{◌≡◌, ◌++◌, List, ℕ, All, IfOk, OnOk, map};
 ghost use Rattle.std.specs.List.{AllZip, concat, flat_map};
 ghost use Rattle.telemetry.specs.Totals.{IsCountOf, IsTotals};
 ghost use Rattle.run_text.specs.Counting.{counted_in};
+ghost use Rattle.run_text.specs.Fronts.{AreMade, front_of, served_front};
 ghost use Rattle.run_text.specs.Told.{IsRunText, IsServedText, IsShownText, IsTellable, IsTellableConn, rounds_line, rounds_of, rounds_words};
 
-use crate::arrived::{append_arrivals, append_false_reclaims};
-use crate::connection::{append_history, append_standing_calls};
+use crate::arrived::append_false_reclaims;
+use crate::connection::append_standing_calls;
 use crate::counting::count_all;
+use crate::fronts::all_fronts;
 use crate::left::append_left;
 use crate::shown::{Rounds, Shown, ShownConn};
-use arrival_text::{append_unbound, lines_fit};
+use arrival_text::append_unbound;
 use mrpc_table::{Bytes, Memory};
 use std::alloc::Global;
+use std::thread::Threads;
 use telemetry::{Totals, totals_are_counts};
 
 /// What a run tells, with the counts of its lines.
@@ -23,8 +26,13 @@ pub struct RunText {
     pub totals: Totals,
 }
 
-/// What a run tells, of connections in this order, and behind them the counts of all lines. The only error is `Memory`.
-pub fn run_text(alloc: Global, shown: &[Shown<'_, '_>]) -> Result<RunText, Memory>
+/// What a run tells, of connections in this order, and behind them the counts of all lines. What is long of each
+/// connection is made in a thread of its own, where one can be made. The only error is `Memory`.
+pub fn run_text<R: Threads + Sync>(
+    rt: &R,
+    alloc: Global,
+    shown: &[Shown<'_, '_>],
+) -> Result<RunText, Memory>
     requires { All IsTellable shown.now }
     ensures text { IfOk result (λ told. IsRunText shown.now told.text) }
     ensures counts { IfOk result (λ told. IsCountOf (flat_map counted_in shown.now) told.totals) }
@@ -32,54 +40,55 @@ pub fn run_text(alloc: Global, shown: &[Shown<'_, '_>]) -> Result<RunText, Memor
 {
     totals_are_counts();
     let mut text = Bytes::new(alloc);
-    append_each(alloc, &mut text, shown)?;
+    let fronts = all_fronts(rt, alloc, shown)?;
+    append_each(&mut text, shown, fronts.as_slice())?;
     let totals = count_all(alloc, shown, &text)?;
     append_rounds(&mut text, shown)?;
     text.append(totals.text(alloc)?.as_slice())?;
     Ok(RunText { text, totals })
 }
 
-// Appends what is told of each connection.
-fn append_each(alloc: Global, out: &mut Bytes, shown: &[Shown<'_, '_>]) -> Result<(), Memory>
-    requires { All IsTellable shown.now }
+// Appends what is told of each connection, whose fronts are these.
+fn append_each(
+    out: &mut Bytes,
+    shown: &[Shown<'_, '_>],
+    fronts: &[Result<Bytes, Memory>],
+) -> Result<(), Memory>
+    requires tellable { All IsTellable shown.now }
+    requires fronts { AreMade (map front_of shown.now) fronts.now }
     ensures { OnOk result ((each : List (List ℕ)) × AllZip IsShownText shown.now each
         × (out.new ≡ out.old ++ concat each)) }
 {
-    for one in shown {
-        append_shown(alloc, out, one)?;
+    for (place, one) in shown.iter().enumerate() {
+        match &fronts[place] {
+            Ok(front) => append_shown(out, one, front)?,
+            Err(Memory) => return Err(Memory),
+        }
     }
     Ok(())
 }
 
-// Appends what is told of a connection.
-fn append_shown(alloc: Global, out: &mut Bytes, shown: &Shown<'_, '_>) -> Result<(), Memory>
-    requires { IsTellable shown.now }
+// Appends what is told of a connection, whose front is this.
+fn append_shown(out: &mut Bytes, shown: &Shown<'_, '_>, front: &Bytes) -> Result<(), Memory>
+    requires tellable { IsTellable shown.now }
+    requires front { front.now ≡ front_of shown.now }
     ensures { OnOk result ((text : List ℕ) × IsShownText shown.now text × (out.new ≡ out.old ++ text)) }
 {
     match shown {
         Shown::Unbound { conn, why } => append_unbound(out, *conn, why),
-        Shown::Served(served) => append_served(alloc, out, served),
+        Shown::Served(served) => append_served(out, served, front),
     }
 }
 
-// Appends what is told of a connection that was bound: what happened, what arrived, what is left of its stream, and
+// Appends what is told of a connection that was bound: its front, then false reclaims, what is left of its stream, and
 // which calls stand.
-fn append_served(alloc: Global, out: &mut Bytes, served: &ShownConn<'_, '_>) -> Result<(), Memory>
-    requires { IsTellableConn served.now }
+fn append_served(out: &mut Bytes, served: &ShownConn<'_, '_>, front: &Bytes) -> Result<(), Memory>
+    requires tellable { IsTellableConn served.now }
+    requires front { front.now ≡ served_front served.now }
     ensures { OnOk result ((text : List ℕ) × IsServedText served.now text × (out.new ≡ out.old ++ text)) }
 {
-    lines_fit();
     let conn = served.calls.number();
-    let table = served.arrivals.table;
-    append_history(alloc, out, served.calls, table)?;
-    append_arrivals(
-        alloc,
-        out,
-        conn,
-        table,
-        served.judge,
-        served.arrivals.lines.as_slice(),
-    )?;
+    out.append(front.as_slice())?;
     append_false_reclaims(out, conn, served.not_held)?;
     append_left(out, conn, served.calls.ended(), served.arrivals)?;
     append_standing_calls(out, served.calls)

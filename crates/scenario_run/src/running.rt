@@ -74,11 +74,12 @@ fn run_in_order<R: Threads + Wait + Sync, F: Fabric, C: Clock, G: Gate, O: Ready
     ensures cause { HasCause (IsErrOf result ServeFault.Fabric) (F.faults fabric.old) (F.faults fabric.new) }
 {
     let served = serve(rt, alloc, plan, prepared, fabric, clock, gate, order)?;
-    Ok(conclude(alloc, plan, fabric, served)?)
+    Ok(conclude(rt, alloc, plan, fabric, served)?)
 }
 
 // Tells a run that is over, and gives its links back.
-fn conclude<F: Fabric>(
+fn conclude<R: Threads + Sync, F: Fabric>(
+    rt: &R,
     alloc: Global,
     plan: &Plan,
     fabric: &mut F,
@@ -93,7 +94,7 @@ fn conclude<F: Fabric>(
     ensures faults { F.faults fabric.new ≡ F.faults fabric.old }
 {
     let failed = has_failed(served.conns.as_slice());
-    let RunText { text, totals } = tell(alloc, plan, served.conns.as_slice())?;
+    let RunText { text, totals } = tell(rt, alloc, plan, served.conns.as_slice())?;
     give_back(fabric, served);
     Ok(Run {
         text,

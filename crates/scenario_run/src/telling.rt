@@ -24,9 +24,11 @@ use service::{Outcome, ServedConn};
 use service_loop::Share;
 use service_run::BoundConn;
 use std::alloc::Global;
+use std::thread::Threads;
 
 /// The whole text, by ascending number of the connection.
-pub(crate) fn tell<L: Link>(
+pub(crate) fn tell<R: Threads + Sync, L: Link>(
+    rt: &R,
     alloc: Global,
     plan: &Plan,
     conns: &[ServedConn<'_, L>],
@@ -37,7 +39,7 @@ pub(crate) fn tell<L: Link>(
         × IsRunText shown told.text × IsCountOf (flat_map counted_in shown) told.totals) }
 {
     let shown = shown_all(alloc, plan, conns)?;
-    run_text(alloc, shown.as_slice())
+    run_text(rt, alloc, shown.as_slice())
 }
 
 // All connections, as they are told.

@@ -4,7 +4,7 @@ use Rattle.run_text.proofs.Telling.{texts-long}
 use Rattle.run_text.proofs.told.run_text.Goals as goal
 
 pub count_all-requires : goal.count_all-requires
-count_all-requires c =
+count_all-requires g c =
     let told = c.in_ok-append_each.ensures in
     let long : length c.append_each.new.out ≡ length c.new-text.result + length (concat told.0) =
     ap length told.2 ∙ length-append c.new-text.result (concat told.0) in

@@ -1,0 +1,29 @@
+use Rattle.std.proofs.Common.{◌≡◌, ◌+◌, ◌++◌, All, [], ◌∷◌, suc, map, take, sym, ap, ◌∙◌, subst, arith}
+use Rattle.std.proofs.lemmas.List.{map-append}
+use Rattle.std.proofs.lemmas.List.Elements.{All-append}
+use Rattle.std.proofs.Math.Seq.{take-suc}
+use Rattle.run_text.specs.Fronts.{CanMake, front_of, front_text}
+use Rattle.run_text.specs.declared.shown.Shown.{Shown}
+use Rattle.run_text.proofs.Making.{all-one}
+use Rattle.run_text.proofs.fronts.sources.Goals as goal
+
+pub loop-one-preserved : goal.loop-one-preserved
+loop-one-preserved c =
+    let shown = c.args.shown.now in
+    let i = c.loop-one.one-index in
+    let one = c.one-item.result in
+    let source = c.source_of.result in
+    let before = c.loop-one.sources.items in
+    let so = c.loop-one.invariant in
+    let place : suc i ≡ i + 1 = omega arith in
+    let next : take i shown ++ one ∷ [] ≡ take (i + 1) shown =
+    ap (λ (x : Shown). take i shown ++ x ∷ []) c.one-item.is
+    ∙ sym (take-suc shown i one c.loop-one-test.true) ∙ ap (λ n. take n shown) place in
+    let texts : map front_text (before ++ source ∷ []) ≡ map front_of (take (i + 1) shown) =
+    map-append front_text before (source ∷ []) ∙ ap (λ l. l ++ front_text source ∷ []) so.0
+    ∙ ap (λ t. map front_of (take i shown) ++ t ∷ []) c.source_of.ensures.text
+    ∙ sym (map-append front_of (take i shown) (one ∷ [])) ∙ ap (map front_of) next in
+    let can : All CanMake (before ++ source ∷ []) = All-append CanMake before (source ∷ []) so.1
+    (all-one CanMake source c.source_of.ensures.can) in
+    subst (λ items. (map front_text items ≡ map front_of (take (i + 1) shown)) × All CanMake items)
+    (sym c.in_ok-push.ensures.items) (texts, can)
