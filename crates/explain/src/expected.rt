@@ -8,21 +8,21 @@ use mrpc_table::{Bytes, Memory};
 use proto_schema::{ProtoFault, read_proto};
 use std::alloc::Global;
 
-/// How long the text in front of a token is, at the most, where it is tried what could stand there. It is read again
-/// for each token that is tried.
+// How long the text in front of a token is, at the most, where it is tried what could stand there. It is read again
+// for each token that is tried.
 const LONGEST: usize = 0x10_0000;
 
-/// Names, numbers, strings and marks that are tried, and then words, which are tried where not every name can stand.
+// Names, numbers, strings and marks that are tried, and then words, which are tried where not every name can stand.
 const TOKENS: [&[u8]; 24] = [
     b"x", b"1", b"'x'", b";", b"=", b"{", b"}", b"(", b")", b"[", b"]", b"<", b">", b",",
     b"returns", b"message", b"enum", b"service", b"rpc", b"import", b"package", b"option",
     b"syntax", b"to",
 ];
 
-/// The tokens that stand for all of their sort.
+// The tokens that stand for all of their sort.
 const SORTS: [Row; 3] = [("x", "a name"), ("1", "a number"), ("'x'", "a string")];
 
-/// The place of the first word among them.
+// The place of the first word among them.
 const FIRST_WORD: usize = 14;
 
 /// Says `expected X, Y or Z, found W` about the token that stands in a text from one place to another. What is named is

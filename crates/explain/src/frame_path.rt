@@ -71,7 +71,7 @@ fn inner_message(table: &Table, message: u32, number: u32) -> Option<u32>
     }
 }
 
-/// A record in which a byte stands.
+// A record in which a byte stands.
 #[derive(Clone, Copy)]
 struct Around {
     /// The number of its field.

@@ -15,13 +15,13 @@ use mrpc_table::{Memory, Table, is_word};
 use std::alloc::Global;
 use table_text::{TableFault, read_table, split_table};
 
-/// What stands in front of the table of an input of `decode`.
+// What stands in front of the table of an input of `decode`.
 const HEAD: &[u8] = b"mrpc-decode 1\ntable\n";
 
-/// How many bytes are shown in front of a byte, and behind it, at the most.
+// How many bytes are shown in front of a byte, and behind it, at the most.
 const AROUND: usize = 12;
 
-/// What a reason says. The last ones are those of frames that no replay can send.
+// What a reason says. The last ones are those of frames that no replay can send.
 const SENTENCES: [Row; 18] = [
     ("Version", "the version of a frame is 1, of a hello 1 or 2"),
     (

@@ -3,7 +3,7 @@
 use crate::lines::Format;
 use crate::word_table::{Row, text_for};
 
-/// The lines of a table, and those around it.
+// The lines of a table, and those around it.
 const TABLE: [Row; 7] = [
     ("table", "table"),
     ("enum", "enum FULLNAME"),
@@ -14,7 +14,7 @@ const TABLE: [Row; 7] = [
     ("end", "end"),
 ];
 
-/// The lines of scripts and of audits that declare something.
+// The lines of scripts and of audits that declare something.
 const FRONT: [Row; 6] = [
     ("loads", "loads N"),
     ("tenant", "tenant NAME PER"),
@@ -27,7 +27,7 @@ const FRONT: [Row; 6] = [
     ("clear", "clear method INDEX [reply] PATH"),
 ];
 
-/// The lines of scripts that do something.
+// The lines of scripts that do something.
 const SCRIPT: [Row; 12] = [
     ("conn", "conn CONN WORDS"),
     ("store", "store CONN PLACE VALUE"),
@@ -43,7 +43,7 @@ const SCRIPT: [Row; 12] = [
     ("close", "close"),
 ];
 
-/// The lines of an audit.
+// The lines of an audit.
 const AUDIT: [Row; 12] = [
     ("audit", "audit"),
     (

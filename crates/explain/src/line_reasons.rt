@@ -4,7 +4,7 @@ use crate::limits::LIMITS;
 use crate::word_table::{Row, text_for};
 use mrpc_table::is_word;
 
-/// What a reason says of a line whose words have the right form.
+// What a reason says of a line whose words have the right form.
 const SENTENCES: [Row; 18] = [
     (
         "Number",
@@ -63,7 +63,7 @@ const SENTENCES: [Row; 18] = [
     ),
 ];
 
-/// Which numbers a line may have that is none of a table, by its first word.
+// Which numbers a line may have that is none of a table, by its first word.
 const NUMBERS: [Row; 4] = [
     ("loads", "the limit of loads is 1 to 16384"),
     ("tenant", "there are 16 tenants at the most"),

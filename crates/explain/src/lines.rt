@@ -14,7 +14,7 @@ use crate::word_table::{Row, text_for};
 use mrpc_table::{Memory, cut, is_word};
 use std::alloc::Global;
 
-/// What is missing at the end of a text, by the reason.
+// What is missing at the end of a text, by the reason.
 const MISSING: [Row; 3] = [
     ("Default", "the default of a policy"),
     ("Syntax", "the value 0 of an enum"),

@@ -75,7 +75,7 @@ fn value_at(fields: &[FieldDecl], span: Span) -> Option<Decimal> {
     None
 }
 
-/// Where a name is looked for: among the methods of a service, in a message, in an enum's scope, or in the file.
+// Where a name is looked for: among the methods of a service, in a message, in an enum's scope, or in the file.
 #[derive(Clone, Copy)]
 enum Scope {
     /// The methods of the service at this place.

@@ -20,14 +20,14 @@ use proto_file::{File, Import};
 use proto_schema::{ProtoFault, read_proto};
 use std::alloc::Global;
 
-/// What a reason says in front of the path of an import.
+// What a reason says in front of the path of an import.
 const IMPORTS: [Row; 3] = [
     ("Missing", "no file of the set has the path "),
     ("Twice", "an import before this one has the path "),
     ("Cycle", "imports lead back to this file from "),
 ];
 
-/// What a reason says of something in a line.
+// What a reason says of something in a line.
 const LINES: [Row; 12] = [
     (
         "Missing",

@@ -2,9 +2,9 @@
 
 ghost use Rattle.mrpc_table.specs.Valid.{IsValid};
 
-use crate::site::{Said, Spot, key_of_name, said_of};
-use crate::words::{say_around, say_line};
-use mrpc_table::{Bytes, Memory, Table as Schema};
+use crate::site::{Site, items_at, name_at, names_of, text_of};
+use crate::steps::policy_of;
+use mrpc_table::{Memory, Table as Schema};
 use policy_blocks::{Declarations, NamedPolicy};
 use scenario::{ScenarioFault, table_in};
 use scenario_policies::{read_policies, read_tenants};
@@ -15,42 +15,19 @@ use toml::Table;
 /// The tenants and the policies of a scenario; none where one of them is at fault.
 pub(crate) fn declared_in(alloc: Global, all: &Table) -> Result<Option<Declarations>, Memory> {
     match table_in(alloc, word_at(all, "schema"))? {
-        Some(table) => declared_under(alloc, &table, all),
+        Some(table) => free_of_fault(declared_under(alloc, &table, all)),
         None => Ok(None),
     }
 }
 
 // The tenants and the policies under a table.
-fn declared_under(
-    alloc: Global,
-    table: &Schema,
-    all: &Table,
-) -> Result<Option<Declarations>, Memory>
+fn declared_under(alloc: Global, table: &Schema, all: &Table) -> Result<Declarations, ScenarioFault>
     requires { IsValid table.now }
 {
-    match tenants_in(alloc, all)? {
-        Some(tenants) => with_policies(alloc, table, all, tenants),
-        None => Ok(None),
-    }
-}
-
-// The tenants alone.
-fn tenants_in(alloc: Global, all: &Table) -> Result<Option<Declarations>, Memory> {
-    let entries = tables_at(alloc, all, "tenant")?;
-    free_of_fault(read_tenants(alloc, entries.as_slice()))
-}
-
-// Tenants, and the policies of a scenario under a table.
-fn with_policies(
-    alloc: Global,
-    table: &Schema,
-    all: &Table,
-    tenants: Declarations,
-) -> Result<Option<Declarations>, Memory>
-    requires { IsValid table.now }
-{
-    let entries = tables_at(alloc, all, "policy")?;
-    free_of_fault(read_policies(alloc, table, tenants, entries.as_slice()))
+    let tenants = tables_at(alloc, all, "tenant")?;
+    let policies = tables_at(alloc, all, "policy")?;
+    let declared = read_tenants(alloc, tenants.as_slice())?;
+    read_policies(alloc, table, declared, policies.as_slice())
 }
 
 // What was read; none where an entry is at fault.
@@ -66,99 +43,41 @@ fn free_of_fault(
 
 /// The declared policy of a name; none where none has it.
 pub(crate) fn named_in<'a>(declared: &'a Declarations, name: &[u8]) -> Option<&'a NamedPolicy> {
-    match declared.policy(name) {
-        None => None,
-        Some(place) => declared.policies().get(place),
-    }
+    declared.policies().get(declared.policy(name)?)
 }
 
-/// Says which of the names of an application is that of no policy.
-pub(crate) fn say_undeclared(
-    out: &mut Bytes,
-    declared: &Declarations,
-    entry: &Table,
-    names: &[&[u8]],
-) -> Said<'static> {
-    for name in names {
-        if declared.policy(name).is_none() {
-            return said_of(
-                Spot::at(key_of_name(entry, name)),
-                say_around(out, ": no policy is named ", name, ""),
-            );
-        }
-    }
-    Ok(None)
-}
-
-/// Says that the line of a number names a policy that isn't declared.
-pub(crate) fn say_undeclared_in(
-    out: &mut Bytes,
-    number: u64,
-    line: &[u8],
-    name: &[u8],
-) -> Said<'static> {
-    say_line(out, number, line)?;
-    said_of(
-        Spot::line("steps", number),
-        say_around(out, "no policy is named ", name, ""),
-    )
-}
-
-/// The entries of those policies that have one of the names, in order; none where what is declared is at fault.
-pub(crate) fn entries_of<'a>(
-    alloc: Global,
-    all: &'a Table,
-    names: &[&[u8]],
-) -> Result<Vec<&'a Table>, Memory> {
-    match declared_in(alloc, all)? {
-        Some(declared) => declared_entries(alloc, all, &declared, names),
+/// Of each policy of a scenario, whether an application or the steps of an operator name it; of none where what is
+/// declared is at fault.
+pub(crate) fn marks_of(alloc: Global, site: &Site<'_>) -> Result<Vec<bool>, Memory> {
+    match declared_in(alloc, site.all)? {
+        Some(declared) => marks_in(alloc, &declared, site.entry),
         None => Ok(Vec::new(alloc)),
     }
 }
 
-fn declared_entries<'a>(
-    alloc: Global,
-    all: &'a Table,
-    declared: &Declarations,
-    names: &[&[u8]],
-) -> Result<Vec<&'a Table>, Memory> {
-    let entries = tables_at(alloc, all, "policy")?;
-    let mut marks = vec![in alloc; false; entries.len()]?;
-    mark_named(declared, names, marks.as_mut_slice());
-    marked_in(alloc, entries.as_slice(), marks.as_slice())
+fn marks_in(alloc: Global, declared: &Declarations, entry: &Table) -> Result<Vec<bool>, Memory> {
+    let mut marks = vec![in alloc; false; declared.policies().len()]?;
+    mark_all(declared, entry, marks.as_mut_slice());
+    Ok(marks)
 }
 
-// Marks the places of the policies that have one of the names.
-fn mark_named(declared: &Declarations, names: &[&[u8]], marks: &mut [bool]) {
-    for name in names {
-        if let Some(place) = declared.policy(name) {
-            if place < marks.len() {
-                marks[place] = true;
-            }
+fn mark_all(declared: &Declarations, entry: &Table, marks: &mut [bool]) {
+    for place in 0..names_of(entry) {
+        if let Some(name) = name_at(entry, place) {
+            mark(declared, name, marks);
+        }
+    }
+    for item in items_at(entry, "steps") {
+        if let Some(name) = policy_of(text_of(item)) {
+            mark(declared, name, marks);
         }
     }
 }
 
-// The entries that are marked.
-fn marked_in<'a>(
-    alloc: Global,
-    entries: &[&'a Table],
-    marks: &[bool],
-) -> Result<Vec<&'a Table>, Memory> {
-    let mut marked = Vec::new(alloc);
-    add_marked(&mut marked, entries, marks)?;
-    Ok(marked)
-}
-
-fn add_marked<'a>(
-    marked: &mut Vec<&'a Table>,
-    entries: &[&'a Table],
-    marks: &[bool],
-) -> Result<(), Memory> {
-    for (entry, mark) in entries.iter().zip(marks.iter()) {
-        if *mark {
-            marked.push(*entry)?;
+fn mark(declared: &Declarations, name: &[u8], marks: &mut [bool]) {
+    if let Some(place) = declared.policy(name) {
+        if place < marks.len() {
+            marks[place] = true;
         }
     }
-    Ok(())
 }

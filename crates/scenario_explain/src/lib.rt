@@ -8,9 +8,9 @@
 //! (`specs/Told.antt`). The rest of the sentences is tested.
 #![tactic(auto)]
 
-mod choices;
 mod declared;
 mod entry;
+mod forms;
 mod general;
 mod keys;
 mod links;
@@ -20,10 +20,10 @@ mod program;
 mod rules;
 mod schema;
 mod sentence;
-mod shapes;
 mod site;
 mod steps;
 mod told;
+mod values;
 mod walk;
 mod words;
 

@@ -1,32 +1,31 @@
 //! Names that are none, that are used already, or that nothing has.
 
-use crate::declared::{declared_in, say_undeclared};
+use crate::declared::declared_in;
 use crate::entry::list_of;
-use crate::site::{Said, Site, Spot, key_of_name, names_in, said_of};
-use crate::words::{say_around, say_numbered};
-use mrpc_table::{Bytes, Memory, is_full_name, is_name};
+use crate::site::{Said, Site, first_on, items_at, key_of_name, name_at, names_of, say_at};
+use crate::words::{Part, Row};
+use mrpc_table::{Bytes, is_full_name, is_name};
+use policy_blocks::Declarations;
 use scenario::Entry;
 use scenario::keys::{conn, end_a, end_b};
-use scenario_values::{Range, tables_at, text_at, word_at};
+use scenario_values::{text_at, word_at};
 use std::alloc::Global;
-use toml::Table;
+use toml::{Table, Value};
 
 const FULL_FORM: &str = ", which is no full name: names joined by dots, 255 bytes at the most";
 
 const FORM: &str =
     ", which is no name: a letter or \"_\", then letters, digits and \"_\", 64 bytes at the most";
 
+/// Keys at which a name stands, with how a sentence of each begins.
+const NAMES: [Row; 2] = [("name", ": name is "), ("tenant", ": tenant is ")];
+
 /// Says which name of an entry is none, apart from those in lines.
-pub(crate) fn say_name(alloc: Global, out: &mut Bytes, site: &Site<'_>) -> Said<'static> {
+pub(crate) fn say_name(out: &mut Bytes, site: &Site<'_>) -> Said<'static> {
     match site.at {
         Entry::Top => say_service(out, site.entry),
-        Entry::Tenant(_) => say_no_name(out, site.entry, "name"),
-        Entry::Policy(_) => match say_no_name(out, site.entry, "name")? {
-            Some(spot) => Ok(Some(spot)),
-            None => say_no_name(out, site.entry, "tenant"),
-        },
-        Entry::App(_) => say_no_policy_name(alloc, out, site.entry),
-        _ => Ok(None),
+        Entry::App(_) => say_no_policy_name(out, site.entry),
+        _ => say_no_name(out, site.entry),
     }
 }
 
@@ -35,150 +34,174 @@ fn say_service(out: &mut Bytes, all: &Table) -> Said<'static> {
     if is_full_name(word) {
         return Ok(None);
     }
-    said_of(
-        Spot::at("service"),
-        say_around(out, ": service is ", word, FULL_FORM),
-    )
+    say_formless(out, "service", ": service is ", word, FULL_FORM)
 }
 
-// Says that the word at a key is no name, where it is none.
-fn say_no_name(out: &mut Bytes, entry: &Table, key: &'static str) -> Said<'static> {
-    let Some(word) = text_at(entry, key) else {
-        return Ok(None);
-    };
-    if is_name(word.as_bytes()) {
-        return Ok(None);
-    }
-    said_of(Spot::at(key), say_formless(out, key, word.as_bytes()))
-}
-
-fn say_formless(out: &mut Bytes, key: &str, word: &[u8]) -> Result<(), Memory> {
-    out.append(b": ")?;
-    out.append(key.as_bytes())?;
-    say_around(out, " is ", word, FORM)
-}
-
-// Says which word that an application has for a policy is no name.
-fn say_no_policy_name(alloc: Global, out: &mut Bytes, entry: &Table) -> Said<'static> {
-    let names = names_in(alloc, entry)?;
-    for name in &names {
-        if !is_name(name) {
-            return said_of(
-                Spot::at(key_of_name(entry, name)),
-                say_around(out, ": it names a policy ", name, FORM),
-            );
+// Says that the name of an entry, or that of its tenant, is none.
+fn say_no_name(out: &mut Bytes, entry: &Table) -> Said<'static> {
+    for row in &NAMES {
+        if let Some(word) = text_at(entry, row.0) {
+            if !is_name(word.as_bytes()) {
+                return say_formless(out, row.0, row.1, word.as_bytes(), FORM);
+            }
         }
     }
     Ok(None)
 }
 
+// Says which word that an application has for a policy is no name.
+fn say_no_policy_name(out: &mut Bytes, entry: &Table) -> Said<'static> {
+    for place in 0..names_of(entry) {
+        if let Some(name) = name_at(entry, place) {
+            if !is_name(name) {
+                let key = key_of_name(entry, name);
+                return say_formless(out, key, ": it names a policy ", name, FORM);
+            }
+        }
+    }
+    Ok(None)
+}
+
+fn say_formless(
+    out: &mut Bytes,
+    key: &'static str,
+    before: &str,
+    word: &[u8],
+    form: &str,
+) -> Said<'static> {
+    let parts = [Part::Text(before), Part::Quoted(word), Part::Text(form)];
+    say_at(out, key, &parts)
+}
+
 /// Says which entry in front of one declares the same.
-pub(crate) fn say_known(alloc: Global, out: &mut Bytes, site: &Site<'_>) -> Said<'static> {
-    let before = site.before(alloc)?;
+pub(crate) fn say_known(out: &mut Bytes, site: &Site<'_>) -> Said<'static> {
     match site.at {
-        Entry::Tenant(_) | Entry::Policy(_) => say_known_name(out, before.as_slice(), site),
-        Entry::App(_) | Entry::Operator(_) => say_known_conn(out, before.as_slice(), site),
+        Entry::Tenant(_) | Entry::Policy(_) => say_known_name(out, site),
+        Entry::App(_) | Entry::Operator(_) => say_known_conn(out, site),
         _ => Ok(None),
     }
 }
 
-fn say_known_name(out: &mut Bytes, before: &[&Table], site: &Site<'_>) -> Said<'static> {
+fn say_known_name(out: &mut Bytes, site: &Site<'_>) -> Said<'static> {
     let name = word_at(site.entry, "name");
-    match before
-        .iter()
-        .position(|entry| word_at(entry, "name") == name)
-    {
-        Some(place) => {
-            say_around(out, ": the name ", name, " is used")?;
-            said_of(Spot::at("name"), say_of(out, site.at, place))
-        }
+    match first_named(site.before(), name) {
+        Some(number) => say_used(
+            out,
+            site.at,
+            "name",
+            ": the name ",
+            Part::Quoted(name),
+            number,
+        ),
         None => Ok(None),
     }
 }
 
-fn say_known_conn(out: &mut Bytes, before: &[&Table], site: &Site<'_>) -> Said<'static> {
+fn say_known_conn(out: &mut Bytes, site: &Site<'_>) -> Said<'static> {
     let own = conn().number(site.entry);
-    match before.iter().position(|entry| conn().number(entry) == own) {
-        Some(place) => {
-            say_numbered(out, ": connection ", own, " is used")?;
-            said_of(Spot::at("conn"), say_of(out, site.at, place))
-        }
+    match first_on(site.before(), own) {
+        Some((number, _)) => say_used(
+            out,
+            site.at,
+            "conn",
+            ": connection ",
+            Part::Number(own),
+            number,
+        ),
         None => Ok(None),
     }
 }
 
-// Appends that an entry of the same list has something, by its place, from 0.
-fn say_of(out: &mut Bytes, at: Entry, place: usize) -> Result<(), Memory> {
-    out.append(b" by ")?;
-    out.append(list_of(at).as_bytes())?;
-    say_numbered(out, " ", (place as u64).saturating_add(1), " already")
+// Says that the entry of a number in the same list has something.
+fn say_used<'w>(
+    out: &mut Bytes,
+    at: Entry,
+    key: &'static str,
+    before: &'w str,
+    what: Part<'w>,
+    number: u64,
+) -> Said<'static> {
+    say_at(
+        out,
+        key,
+        &[
+            Part::Text(before),
+            what,
+            Part::Text(" is used by "),
+            Part::Text(list_of(at)),
+            Part::Text(" "),
+            Part::Number(number),
+            Part::Text(" already"),
+        ],
+    )
+}
+
+// The number of the first entry of a name, from 1.
+fn first_named(entries: &[Value], name: &[u8]) -> Option<u64> {
+    let mut number = 0u64;
+    for item in entries {
+        number = number.saturating_add(1);
+        if let Some(entry) = item.as_table() {
+            if word_at(entry, "name") == name {
+                return Some(number);
+            }
+        }
+    }
+    None
 }
 
 /// Says which name or connection of an entry is that of nothing, apart from those in lines.
 pub(crate) fn say_unknown(alloc: Global, out: &mut Bytes, site: &Site<'_>) -> Said<'static> {
     match site.at {
-        Entry::Policy(_) => say_unknown_tenant(alloc, out, site),
+        Entry::Policy(_) => say_unknown_tenant(out, site),
         Entry::App(_) => say_unknown_policy(alloc, out, site),
-        Entry::Link(_) => say_unknown_end(alloc, out, site),
-        Entry::Operator(_) => say_no_app(alloc, out, site, conn(), "conn"),
+        Entry::Link(_) => say_unknown_end(out, site),
+        Entry::Operator(_) => say_no_app(out, site.all, "conn", conn().number(site.entry)),
         _ => Ok(None),
     }
 }
 
+fn say_unknown_tenant(out: &mut Bytes, site: &Site<'_>) -> Said<'static> {
+    let name = word_at(site.entry, "tenant");
+    if first_named(items_at(site.all, "tenant"), name).is_some() {
+        return Ok(None);
+    }
+    let words = Part::Text(": no tenant is named ");
+    say_at(out, "tenant", &[words, Part::Quoted(name)])
+}
+
 fn say_unknown_policy(alloc: Global, out: &mut Bytes, site: &Site<'_>) -> Said<'static> {
     match declared_in(alloc, site.all)? {
-        Some(declared) => {
-            let names = names_in(alloc, site.entry)?;
-            say_undeclared(out, &declared, site.entry, names.as_slice())
-        }
+        Some(declared) => say_undeclared(out, &declared, site.entry),
         None => Ok(None),
     }
 }
 
-fn say_unknown_end(alloc: Global, out: &mut Bytes, site: &Site<'_>) -> Said<'static> {
-    match say_no_app(alloc, out, site, end_a(), "a")? {
-        Some(spot) => Ok(Some(spot)),
-        None => say_no_app(alloc, out, site, end_b(), "b"),
+// Says which of the names of an application is that of no policy.
+fn say_undeclared(out: &mut Bytes, declared: &Declarations, entry: &Table) -> Said<'static> {
+    for place in 0..names_of(entry) {
+        if let Some(name) = name_at(entry, place) {
+            if declared.policy(name).is_none() {
+                let words = Part::Text(": no policy is named ");
+                return say_at(out, key_of_name(entry, name), &[words, Part::Quoted(name)]);
+            }
+        }
     }
+    Ok(None)
 }
 
-fn say_unknown_tenant(alloc: Global, out: &mut Bytes, site: &Site<'_>) -> Said<'static> {
-    let name = word_at(site.entry, "tenant");
-    let tenants = tables_at(alloc, site.all, "tenant")?;
-    if has_name(tenants.as_slice(), name) {
+fn say_unknown_end(out: &mut Bytes, site: &Site<'_>) -> Said<'static> {
+    if let Some(spot) = say_no_app(out, site.all, "a", end_a().number(site.entry))? {
+        return Ok(Some(spot));
+    }
+    say_no_app(out, site.all, "b", end_b().number(site.entry))
+}
+
+// Says that no application is on a connection, where none is.
+fn say_no_app(out: &mut Bytes, all: &Table, key: &'static str, number: u64) -> Said<'static> {
+    if first_on(items_at(all, "app"), number).is_some() {
         return Ok(None);
     }
-    said_of(
-        Spot::at("tenant"),
-        say_around(out, ": no tenant is named ", name, ""),
-    )
-}
-
-// Whether one of the entries has the name.
-fn has_name(entries: &[&Table], name: &[u8]) -> bool {
-    entries.iter().any(|entry| word_at(entry, "name") == name)
-}
-
-// Says that no application is on the connection at a key, where none is.
-fn say_no_app(
-    alloc: Global,
-    out: &mut Bytes,
-    site: &Site<'_>,
-    range: Range,
-    key: &'static str,
-) -> Said<'static> {
-    let number = range.number(site.entry);
-    let apps = tables_at(alloc, site.all, "app")?;
-    if has_conn(apps.as_slice(), number) {
-        return Ok(None);
-    }
-    said_of(
-        Spot::at(key),
-        say_numbered(out, ": no app is on connection ", number, ""),
-    )
-}
-
-// Whether one of the applications is on the connection.
-fn has_conn(apps: &[&Table], number: u64) -> bool {
-    apps.iter().any(|app| conn().number(app) == number)
+    let words = Part::Text(": no app is on connection ");
+    say_at(out, key, &[words, Part::Number(number)])
 }

@@ -1,14 +1,13 @@
 //! Lines of programs.
 
-use crate::site::{Said, Site, Spot, said_of};
-use crate::words::{say_line, say_numbered};
+use crate::site::{Said, Site, items_at, say_at, say_in, text_of};
+use crate::words::Part;
 use app_program::{MAX_REQUEST_STORES, MAX_STORES};
-use mrpc_table::{Bytes, MAX_HEAP, Memory};
+use mrpc_table::{Bytes, MAX_HEAP};
 use scenario::keys::{heap, role_of};
 use scenario::{RoleWord, ScenarioReason, of_line};
 use scenario_lines::{ProgramRole, read_line};
-use scenario_values::texts_at;
-use std::alloc::Global;
+use toml::Value;
 
 const CLIENT_FORMS: &str =
     "expected \"store PLACE VALUE\", \"spin N PLACE V W\", \"submit METHOD ADDR\" or \"reclaim BLOCK\"";
@@ -24,9 +23,10 @@ const STORES: &str = ": its program stores ";
 
 const COUNTED: &str = " times at the most, a \"spin\" counted twice for each N";
 
+const LAST: &str = ": the one \"reply ADDR\" of a server's program is its last line";
+
 /// Says which line of an application's program a reason is of, or what it says of all lines.
 pub(crate) fn say_program(
-    alloc: Global,
     out: &mut Bytes,
     site: &Site<'_>,
     reason: ScenarioReason,
@@ -36,27 +36,25 @@ pub(crate) fn say_program(
         Some(RoleWord::Server) => ProgramRole::Server,
         _ => return Ok(None),
     };
-    let lines = texts_at(alloc, site.entry, "program")?;
     let heap = heap().number(site.entry).min(MAX_HEAP) as u32;
-    say_lines(out, role, heap, lines.as_slice(), reason)
+    say_lines(out, role, heap, items_at(site.entry, "program"), reason)
 }
 
 fn say_lines(
     out: &mut Bytes,
     role: ProgramRole,
     heap: u32,
-    lines: &[&[u8]],
+    lines: &[Value],
     reason: ScenarioReason,
 ) -> Said<'static> {
     let mut number = 0u64;
-    for line in lines {
+    for item in lines {
+        let line = text_of(item);
         number = number.saturating_add(1);
         if is_against(role, heap, line, reason) {
-            say_line(out, number, line)?;
-            return said_of(
-                Spot::line("program", number),
-                say_line_reason(out, role, heap, reason),
-            );
+            let line = Part::Line(number, line);
+            let words = line_words(role, heap, reason);
+            return say_in(out, "program", number, &[line, words[0], words[1]]);
         }
     }
     say_whole(out, role, reason)
@@ -70,47 +68,31 @@ fn is_against(role: ProgramRole, heap: u32, line: &[u8], reason: ScenarioReason)
     }
 }
 
-// Says what a reason says of a line.
-fn say_line_reason(
-    out: &mut Bytes,
-    role: ProgramRole,
-    heap: u32,
-    reason: ScenarioReason,
-) -> Result<(), Memory> {
-    match reason {
-        ScenarioReason::Number => out.append(RANGES.as_bytes()),
-        ScenarioReason::Place => {
+// What a reason says of a line.
+fn line_words(role: ProgramRole, heap: u32, reason: ScenarioReason) -> [Part<'static>; 2] {
+    match (reason, role) {
+        (ScenarioReason::Number, _) => [Part::Text(RANGES), Part::Text("")],
+        (ScenarioReason::Place, _) => {
             let most = u64::from(heap).saturating_sub(1);
-            say_numbered(out, "a place of its heap is 1 to ", most, "")
+            [Part::Text("a place of its heap is "), Part::Range(1, most)]
         }
-        _ => out.append(forms_of(role).as_bytes()),
-    }
-}
-
-fn forms_of(role: ProgramRole) -> &'static str {
-    match role {
-        ProgramRole::Client => CLIENT_FORMS,
-        ProgramRole::Server => SERVER_FORMS,
+        (_, ProgramRole::Client) => [Part::Text(CLIENT_FORMS), Part::Text("")],
+        (_, ProgramRole::Server) => [Part::Text(SERVER_FORMS), Part::Text("")],
     }
 }
 
 // Says what a reason says of all lines, where it is one of theirs.
 fn say_whole(out: &mut Bytes, role: ProgramRole, reason: ScenarioReason) -> Said<'static> {
+    let most = match role {
+        ProgramRole::Client => MAX_STORES,
+        ProgramRole::Server => MAX_REQUEST_STORES,
+    };
     match reason {
         ScenarioReason::Number => {
-            let most = match role {
-                ProgramRole::Client => MAX_STORES,
-                ProgramRole::Server => MAX_REQUEST_STORES,
-            };
-            said_of(
-                Spot::at("program"),
-                say_numbered(out, STORES, most, COUNTED),
-            )
+            let parts = [Part::Text(STORES), Part::Number(most), Part::Text(COUNTED)];
+            say_at(out, "program", &parts)
         }
-        ScenarioReason::Word => said_of(
-            Spot::at("program"),
-            out.append(b": the one \"reply ADDR\" of a server's program is its last line"),
-        ),
+        ScenarioReason::Word => say_at(out, "program", &[Part::Text(LAST)]),
         _ => Ok(None),
     }
 }

@@ -2,22 +2,23 @@
 
 ghost use Rattle.mrpc_table.specs.Valid.{IsValid};
 
-use crate::site::{Said, Site, Spot, said_of};
-use crate::words::{say_around, say_line};
-use mrpc_table::{Bytes, Lines, Memory, RuleFault, RuleReason, Table as Schema, is_word};
+use crate::declared::marks_of;
+use crate::site::{Said, Site, Spot, items_at, say_in, text_of};
+use crate::words::{Part, Row, say, words_for};
+use mrpc_table::{Bytes, Lines, Memory, RuleFault, Table as Schema};
 use policy_access::read_access;
 use policy_redact::read_redact;
 use scenario::keys::kind_of;
 use scenario::{Kind, ScenarioReason, of_rule, table_in};
-use scenario_values::{texts_at, word_at};
+use scenario_values::word_at;
 use std::alloc::Global;
-use toml::Table;
+use toml::{Table, Value};
 
-/// The first line at fault of a policy, from 1, with its first reason.
+// The first line at fault of a policy, from 1, with its first reason.
 #[derive(Clone, Copy)]
 struct LineFault {
     line: u64,
-    reason: RuleReason,
+    reason: ScenarioReason,
 }
 
 /// Says which line of a policy a reason is of.
@@ -29,37 +30,62 @@ pub(crate) fn say_rules(
 ) -> Said<'static> {
     match table_in(alloc, word_at(site.all, "schema"))? {
         None => Ok(None),
-        Some(table) => say_under(alloc, out, &table, site.entry, reason),
+        Some(table) => say_under(alloc, out, &table, site.entry, &[], reason),
     }
 }
 
-/// Says which line of which of these policies a reason is of, under the schema of an application.
+/// Says which line of which of the policies that an entry names a reason is of, under the schema of an application.
 pub(crate) fn say_own_rules(
     alloc: Global,
     out: &mut Bytes,
+    site: &Site<'_>,
     app: &Table,
-    policies: &[&Table],
     reason: ScenarioReason,
 ) -> Said<'static> {
     match table_in(alloc, word_at(app, "schema"))? {
         None => Ok(None),
-        Some(table) => say_first_own(alloc, out, &table, policies, reason),
+        Some(table) => say_named(alloc, out, &table, site, reason),
     }
 }
 
-fn say_first_own(
+fn say_named(
     alloc: Global,
     out: &mut Bytes,
     table: &Schema,
-    policies: &[&Table],
+    site: &Site<'_>,
     reason: ScenarioReason,
 ) -> Said<'static>
     requires { IsValid table.now }
 {
-    for policy in policies {
-        if let Some(spot) = say_own(alloc, out, table, policy, reason)? {
-            return Ok(Some(spot));
+    let marks = marks_of(alloc, site)?;
+    say_marked(
+        alloc,
+        out,
+        table,
+        items_at(site.all, "policy"),
+        marks.as_slice(),
+        reason,
+    )
+}
+
+fn say_marked(
+    alloc: Global,
+    out: &mut Bytes,
+    table: &Schema,
+    policies: &[Value],
+    marks: &[bool],
+    reason: ScenarioReason,
+) -> Said<'static>
+    requires { IsValid table.now }
+{
+    let mut place = 0usize;
+    for item in policies {
+        if place < marks.len() && marks[place] {
+            if let Some(spot) = say_own(alloc, out, table, item, reason)? {
+                return Ok(Some(spot));
+            }
         }
+        place = place.saturating_add(1);
     }
     Ok(None)
 }
@@ -68,122 +94,112 @@ fn say_own(
     alloc: Global,
     out: &mut Bytes,
     table: &Schema,
-    policy: &Table,
+    item: &Value,
     reason: ScenarioReason,
 ) -> Said<'static>
     requires { IsValid table.now }
 {
-    let mut said = Bytes::new(alloc);
-    match say_under(alloc, &mut said, table, policy, reason)? {
+    let Some(policy) = item.as_table() else {
+        return Ok(None);
+    };
+    let front = [
+        Part::Text(": under the app's own schema, policy "),
+        Part::Quoted(word_at(policy, "name")),
+    ];
+    match say_under(alloc, out, table, policy, &front, reason)? {
         None => Ok(None),
-        Some(_) => said_of(Spot::at("schema"), say_policy(out, policy, said.as_slice())),
+        Some(_) => Ok(Some(Spot {
+            key: "schema",
+            line: 0,
+        })),
     }
 }
 
-// Says a policy's name, and behind it what was said of the policy.
-fn say_policy(out: &mut Bytes, policy: &Table, said: &[u8]) -> Result<(), Memory> {
-    let name = word_at(policy, "name");
-    say_around(out, ": under the app's own schema, policy ", name, "")?;
-    out.append(said)
-}
-
-// Says which line of a policy a reason is of, under a table.
+// Says which line of a policy a reason is of, under a table, behind the words in front.
 fn say_under(
     alloc: Global,
     out: &mut Bytes,
     table: &Schema,
     entry: &Table,
+    front: &[Part<'_>],
     reason: ScenarioReason,
 ) -> Said<'static>
     requires { IsValid table.now }
 {
-    match kind_of(entry) {
-        Some(Kind::Access) => {
-            let lines = lines_at(alloc, entry, "rules")?;
-            let fault = access_fault(alloc, table, &lines)?;
-            say_against(out, "rules", &lines, fault, reason)
-        }
-        Some(Kind::Redact) => {
-            let lines = lines_at(alloc, entry, "clears")?;
-            let fault = redact_fault(alloc, table, &lines)?;
-            say_against(out, "clears", &lines, fault, reason)
-        }
-        _ => Ok(None),
+    let are_rules = match kind_of(entry) {
+        Some(Kind::Access) => true,
+        Some(Kind::Redact) => false,
+        _ => return Ok(None),
+    };
+    let key = if are_rules { "rules" } else { "clears" };
+    let lines = lines_at(alloc, entry, key)?;
+    let fault = fault_in(alloc, table, &lines, are_rules)?;
+    say_against(out, front, key, &lines, fault, reason)
+}
+
+// The first fault of the lines, which are rules or paths to be cleared.
+fn fault_in(
+    alloc: Global,
+    table: &Schema,
+    lines: &Lines,
+    are_rules: bool,
+) -> Result<Option<LineFault>, Memory>
+    requires { IsValid table.now }
+{
+    let fault = if are_rules {
+        read_access(alloc, lines, table).err()
+    } else {
+        read_redact(alloc, lines, table).err()
+    };
+    match fault {
+        None => Ok(None),
+        Some(RuleFault::At { line, reason }) => Ok(Some(LineFault {
+            line,
+            reason: of_rule(reason),
+        })),
+        Some(RuleFault::Memory) => Err(Memory),
     }
 }
 
-// Says the line at fault, where it is at fault for this reason.
+// The lines at a key of a policy.
+fn lines_at(alloc: Global, entry: &Table, key: &str) -> Result<Lines, Memory> {
+    let mut lines = Lines::new(alloc);
+    copy_all(alloc, items_at(entry, key), &mut lines)?;
+    Ok(lines)
+}
+
+fn copy_all(alloc: Global, texts: &[Value], lines: &mut Lines) -> Result<(), Memory> {
+    for item in texts {
+        lines.push(Bytes::from_slice(alloc, text_of(item))?)?;
+    }
+    Ok(())
+}
+
+// Says the line at fault and what is wrong with it, where it is at fault for this reason.
 fn say_against(
     out: &mut Bytes,
+    front: &[Part<'_>],
     key: &'static str,
     lines: &Lines,
     fault: Option<LineFault>,
     reason: ScenarioReason,
 ) -> Said<'static> {
     match fault {
-        Some(fault) if of_rule(fault.reason).order() == reason.order() => said_of(
-            Spot::line(key, fault.line),
-            say_fault(out, key, lines, fault),
-        ),
+        Some(fault) if fault.reason.order() == reason.order() => {
+            say(out, front)?;
+            let words = Part::Text(rule_words(key, reason));
+            say_in(out, key, fault.line, &[line_of(lines, fault.line), words])
+        }
         _ => Ok(None),
     }
 }
 
-fn access_fault(alloc: Global, table: &Schema, lines: &Lines) -> Result<Option<LineFault>, Memory>
-    requires { IsValid table.now }
-{
-    match read_access(alloc, lines, table) {
-        Ok(_) => Ok(None),
-        Err(RuleFault::At { line, reason }) => Ok(Some(LineFault { line, reason })),
-        Err(RuleFault::Memory) => Err(Memory),
+// The line of a number; behind the last line one is missing.
+fn line_of(lines: &Lines, number: u64) -> Part<'_> {
+    match lines.as_slice().get(number.saturating_sub(1) as usize) {
+        Some(line) => Part::Line(number, line.as_slice()),
+        None => Part::Text(": its lines end, and one is missing: "),
     }
-}
-
-fn redact_fault(alloc: Global, table: &Schema, lines: &Lines) -> Result<Option<LineFault>, Memory>
-    requires { IsValid table.now }
-{
-    match read_redact(alloc, lines, table) {
-        Ok(_) => Ok(None),
-        Err(RuleFault::At { line, reason }) => Ok(Some(LineFault { line, reason })),
-        Err(RuleFault::Memory) => Err(Memory),
-    }
-}
-
-// The lines at a key of a policy.
-fn lines_at(alloc: Global, entry: &Table, key: &str) -> Result<Lines, Memory> {
-    let texts = texts_at(alloc, entry, key)?;
-    copied(alloc, texts.as_slice())
-}
-
-fn copied(alloc: Global, texts: &[&[u8]]) -> Result<Lines, Memory> {
-    let mut lines = Lines::new(alloc);
-    for text in texts {
-        add_copy(alloc, &mut lines, text)?;
-    }
-    Ok(lines)
-}
-
-fn add_copy(alloc: Global, lines: &mut Lines, text: &[u8]) -> Result<(), Memory> {
-    lines.push(Bytes::from_slice(alloc, text)?)
-}
-
-// Says the line at fault and what is wrong with it; behind the last line one is missing.
-fn say_fault(
-    out: &mut Bytes,
-    key: &'static str,
-    lines: &Lines,
-    fault: LineFault,
-) -> Result<(), Memory> {
-    let mut number = 0u64;
-    for line in lines.as_slice() {
-        number = number.saturating_add(1);
-        if number == fault.line {
-            say_line(out, number, line.as_slice())?;
-            return out.append(rule_words(key, fault.reason).as_bytes());
-        }
-    }
-    out.append(b": its lines end, and one is missing: ")?;
-    out.append(rule_words(key, fault.reason).as_bytes())
 }
 
 const RULE: &str =
@@ -192,20 +208,27 @@ const RULE: &str =
 
 const CLEAR: &str = "expected \"clear method INDEX [reply] PATH\", 1 to 64 times";
 
-fn rule_words(key: &str, reason: RuleReason) -> &'static str {
-    match reason {
-        RuleReason::Word => if is_word(key.as_bytes(), b"rules") {
-            RULE
-        } else {
-            CLEAR
-        },
-        RuleReason::Number => "an index is above 65535, or a value is out of the range of its kind",
-        RuleReason::Name =>
-            "a rule's name is a letter or \"_\", then letters, digits and \"_\", 64 bytes at the most, and isn't \"default\"",
-        RuleReason::Known => "a rule before it has this name",
-        RuleReason::Path =>
-            "the schema has no such method or field, or the comparison doesn't go with the field's kind",
-        RuleReason::Default =>
-            "one line \"default allow\" or \"default deny\" ends the rules of a policy",
-    }
+const RULES: [Row; 5] = [
+    (
+        "Number",
+        "an index is above 65535, or a value is out of the range of its kind",
+    ),
+    (
+        "Name",
+        "a rule's name is a letter or \"_\", then letters, digits and \"_\", 64 bytes at the most, and isn't \"default\"",
+    ),
+    ("Known", "a rule before it has this name"),
+    (
+        "Path",
+        "the schema has no such method or field, or the comparison doesn't go with the field's kind",
+    ),
+    (
+        "Default",
+        "one line \"default allow\" or \"default deny\" ends the rules of a policy",
+    ),
+];
+
+fn rule_words(key: &str, reason: ScenarioReason) -> &'static str {
+    let form = if key == "rules" { RULE } else { CLEAR };
+    words_for(&RULES, reason, form)
 }

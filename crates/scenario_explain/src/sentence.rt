@@ -1,6 +1,5 @@
 //! What a reason says of an entry.
 
-use crate::declared::entries_of;
 use crate::general::general_words;
 use crate::keys::say_key;
 use crate::links::say_pair;
@@ -9,8 +8,9 @@ use crate::numbers::say_number;
 use crate::program::say_program;
 use crate::rules::{say_own_rules, say_rules};
 use crate::schema::say_schema;
-use crate::site::{Said, Site, Spot, names_in};
+use crate::site::{Said, Site, Spot};
 use crate::steps::{say_chain, say_refused, say_step, say_step_rules, say_unknown_step};
+use crate::words::{Part, say};
 use mrpc_table::{Bytes, Memory};
 use scenario::{Entry, ScenarioReason};
 use std::alloc::Global;
@@ -25,19 +25,11 @@ pub(crate) fn say_reason<'a>(
     if let Some(spot) = say_of_keys(alloc, out, site, reason)? {
         return Ok(spot);
     }
-    let said = match site.at {
-        Entry::Policy(_) => say_rules(alloc, out, site, reason)?,
-        Entry::App(_) => say_of_app(alloc, out, site, reason)?,
-        Entry::Operator(_) => say_of_operator(alloc, out, site, reason)?,
-        _ => None,
-    };
-    match said {
-        Some(spot) => Ok(spot),
-        None => {
-            out.append(general_words(reason).as_bytes())?;
-            Ok(Spot::nowhere())
-        }
+    if let Some(spot) = say_of_lines(alloc, out, site, reason)? {
+        return Ok(spot);
     }
+    say(out, &[Part::Text(general_words(reason))])?;
+    Ok(Spot { key: "", line: 0 })
 }
 
 // Says what is wrong with the value at one key of an entry, apart from lines.
@@ -50,11 +42,26 @@ fn say_of_keys<'a>(
     match reason {
         ScenarioReason::Key => say_key(out, site),
         ScenarioReason::Number => say_number(out, site),
-        ScenarioReason::Name => say_name(alloc, out, site),
-        ScenarioReason::Known => say_known(alloc, out, site),
+        ScenarioReason::Name => say_name(out, site),
+        ScenarioReason::Known => say_known(out, site),
         ScenarioReason::Unknown => say_unknown(alloc, out, site),
         ScenarioReason::Schema => say_schema(alloc, out, site.entry),
-        ScenarioReason::Pair => say_pair(alloc, out, site),
+        ScenarioReason::Pair => say_pair(out, site),
+        _ => Ok(None),
+    }
+}
+
+// Says what is wrong with a line of an entry, or with the chain of an application.
+fn say_of_lines(
+    alloc: Global,
+    out: &mut Bytes,
+    site: &Site<'_>,
+    reason: ScenarioReason,
+) -> Said<'static> {
+    match site.at {
+        Entry::Policy(_) => say_rules(alloc, out, site, reason),
+        Entry::App(_) => say_of_app(alloc, out, site, reason),
+        Entry::Operator(_) => say_of_operator(alloc, out, site, reason),
         _ => Ok(None),
     }
 }
@@ -66,26 +73,13 @@ fn say_of_app(
     site: &Site<'_>,
     reason: ScenarioReason,
 ) -> Said<'static> {
-    let said = say_own(alloc, out, site, reason)?;
-    if said.is_some() {
-        return Ok(said);
+    if let Some(spot) = say_own_rules(alloc, out, site, site.entry, reason)? {
+        return Ok(Some(spot));
     }
-    match say_program(alloc, out, site, reason)? {
-        Some(spot) => Ok(Some(spot)),
-        None => say_chain(alloc, out, site.entry, reason),
+    if let Some(spot) = say_program(out, site, reason)? {
+        return Ok(Some(spot));
     }
-}
-
-// Says which line of a policy that an application names is at fault under its own schema.
-fn say_own(
-    alloc: Global,
-    out: &mut Bytes,
-    site: &Site<'_>,
-    reason: ScenarioReason,
-) -> Said<'static> {
-    let names = names_in(alloc, site.entry)?;
-    let policies = entries_of(alloc, site.all, names.as_slice())?;
-    say_own_rules(alloc, out, site.entry, policies.as_slice(), reason)
+    say_chain(out, site.entry, reason)
 }
 
 // Says what is wrong with a line of an operator.
@@ -95,7 +89,7 @@ fn say_of_operator(
     site: &Site<'_>,
     reason: ScenarioReason,
 ) -> Said<'static> {
-    if let Some(spot) = say_step(alloc, out, site.entry, reason)? {
+    if let Some(spot) = say_step(out, site.entry, reason)? {
         return Ok(Some(spot));
     }
     match reason {

@@ -1,11 +1,12 @@
-//! Where a fault stands in the table of a scenario.
+//! Where a fault stands in the table of a scenario, and what is said of it there.
 
 use crate::entry::list_of;
-use mrpc_table::Memory;
+use crate::words::{Part, say};
+use mrpc_table::{Bytes, Memory};
 use scenario::Entry;
-use scenario_values::{tables_at, text_at, texts_at};
-use std::alloc::Global;
-use toml::Table;
+use scenario::keys::conn;
+use scenario_values::text_at;
+use toml::{Table, Value};
 
 /// An entry at fault.
 #[derive(Clone, Copy)]
@@ -30,103 +31,93 @@ pub(crate) struct Spot<'a> {
 /// The part of a site of which something was said; none where nothing was.
 pub(crate) type Said<'a> = Result<Option<Spot<'a>>, Memory>;
 
-/// The part of which something was said.
-pub(crate) fn said_of<'a>(spot: Spot<'a>, said: Result<(), Memory>) -> Said<'a> {
-    match said {
-        Ok(()) => Ok(Some(spot)),
-        Err(fault) => Err(fault),
-    }
+/// Says this of the value at a key; of the entry itself where the key is the empty one.
+pub(crate) fn say_at<'a>(out: &mut Bytes, key: &'a str, parts: &[Part<'_>]) -> Said<'a> {
+    say_in(out, key, 0, parts)
 }
 
-impl<'a> Spot<'a> {
-    /// The value at a key.
-    pub(crate) fn at(key: &'a str) -> Spot<'a> {
-        Spot { key, line: 0 }
-    }
-
-    /// A line of the list at a key.
-    pub(crate) fn line(key: &'a str, line: u64) -> Spot<'a> {
-        Spot { key, line }
-    }
-
-    /// No part.
-    pub(crate) fn nowhere() -> Spot<'a> {
-        Spot { key: "", line: 0 }
+/// Says this of the line of a number in the list at a key.
+pub(crate) fn say_in<'a>(out: &mut Bytes, key: &'a str, line: u64, parts: &[Part<'_>]) -> Said<'a> {
+    match say(out, parts) {
+        Ok(()) => Ok(Some(Spot { key, line })),
+        Err(fault) => Err(fault),
     }
 }
 
 impl<'a> Site<'a> {
     /// The entry of a scenario; none where it has no such entry.
-    pub(crate) fn of(alloc: Global, all: &'a Table, at: Entry) -> Result<Option<Site<'a>>, Memory> {
-        if let Entry::Top = at {
-            return Ok(Some(Site {
-                all,
-                at,
-                entry: all,
-            }));
-        }
-        let entries = tables_at(alloc, all, list_of(at))?;
-        match entry_at(entries.as_slice(), at.number()) {
-            Some(entry) => Ok(Some(Site { all, at, entry })),
-            None => Ok(None),
-        }
+    pub(crate) fn of(all: &'a Table, at: Entry) -> Option<Site<'a>> {
+        let entry = if let Entry::Top = at {
+            all
+        } else {
+            entry_at(items_at(all, list_of(at)), at.number())?
+        };
+        Some(Site { all, at, entry })
     }
 
     /// The entries in front of it in its list.
-    pub(crate) fn before(&self, alloc: Global) -> Result<Vec<&'a Table>, Memory> {
-        let entries = tables_at(alloc, self.all, list_of(self.at))?;
-        first_of(alloc, entries.as_slice(), self.at.number())
-    }
-}
-
-// The entries in front of the one of a number, from 1.
-fn first_of<'a>(
-    alloc: Global,
-    entries: &[&'a Table],
-    number: u64,
-) -> Result<Vec<&'a Table>, Memory> {
-    let mut first = Vec::new(alloc);
-    add_first(&mut first, entries, number)?;
-    Ok(first)
-}
-
-fn add_first<'a>(
-    first: &mut Vec<&'a Table>,
-    entries: &[&'a Table],
-    number: u64,
-) -> Result<(), Memory> {
-    let mut left = number;
-    for entry in entries {
-        if left <= 1 {
-            return Ok(());
+    pub(crate) fn before(&self) -> &'a [Value] {
+        let list = items_at(self.all, list_of(self.at));
+        let before = self.at.number().saturating_sub(1);
+        if before < list.len() as u64 {
+            &list[..before as usize]
+        } else {
+            list
         }
-        left -= 1;
-        first.push(*entry)?;
     }
-    Ok(())
+}
+
+/// The values of the list at a key; none where there is no list.
+pub(crate) fn items_at<'a>(table: &'a Table, key: &str) -> &'a [Value] {
+    let Some(value) = table.get(key) else {
+        return &[];
+    };
+    match value.as_array() {
+        Some(items) => items.as_slice(),
+        None => &[],
+    }
+}
+
+/// The text that a value is; the empty one where it is none.
+pub(crate) fn text_of(item: &Value) -> &[u8] {
+    match item.as_str() {
+        Some(text) => text.as_bytes(),
+        None => b"",
+    }
 }
 
 // The entry of a number, from 1.
-fn entry_at<'a>(entries: &[&'a Table], number: u64) -> Option<&'a Table> {
-    let mut left = number;
-    for entry in entries {
-        if left <= 1 {
-            return Some(entry);
+fn entry_at(entries: &[Value], number: u64) -> Option<&Table> {
+    entries.get(number.saturating_sub(1) as usize)?.as_table()
+}
+
+/// The first entry on a connection, with its number, from 1.
+pub(crate) fn first_on(entries: &[Value], conn_number: u64) -> Option<(u64, &Table)> {
+    let mut number = 0u64;
+    for item in entries {
+        number = number.saturating_add(1);
+        if let Some(entry) = item.as_table() {
+            if conn().number(entry) == conn_number {
+                return Some((number, entry));
+            }
         }
-        left -= 1;
     }
     None
 }
 
-/// The names of policies of an application: those of its chain, and then that of the policy that judges what it is
-/// delivered.
-pub(crate) fn names_in<'a>(alloc: Global, entry: &'a Table) -> Result<Vec<&'a [u8]>, Memory> {
-    let mut names = texts_at(alloc, entry, "chain")?;
-    match text_at(entry, "inbound") {
-        Some(name) => names.push(name.as_bytes())?,
-        None => {}
+/// The name of a policy at a place among those of an application: those of its chain, and then that of the policy that
+/// judges what it is delivered.
+pub(crate) fn name_at(entry: &Table, place: usize) -> Option<&[u8]> {
+    let chain = items_at(entry, "chain");
+    if place < chain.len() {
+        return Some(text_of(&chain[place]));
     }
-    Ok(names)
+    Some(text_at(entry, "inbound")?.as_bytes())
+}
+
+/// How many names of policies an application has, and one more where none judges what it is delivered.
+pub(crate) fn names_of(entry: &Table) -> usize {
+    items_at(entry, "chain").len().saturating_add(1)
 }
 
 /// The key at which an application names a policy.

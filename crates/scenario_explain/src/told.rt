@@ -9,6 +9,7 @@ use crate::entry::{entry_words, list_of};
 use crate::general::general_words;
 use crate::sentence::say_reason;
 use crate::site::Site;
+use crate::words::{Part, say};
 use mrpc_table::{Bytes, Memory};
 use scenario::{Entry, ScenarioFault, ScenarioReason};
 use scenario_reader::read_scenario;
@@ -92,9 +93,9 @@ fn say_entry(
     at: Entry,
     reason: ScenarioReason,
 ) -> Result<Option<Span>, Memory> {
-    match Site::of(alloc, all, at)? {
+    match Site::of(all, at) {
         None => {
-            out.append(general_words(reason).as_bytes())?;
+            say(out, &[Part::Text(general_words(reason))])?;
             Ok(None)
         }
         Some(site) => {
@@ -112,8 +113,10 @@ fn say_entry(
 
 // Says why a text is no TOML.
 fn say_no_toml(out: &mut Bytes, error: &Error) -> Result<Option<Span>, Memory> {
-    out.append(b" is no TOML: ")?;
-    out.append(error.message().as_bytes())?;
+    say(
+        out,
+        &[Part::Text(" is no TOML: "), Part::Text(error.message())],
+    )?;
     match error.span() {
         None => Err(Memory),
         Some(span) => Ok(Some(Span {

@@ -1,66 +1,71 @@
 //! The steps of an operator, one after another, on the chain of its connection.
 
 use crate::declared::named_in;
+use crate::site::{items_at, text_of};
 use mrpc_table::{Decimal, Memory};
 use policy_blocks::Declarations;
 use scenario::ScenarioReason;
 use scenario_entries::Chain;
 use scenario_lines::{StepText, read_step};
-use scenario_values::texts_at;
 use std::alloc::Global;
-use toml::Table;
+use toml::{Table, Value};
 
-/// Where the first step that is refused stands, from 1, and what it tells.
+/// Where the first step that is refused stands, from 1, and the name that it tells.
 #[derive(Clone, Copy)]
 pub(crate) struct Refused<'a> {
     pub number: u64,
     pub line: &'a [u8],
-    pub step: StepText<'a>,
+    pub name: &'a [u8],
 }
 
-// The chain with the declared policies of these names, each under its own name; as far as it takes them.
-fn chain_of<'a>(
+/// The first step of an operator that the chain of an application refuses.
+pub(crate) fn refused_on<'a>(
     alloc: Global,
     declared: &'a Declarations,
-    names: &[&'a [u8]],
-) -> Result<Chain<'a>, Memory> {
+    operator: &'a Table,
+    app: &'a Table,
+) -> Result<Option<Refused<'a>>, Memory> {
     let mut chain = Chain::new(alloc);
-    let mut at = 0u64;
-    for name in names {
-        if let Some(named) = named_in(declared, name) {
-            if chain
-                .attach(Decimal::Small(at), name, &named.policy)?
-                .is_none()
-            {
-                at = at.saturating_add(1);
-            }
+    attach_all(&mut chain, declared, items_at(app, "chain"))?;
+    first_refused(&mut chain, declared, items_at(operator, "steps"))
+}
+
+// Attaches the declared policies of these names, each under its own name; as far as the chain takes them.
+fn attach_all<'a>(
+    chain: &mut Chain<'a>,
+    declared: &'a Declarations,
+    names: &'a [Value],
+) -> Result<(), Memory> {
+    let mut place = 0u64;
+    for item in names {
+        let name = text_of(item);
+        let step = StepText::Attach {
+            count: 0,
+            at: Decimal::Small(place),
+            name,
+            policy: name,
+        };
+        if take_step(chain, declared, step)?.is_none() {
+            place = place.saturating_add(1);
         }
     }
-    Ok(chain)
+    Ok(())
 }
 
-/// The chain that an application begins with.
-pub(crate) fn chain_at<'a>(
-    alloc: Global,
+// The first of the lines whose step the chain refuses.
+fn first_refused<'a>(
+    chain: &mut Chain<'a>,
     declared: &'a Declarations,
-    app: &'a Table,
-) -> Result<Chain<'a>, Memory> {
-    let names = texts_at(alloc, app, "chain")?;
-    chain_of(alloc, declared, names.as_slice())
-}
-
-/// The first of the lines whose step the chain refuses.
-pub(crate) fn refused_of<'a>(
-    mut chain: Chain<'a>,
-    declared: &'a Declarations,
-    lines: &[&'a [u8]],
+    lines: &'a [Value],
 ) -> Result<Option<Refused<'a>>, Memory> {
     let mut number = 0u64;
-    for line in lines {
+    for item in lines {
+        let line = text_of(item);
         number = number.saturating_add(1);
         if let Ok(step) = read_step(line) {
-            if take_step(&mut chain, declared, step)?.is_some() {
-                return Ok(Some(Refused { number, line, step }));
+            if take_step(chain, declared, step)?.is_some() {
+                let name = name_in(&step);
+                return Ok(Some(Refused { number, line, name }));
             }
         }
     }
@@ -74,6 +79,7 @@ fn take_step<'a>(
     step: StepText<'a>,
 ) -> Result<Option<ScenarioReason>, Memory> {
     match step {
+        StepText::Detach { name, .. } => Ok(chain.detach(name)),
         StepText::Attach {
             at,
             name,
@@ -83,10 +89,17 @@ fn take_step<'a>(
             None => Ok(Some(ScenarioReason::Unknown)),
             Some(named) => chain.attach(at, name, &named.policy),
         },
-        StepText::Detach { name, .. } => Ok(chain.detach(name)),
         StepText::Upgrade { name, policy, .. } => match named_in(declared, policy) {
             None => Ok(Some(ScenarioReason::Unknown)),
             Some(named) => Ok(chain.upgrade(name, &named.policy)),
         },
+    }
+}
+
+fn name_in<'a>(step: &StepText<'a>) -> &'a [u8] {
+    match step {
+        StepText::Attach { name, .. }
+        | StepText::Detach { name, .. }
+        | StepText::Upgrade { name, .. } => *name,
     }
 }

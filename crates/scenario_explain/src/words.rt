@@ -1,51 +1,86 @@
 //! What sentences are put together of.
 
 use itoa::Buffer;
-use mrpc_table::{Bytes, Memory};
+use mrpc_table::{Bytes, Memory, is_word};
+use scenario::ScenarioReason;
 
-/// How many bytes of a word are named, at the most.
+// How many bytes of a word are named, at the most.
 const NAMED: usize = 100;
 
-/// Appends a word of the scenario in quotation marks, cut where it is long.
-pub(crate) fn quote(out: &mut Bytes, word: &[u8]) -> Result<(), Memory> {
+/// A part of a sentence.
+#[derive(Clone, Copy)]
+pub(crate) enum Part<'a> {
+    Text(&'a str),
+    /// A word of the scenario, in quotation marks, cut where it is long.
+    Quoted(&'a [u8]),
+    Number(u64),
+    Integer(i64),
+    /// From where to where a number may go.
+    Range(u64, u64),
+    /// The number of a line of a list, from 1, and the line.
+    Line(u64, &'a [u8]),
+}
+
+/// Appends parts, one behind another.
+pub(crate) fn say(out: &mut Bytes, parts: &[Part<'_>]) -> Result<(), Memory> {
+    for part in parts {
+        say_part(out, *part)?;
+    }
+    Ok(())
+}
+
+fn say_part(out: &mut Bytes, part: Part<'_>) -> Result<(), Memory> {
+    match part {
+        Part::Text(text) => out.append(text.as_bytes()),
+        Part::Quoted(word) => quote(out, word),
+        Part::Number(number) => out.append_decimal(number),
+        Part::Integer(number) => say_integer(out, number),
+        Part::Range(least, most) => say_range(out, least, most),
+        Part::Line(number, line) => say_line(out, number, line),
+    }
+}
+
+fn quote(out: &mut Bytes, word: &[u8]) -> Result<(), Memory> {
     out.append(b"\"")?;
     out.append(&word[..word.len().min(NAMED)])?;
     out.append(if word.len() > NAMED { b"..\"" } else { b"\"" })
 }
 
-/// Appends words, a quoted word, and words behind it.
-pub(crate) fn say_around(
-    out: &mut Bytes,
-    before: &str,
-    word: &[u8],
-    behind: &str,
-) -> Result<(), Memory> {
-    out.append(before.as_bytes())?;
-    quote(out, word)?;
-    out.append(behind.as_bytes())
-}
-
-/// Appends a number.
-pub(crate) fn say_integer(out: &mut Bytes, number: i64) -> Result<(), Memory> {
+fn say_integer(out: &mut Bytes, number: i64) -> Result<(), Memory> {
     let mut digits = Buffer::new();
     out.append(digits.format(number).as_bytes())
 }
 
-/// Appends words, a number, and words behind it.
-pub(crate) fn say_numbered(
-    out: &mut Bytes,
-    before: &str,
-    number: u64,
-    behind: &str,
-) -> Result<(), Memory> {
-    out.append(before.as_bytes())?;
-    out.append_decimal(number)?;
-    out.append(behind.as_bytes())
+fn say_range(out: &mut Bytes, least: u64, most: u64) -> Result<(), Memory> {
+    out.append_decimal(least)?;
+    if least < most {
+        out.append(b" to ")?;
+        return out.append_decimal(most);
+    }
+    Ok(())
 }
 
-/// Appends the number of a line of a list, from 1, and the line.
-pub(crate) fn say_line(out: &mut Bytes, number: u64, line: &[u8]) -> Result<(), Memory> {
-    say_numbered(out, ", line ", number, ", ")?;
+fn say_line(out: &mut Bytes, number: u64, line: &[u8]) -> Result<(), Memory> {
+    out.append(b", line ")?;
+    out.append_decimal(number)?;
+    out.append(b", ")?;
     quote(out, line)?;
     out.append(b": ")
+}
+
+/// The word of a reason, and what is said of it.
+pub(crate) type Row = (&'static str, &'static str);
+
+/// What the rows say of a reason, by its word; the words for others, where they don't have it.
+pub(crate) fn words_for(
+    rows: &[Row],
+    reason: ScenarioReason,
+    others: &'static str,
+) -> &'static str {
+    for row in rows {
+        if is_word(row.0.as_bytes(), reason.word().as_bytes()) {
+            return row.1;
+        }
+    }
+    others
 }
