@@ -11,13 +11,13 @@ mod plain_service;
 mod taking;
 mod wiring;
 
-use crate::counts::{count_of, line_of};
+use crate::given::{count_of, table_of};
+use crate::lines::line_of;
 use calling::{MAX_CALLS, call};
 use mrpc_table::Bytes;
 use std::alloc::Global;
 use std::sync::Wait;
 use std::thread::Threads;
-use table_text::read_table;
 use taking::Found;
 
 // The table of the messages.
@@ -37,8 +37,6 @@ fn echoed<R: Threads + Wait + Sync>(rt: &R, alloc: Global, count: u32) -> Option
     if count > MAX_CALLS {
         return None;
     }
-    match read_table(alloc, TABLE) {
-        Ok(table) => call(rt, alloc, &table, count).ok(),
-        Err(_) => None,
-    }
+    let table = table_of(alloc, TABLE)?;
+    call(rt, alloc, &table, count)
 }

@@ -14,14 +14,14 @@ ghost use Rattle.mrpc_table.specs.Valid.{IsValid};
 
 pub(crate) mod work;
 
-use crate::counts::line_of;
+use crate::given::{named, table_of};
+use crate::lines::line_of;
 use mrpc_table::{Bytes, Table};
 use std::alloc::Global;
-use table_text::read_table;
 use work::{TABLE, Work};
 
 /// What a round does.
-#[derive(Clone, Copy, PartialEq, Eq)]
+#[derive(Clone, Copy)]
 enum Round {
     Steps,
     Calls,
@@ -49,18 +49,15 @@ pub(crate) fn told(alloc: Global, words: &[String]) -> Option<Bytes> {
     line_of(alloc, &[happenings as u64, frames as u64])
 }
 
-fn round_of(word: &str) -> Option<Round> {
-    match word {
-        "steps" => Some(Round::Steps),
-        "calls" => Some(Round::Calls),
-        "again" => Some(Round::Again),
-        _ => None,
-    }
-}
+const ROUNDS: [(&str, Round); 3] = [
+    ("steps", Round::Steps),
+    ("calls", Round::Calls),
+    ("again", Round::Again),
+];
 
 fn task_of(round: &str, calls: &str, rounds: &str) -> Option<Task> {
     Some(Task {
-        round: round_of(round)?,
+        round: named(&ROUNDS, round)?,
         calls: calls.parse().ok()?,
         rounds: rounds.parse().ok()?,
     })
@@ -76,28 +73,39 @@ fn asked(words: &[String]) -> Option<Task> {
 
 // What comes of a task; none where memory or a number runs out.
 fn carry_out(alloc: Global, task: Task) -> Option<Done> {
-    match read_table(alloc, TABLE) {
-        Ok(table) => carry_out_on(alloc, &table, task),
-        Err(_) => None,
-    }
+    let table = table_of(alloc, TABLE)?;
+    carry_out_on(alloc, &table, task)
 }
 
 fn carry_out_on(alloc: Global, table: &Table, task: Task) -> Option<Done>
     requires { IsValid table.now }
 {
     let mut work = Work::open(alloc, table)?;
-    work.attach_all()?;
-    if task.round != Round::Calls {
-        work.accept(task.calls)?;
-        work.judge()?;
-    }
-    for _ in 0..task.rounds {
-        one_round(&mut work, task)?;
-    }
+    do_all(&mut work, task)?;
     Some(Done {
         happenings: work.happenings(),
         frames: work.frames(),
     })
+}
+
+fn do_all(work: &mut Work, task: Task) -> Option<()> {
+    work.attach_all()?;
+    prepare(work, task)?;
+    for _ in 0..task.rounds {
+        one_round(work, task)?;
+    }
+    Some(())
+}
+
+// Lets the calls stand behind the chain, where a round doesn't send them.
+fn prepare(work: &mut Work, task: Task) -> Option<()> {
+    match task.round {
+        Round::Calls => Some(()),
+        Round::Steps | Round::Again => {
+            work.accept(task.calls)?;
+            work.judge()
+        }
+    }
 }
 
 fn one_round(work: &mut Work, task: Task) -> Option<()> {

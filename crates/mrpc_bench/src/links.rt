@@ -6,20 +6,66 @@
 //! It measures `link_queue`. A count that is missing or out of range, from 0 to 4294967295, or a link for which there is
 //! no memory ends it with status 1.
 
-mod passing;
-
-use crate::counts::{count_of, line_of};
+use crate::discard;
+use crate::given::count_of;
+use crate::lines::line_of;
+use link_queue::{QueueLink, open};
+use mrpc_base::{Link, MemLink};
 use mrpc_table::Bytes;
-use passing::{Handed, pass};
 use std::alloc::Global;
 use std::sync::Wait;
-use std::thread::Threads;
+use std::thread::{Threads, join};
 
-/// Passes as many frames on as the words ask for, and gives what is printed of it.
+// How many frames wait at most.
+const CAPACITY: u64 = 64;
+
+/// Passes as many frames on as the words ask for, and gives what is printed of it. Those for which no memory is found are
+/// left out.
 pub(crate) fn told<R>(rt: &R, alloc: Global, words: &[String]) -> Option<Bytes>
 where
     R: Threads + Wait + Sync,
 {
-    let Handed { count, sum } = pass(rt, alloc, count_of(words)?).ok()?;
-    line_of(alloc, &[count as u64, sum])
+    let inner = pass(rt, alloc, count_of(words)?)?;
+    line_of(
+        alloc,
+        &[inner.handed().len() as u64, sum_of(inner.handed())],
+    )
+}
+
+// The link in memory, once so many frames were passed on to it.
+fn pass<R: Threads + Wait + Sync>(rt: &R, alloc: Global, count: u32) -> Option<MemLink> {
+    let (link, writer) = open(rt, alloc, CAPACITY, new_link(alloc)).ok()?;
+    let (end, _) = join(rt, move || writer.run(), move || send_all(link, count));
+    Some(end.into_link())
+}
+
+fn new_link(alloc: Global) -> MemLink {
+    MemLink::new(
+        alloc,
+        Vec::new(alloc),
+        Vec::new(alloc),
+        Vec::new(alloc),
+        Vec::new(alloc),
+    )
+}
+
+// Sends frames that begin with their numbers, and closes the link.
+fn send_all<R: Wait>(mut link: QueueLink<R>, count: u32) {
+    let mut frame = [0; 64];
+    for number in 0..count {
+        frame[..4].copy_from_slice(&number.to_le_bytes());
+        let _ = link.send(&frame);
+    }
+    discard(link.close());
+}
+
+// The sum of the first bytes of frames.
+fn sum_of(frames: &[Vec<u8>]) -> u64 {
+    let mut sum = 0u64;
+    for frame in frames {
+        if let Some(first) = frame.first() {
+            sum = sum.wrapping_add(u64::from(*first));
+        }
+    }
+    sum
 }

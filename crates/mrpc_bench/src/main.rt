@@ -14,15 +14,18 @@
 
 mod apps;
 mod conn;
-mod counts;
+mod given;
+mod lines;
 mod links;
 mod ring;
 mod scenarios;
 mod serve;
 mod upgrade;
 
+use given::named;
 use mrpc_table::Bytes;
 use std::alloc::Global;
+use std::env::Env;
 use std::io::{Read, Write};
 use std::process::ExitCode;
 use std::sync::Wait;
@@ -31,16 +34,51 @@ use std::time::Clock;
 use std::{env, io};
 
 fn main(rt: HostRuntime) -> io::Result<ExitCode> {
+    let words = words_of(&rt)?;
+    let told = told_by(&rt, rt.alloc(), &words, &mut rt.stdin());
+    discard(words);
+    print(&mut rt.stdout(), told)
+}
+
+// The words of the command line.
+fn words_of<R: Env + AllocGlobal>(rt: &R) -> io::Result<Vec<String>> {
     let mut words = Vec::new(rt.alloc());
-    for word in env::args(&rt)? {
+    for word in env::args(rt)? {
         words.push(word)?;
     }
-    let Some(told) = told_by(&rt, rt.alloc(), &words, &mut rt.stdin()) else {
+    Ok(words)
+}
+
+// Writes what a part told, if it did, and gives the status.
+fn print<W: Write>(out: &mut W, told: Option<Bytes>) -> io::Result<ExitCode> {
+    let Some(told) = told else {
         return Ok(ExitCode::FAILURE);
     };
-    rt.stdout().write_all(told.as_slice())?;
+    out.write_all(told.as_slice())?;
     Ok(ExitCode::SUCCESS)
 }
+
+/// The parts.
+#[derive(Clone, Copy)]
+enum Part {
+    Apps,
+    Conn,
+    Links,
+    Ring,
+    Scenario,
+    Serve,
+    Upgrade,
+}
+
+const PARTS: [(&str, Part); 7] = [
+    ("apps", Part::Apps),
+    ("conn", Part::Conn),
+    ("links", Part::Links),
+    ("ring", Part::Ring),
+    ("scenario", Part::Scenario),
+    ("serve", Part::Serve),
+    ("upgrade", Part::Upgrade),
+];
 
 // What the part prints that the words name; none where they name none.
 fn told_by<R, I: Read>(rt: &R, alloc: Global, words: &[String], input: &mut I) -> Option<Bytes>
@@ -50,14 +88,17 @@ where
     let [_program, part, behind @ ..] = words else {
         return None;
     };
-    match part.as_str() {
-        "apps" => apps::told(rt, alloc, behind),
-        "conn" => conn::told(alloc, behind),
-        "links" => links::told(rt, alloc, behind),
-        "ring" => ring::told(rt, alloc, behind),
-        "scenario" => scenarios::told(alloc, behind, input),
-        "serve" => serve::told(rt, alloc, behind, input),
-        "upgrade" => upgrade::told(rt, alloc, behind),
-        _ => None,
+    match named(&PARTS, part.as_str())? {
+        Part::Apps => apps::told(rt, alloc, behind),
+        Part::Conn => conn::told(alloc, behind),
+        Part::Links => links::told(rt, alloc, behind),
+        Part::Ring => ring::told(rt, alloc, behind),
+        Part::Scenario => scenarios::told(alloc, behind, input),
+        Part::Serve => serve::told(rt, alloc, behind, input),
+        Part::Upgrade => upgrade::told(rt, alloc, behind),
     }
 }
+
+/// Values are handed over to be dropped here: what a drop comes to is proved in each function that has one. In this one it
+/// is one call.
+pub(crate) fn discard<T: Drop>(_value: T) {}

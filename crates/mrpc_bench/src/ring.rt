@@ -6,18 +6,15 @@
 //! It measures `shared_heap`, `descriptor_ring` and `untouched_copy`. A count that is missing or out of range, from 0 to
 //! 4294967293, or running out of memory ends it with status 1.
 
-ghost use Rattle.std.specs.Prelude.{◌<◌};
-ghost use Rattle.mrpc_table.specs.Valid.{IsValid};
-
 mod passing;
 
-use crate::counts::{count_of, line_of};
-use mrpc_table::{Bytes, Table};
+use crate::given::{count_of, table_of};
+use crate::lines::line_of;
+use mrpc_table::Bytes;
 use passing::{Passed, pass};
 use std::alloc::Global;
 use std::sync::Wait;
 use std::thread::Threads;
-use table_text::read_table;
 
 // The table of the messages.
 const TABLE: &[u8] = b"message M\nfield 1 plain uint64 n\nmethod 0 S Get M M\n";
@@ -36,26 +33,10 @@ fn passed<R: Threads + Wait + Sync>(rt: &R, alloc: Global, count: u32) -> Option
     if count > 4294967293 {
         return None;
     }
-    match read_table(alloc, TABLE) {
-        Ok(table) => passed_of(rt, alloc, &table, count),
-        Err(_) => None,
-    }
-}
-
-fn passed_of<R: Threads + Wait + Sync>(
-    rt: &R,
-    alloc: Global,
-    table: &Table,
-    count: u32,
-) -> Option<Passed>
-    requires few { count < 4294967294 }
-    requires valid { IsValid table.now }
-{
+    let table = table_of(alloc, TABLE)?;
     if table.messages.is_empty() {
         return None;
     }
-    match pass(rt, alloc, table, count) {
-        Ok(passed) if passed.copied >= passed.taken => Some(passed),
-        _ => None,
-    }
+    let passed = pass(rt, alloc, &table, count).ok()?;
+    (passed.copied >= passed.taken).then_some(passed)
 }

@@ -6,7 +6,9 @@
 //! It measures `scenario_reader` and the kit's `toml`. Words of no such form end it with status 1, and so does a text
 //! that says no plan, or that is no TOML.
 
-use crate::counts::line_of;
+use crate::discard;
+use crate::given::{named, text_of};
+use crate::lines::line_of;
 use mrpc_table::Bytes;
 use run_plan::{Plan, Role};
 use scenario_reader::read_scenario;
@@ -24,27 +26,34 @@ enum Form {
 
 /// Counts the lines of the programs of an input, and gives what is printed of it.
 pub(crate) fn told<I: Read>(alloc: Global, words: &[String], input: &mut I) -> Option<Bytes> {
-    let form = form_of(words)?;
-    let mut text = Vec::new(alloc);
-    input.read_to_end(&mut text).ok()?;
+    let form = named(&FORMS, words.first()?.as_str())?;
+    let text = text_of(alloc, input)?;
     let lines = lines_of(alloc, form, text.as_slice())?;
     line_of(alloc, &[lines as u64])
 }
 
-fn form_of(words: &[String]) -> Option<Form> {
-    match words.first()?.as_str() {
-        "plan" => Some(Form::Plan),
-        "toml" => Some(Form::Toml),
-        _ => None,
-    }
-}
+const FORMS: [(&str, Form); 2] = [("plan", Form::Plan), ("toml", Form::Toml)];
 
 // How many lines the programs of a text have; none where it isn't of the form.
 fn lines_of(alloc: Global, form: Form, text: &[u8]) -> Option<usize> {
     match form {
-        Form::Plan => Some(lines_in_plan(&read_scenario(alloc, text).ok()?)),
-        Form::Toml => lines_in_table(alloc, &table_from_slice(alloc, text).ok()?),
+        Form::Plan => lines_of_plan(alloc, text),
+        Form::Toml => lines_of_table(alloc, text),
     }
+}
+
+fn lines_of_plan(alloc: Global, text: &[u8]) -> Option<usize> {
+    let plan = read_scenario(alloc, text).ok()?;
+    let lines = lines_in_plan(&plan);
+    discard(plan);
+    Some(lines)
+}
+
+fn lines_of_table(alloc: Global, text: &[u8]) -> Option<usize> {
+    let table = table_from_slice(alloc, text).ok()?;
+    let lines = lines_in_table(alloc, &table);
+    discard(table);
+    lines
 }
 
 fn lines_in_plan(plan: &Plan) -> usize {

@@ -6,10 +6,13 @@
 //! It measures `scenario_run` and what that stands on. A text that says no plan ends it with status 1, and so do running
 //! out of memory and a link that fails.
 
+ghost use Rattle.std.specs.Prelude.{IfSome};
 ghost use Rattle.run_plan.specs.Plans.{IsPlan};
 
+use crate::discard;
+use crate::given::text_of;
 use mem_fabric::{ListedFaults, MemFabric};
-use mrpc_base::OpenGate;
+use mrpc_base::{Fabric, OpenGate};
 use mrpc_table::Bytes;
 use run_plan::Plan;
 use scenario_reader::read_scenario;
@@ -34,23 +37,50 @@ where
     if !words.is_empty() {
         return None;
     }
-    let mut text = Vec::new(alloc);
-    input.read_to_end(&mut text).ok()?;
-    let plan = read_scenario(alloc, text.as_slice()).ok()?;
-    served(rt, alloc, &plan)
+    let text = text_of(alloc, input)?;
+    let plan = plan_of(alloc, text.as_slice())?;
+    discard(text);
+    let told = run_in_memory(rt, alloc, &plan);
+    discard(plan);
+    told
 }
 
-// What the run of a plan tells; none where no memory was found or a link failed.
-fn served<R: Threads + Wait + Sync + Clock>(rt: &R, alloc: Global, plan: &Plan) -> Option<Bytes>
+// The plan that a text says; none where it says none, or no memory was found.
+fn plan_of(alloc: Global, text: &[u8]) -> Option<Plan>
+    ensures { IfSome result IsPlan }
+{
+    match read_scenario(alloc, text) {
+        Ok(plan) => Some(plan),
+        Err(_) => None,
+    }
+}
+
+fn run_in_memory<R>(rt: &R, alloc: Global, plan: &Plan) -> Option<Bytes>
+where
+    R: Threads + Wait + Sync + Clock,
     requires { IsPlan plan.now }
 {
-    let mut fabric = MemFabric::new(rt, alloc, no_faults(alloc));
+    served(rt, alloc, plan, MemFabric::new(rt, alloc, no_faults(alloc)))
+}
+
+// What the run of a plan over links of a fabric tells; none where no memory was found or a link failed.
+fn served<R, F>(rt: &R, alloc: Global, plan: &Plan, mut fabric: F) -> Option<Bytes>
+where
+    R: Threads + Wait + Sync + Clock,
+    F: Fabric + Drop,
+    requires { IsPlan plan.now }
+{
     let clock = SystemClock::new(rt);
+    let run = serve_plan(rt, alloc, plan, &mut fabric, &clock, &OpenGate).ok()?;
+    told_of(run)
+}
+
+fn told_of(run: Run) -> Option<Bytes> {
     let Run {
         text,
         totals: _totals,
         failed,
-    } = serve_plan(rt, alloc, plan, &mut fabric, &clock, &OpenGate).ok()?;
+    } = run;
     if failed { None } else { Some(text) }
 }
 

@@ -1,4 +1,4 @@
-// A client whose calls are echoed.
+//! A client whose calls are echoed.
 ghost use Rattle.std.specs.Prelude.{◌≡◌, ◌≤◌, ◌<◌, ◌+◌, [], All, IfOk, OnOk, length};
 ghost use Rattle.std.specs.Thread.{IsSync};
 ghost use Rattle.mrpc_table.specs.Valid.{IsValid};
@@ -8,8 +8,8 @@ ghost use Rattle.mrpc_bench.specs.Services.{IsUnused};
 ghost use Rattle.mrpc_bench.specs.declared.apps.calling.TheConstants.{MAX_CALLS};
 ghost use Rattle.mrpc_bench.specs.declared.apps.wiring.TheConstants.{CAPACITY, WORDS};
 
-use crate::apps::plain_service::{Service, serve};
-use crate::apps::taking::{Found, Stopped};
+use crate::apps::plain_service::Service;
+use crate::apps::taking::Found;
 use crate::apps::wiring::{Wired, open_ports};
 use app_program::{Program, ProgramLine};
 use app_stub::{AppEnd, AppPort, client, echo};
@@ -26,19 +26,23 @@ pub(crate) const MAX_CALLS: u32 = 500_000;
 // hand, so no word is stored again before it was copied.
 const MESSAGES: u32 = 256;
 
-// Has so many calls of a client echoed, and gives what came of the replies.
+// Has so many calls of a client echoed, and gives what came of the replies; none where one of them found no memory,
+// which ends all.
 pub(crate) fn call<R: Threads + Wait + Sync>(
     rt: &R,
     alloc: Global,
     table: &Table,
     count: u32,
-) -> Result<Found, Memory>
+) -> Option<Found>
     requires valid { IsValid table.now }
     requires few { count ≤ MAX_CALLS }
 {
-    let program = client_program(alloc, count)?;
-    let wired = open_ports(alloc)?;
-    in_three_threads(rt, alloc, table, &program, wired, count).ok_or(Memory)
+    let Ok(program) = client_program(alloc, count) else {
+        return None;
+    };
+    let stop = RunFlag::new(alloc).ok()?;
+    let wired = open_ports(rt, alloc, &stop).ok()?;
+    in_three_threads(rt, alloc, table, &program, &stop, wired, count)
 }
 
 // One more line of a client.
@@ -69,12 +73,12 @@ fn client_program(alloc: Global, count: u32) -> Result<Program, Memory>
     Ok(program)
 }
 
-// None where one of them found no memory, which ends all.
 fn in_three_threads<R: Threads + Wait + Sync>(
     rt: &R,
     alloc: Global,
     table: &Table,
     program: &Program,
+    stop: &RunFlag,
     wired: Wired,
     count: u32,
 ) -> Option<Found>
@@ -91,21 +95,23 @@ fn in_three_threads<R: Threads + Wait + Sync>(
         echo: echo_port,
         service,
     } = wired;
-    let (end, (echoed, served)) = join(
+    let (called, (echoed, served)) = join(
         rt,
-        move || -> AppEnd
+        move || -> bool
             requires { IsSync R.row × IsNew port × IsClientProgram port.writer.heap.words program.now }
-        { client(rt, program, port) },
-        move || -> (AppEnd, Result<Found, Stopped>)
+        { is_whole(client(rt, program, port)) },
+        move || -> (bool, Option<Found>)
             requires { IsSync R.row × IsValid table.now × IsNew echo_port × (echo_port.writer.heap.words ≡ WORDS)
                 × (echo_port.reader.heap.words ≡ WORDS) × (echo_port.capacity ≡ CAPACITY)
                 × (count ≤ MAX_CALLS) × IsUnused service }
-        { echo_and_serve(rt, alloc, table, echo_port, service, count) },
+        { echo_and_serve(rt, alloc, table, echo_port, stop, service, count) },
     );
-    if end.sent.is_none() || echoed.sent.is_none() {
-        return None;
-    }
-    served.ok()
+    if called && echoed { served } else { None }
+}
+
+// Whether an application came to its end, and wasn't stopped.
+fn is_whole(end: AppEnd) -> bool {
+    end.sent.is_some()
 }
 
 fn echo_and_serve<R: Threads + Wait + Sync>(
@@ -113,9 +119,10 @@ fn echo_and_serve<R: Threads + Wait + Sync>(
     alloc: Global,
     table: &Table,
     port: AppPort<RunFlag>,
+    stop: &RunFlag,
     service: Service,
     count: u32,
-) -> (AppEnd, Result<Found, Stopped>)
+) -> (bool, Option<Found>)
     requires valid { IsValid table.now }
     requires new { IsNew port }
     requires words { (port.writer.heap.words ≡ WORDS) × (port.reader.heap.words ≡ WORDS) }
@@ -125,12 +132,12 @@ fn echo_and_serve<R: Threads + Wait + Sync>(
 {
     join(
         rt,
-        move || -> AppEnd
+        move || -> bool
             requires { IsSync R.row × IsValid table.now × IsNew port × (port.writer.heap.words ≡ WORDS)
                 × (port.reader.heap.words ≡ WORDS) × (port.capacity ≡ CAPACITY) }
-        { echo(rt, alloc, table, port) },
-        move || -> Result<Found, Stopped>
+        { is_whole(echo(rt, alloc, table, port)) },
+        move || -> Option<Found>
             requires { IsSync R.row × (count ≤ MAX_CALLS) × IsUnused service }
-        { serve(rt, service, count) },
+        { service.serve(rt, stop, count) },
     )
 }

@@ -1,14 +1,11 @@
-// What a plain service takes of an application.
+//! What a plain service takes of an application.
 ghost use Rattle.std.specs.Prelude.{◌≡◌};
 
-use descriptor_ring::{NumberReceiver, NumberTaken, Receiver, Taken};
+use crate::discard;
+use descriptor_ring::{Receiver, Taken};
 use std::sync::Wait;
 use std::thread;
 use stop_flag::{RunFlag, StopFlag};
-
-// The stop flag was seen set.
-#[derive(Drop)]
-pub(crate) struct Stopped;
 
 // What was taken.
 #[derive(Clone, Copy)]
@@ -29,44 +26,44 @@ enum Came {
 #[derive(Drop)]
 pub(crate) struct Taking {
     pub(crate) calls: Receiver,
-    pub(crate) reclaims: NumberReceiver,
     pub(crate) found: Found,
-    pub(crate) stop: RunFlag,
 }
 
 impl Taking {
-    pub(crate) fn new(calls: Receiver, reclaims: NumberReceiver, stop: RunFlag) -> Taking
+    pub(crate) fn new(calls: Receiver) -> Taking
         ensures calls { result.calls ≡ calls }
     {
         let found = Found {
             calls: 0,
             numbers: 0,
         };
-        Taking {
-            calls,
-            reclaims,
-            found,
-            stop,
-        }
+        Taking { calls, found }
     }
 
-    // Takes a call and a block that is given back, where they wait; where neither does, it gives the processor away.
-    // True once both rings are closed.
-    pub(crate) fn turn<R: Wait>(&mut self, rt: &R) -> Result<bool, Stopped> {
-        let (call, block) = (self.take_call(rt), self.take_block(rt));
-        if self.stop.is_set() {
-            return Err(Stopped);
+    // Takes a call, where one waits; where none does, it gives the processor away. True once the ring is closed; none
+    // once the flag is set.
+    pub(crate) fn turn<R: Wait>(&mut self, rt: &R, stop: &RunFlag) -> Option<bool> {
+        let came = self.take_call(rt);
+        if stop.is_set() {
+            return None;
         }
-        match (call, block) {
-            (Came::Closing, Came::Closing) => return Ok(true),
-            (Came::Item, _) | (_, Came::Item) => {}
-            _ => thread::yield_now(),
+        match came {
+            Came::Closing => return Some(true),
+            Came::Item => {}
+            Came::Nothing => thread::yield_now(),
         }
-        Ok(false)
+        Some(false)
     }
 
     fn take_call<R: Wait>(&mut self, rt: &R) -> Came {
-        match self.calls.take(rt) {
+        let taken = self.calls.take(rt);
+        let came = self.count(&taken);
+        discard(taken);
+        came
+    }
+
+    fn count(&mut self, taken: &Taken) -> Came {
+        match taken {
             Taken::Item(call) => {
                 self.found.calls = self.found.calls.wrapping_add(1);
                 self.found.numbers = self.found.numbers.wrapping_add(u64::from(call.number));
@@ -74,15 +71,6 @@ impl Taking {
             }
             Taken::Closed => Came::Closing,
             Taken::Empty(_) => Came::Nothing,
-        }
-    }
-
-    // No application has a block to give back here, so only the closing comes.
-    fn take_block<R: Wait>(&mut self, rt: &R) -> Came {
-        match self.reclaims.take(rt) {
-            NumberTaken::Item(_) => Came::Item,
-            NumberTaken::Closed => Came::Closing,
-            NumberTaken::Empty(_) => Came::Nothing,
         }
     }
 }

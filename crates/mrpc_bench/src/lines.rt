@@ -1,12 +1,7 @@
-//! The counts that parts are given, and lines of numbers that they print.
+//! Lines of numbers, which parts print.
 
 use mrpc_table::{Bytes, Memory};
 use std::alloc::Global;
-
-/// The count that the first word says; none where there is no word, or it says none.
-pub(crate) fn count_of(words: &[String]) -> Option<u32> {
-    words.first()?.as_str().parse().ok()
-}
 
 /// A line of numbers; none where no memory was found.
 pub(crate) fn line_of(alloc: Global, numbers: &[u64]) -> Option<Bytes> {
