@@ -1,4 +1,4 @@
--- Frames of a stream that are shown, one behind another.
+-- The code's own: frames of a stream that are shown, one behind another.
 use Rattle.std.specs.Prelude.{ℕ, List, Option}
 use Rattle.std.specs.Io.KnownBytes.{Appends}
 use Rattle.mrpc_table.specs.declared.table.Table.{Table}

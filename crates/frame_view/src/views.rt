@@ -19,7 +19,7 @@ use mrpc_table::{Bytes, Memory, Table};
 use std::alloc::Global;
 use wire_decode::Spare;
 
-/// How many bytes of text are gathered at the least before they are written.
+// How many bytes of text are gathered at the least before they are written.
 const PIECE: usize = 65_536;
 
 /// Why no more frames are shown.

@@ -1,18 +1,33 @@
 // How many calls a run tells of.
 
-use mrpc_table::{Decimal, number_of};
+use memchr::memrchr;
+use mrpc_table::{Decimal, cut, is_word, number_of};
 
 /// The number of calls that were taken, where the last line of a text is that of the counts of a run or of a drill.
 pub(crate) fn calls_told(text: &[u8]) -> Option<u64> {
-    let mut words = last_line(text).split(|byte| *byte == b' ');
-    let place = match words.next() {
-        Some(b"totals") => 0,
-        Some(b"drill") => 2,
-        _ => return None,
+    let (name, words) = cut(last_line(text), b' ')?;
+    let counts = if is_word(name, b"totals") {
+        words
+    } else if is_word(name, b"drill") {
+        behind_word(behind_word(words)?)?
+    } else {
+        return None;
     };
-    match number_of(words.nth(place)?) {
+    match number_of(first_word(counts)) {
         Some(Decimal::Small(calls)) => Some(calls),
         _ => None,
+    }
+}
+
+fn behind_word(words: &[u8]) -> Option<&[u8]> {
+    let (_, behind) = cut(words, b' ')?;
+    Some(behind)
+}
+
+fn first_word(words: &[u8]) -> &[u8] {
+    match cut(words, b' ') {
+        Some((word, _)) => word,
+        None => words,
     }
 }
 
@@ -21,7 +36,7 @@ fn last_line(text: &[u8]) -> &[u8] {
     let Some(lines) = text.strip_suffix(b"\n") else {
         return b"";
     };
-    match lines.iter().rposition(|byte| *byte == b'\n') {
+    match memrchr(b'\n', lines) {
         Some(before) => &lines[before + 1..],
         None => lines,
     }

@@ -23,7 +23,7 @@ use mrpc_table::{Bytes, MAX_LOADS, Memory, Table, Tree};
 use std::alloc::Global;
 use wire_decode::Spare;
 
-/// Where the sender's connection, and where the number, stands in a header.
+// Where the sender's connection, and where the number, stands in a header.
 const CONN_PLACE: u64 = 8;
 
 const NUMBER_PLACE: u64 = 12;

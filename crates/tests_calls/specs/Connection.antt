@@ -1,4 +1,4 @@
--- What holds of a connection with its heap and its tickets, whatever it was asked.
+-- The code's own: what holds of a connection with its heap and its tickets, whatever it was asked.
 use Rattle.std.specs.Prelude.{◌≡◌, ℕ, ◌<◌, ◌^◌, ◌+◌, All, length}
 use Rattle.call_history.specs.Behind.{taken}
 use Rattle.conn_core.specs.Connections.{Connection, behind}

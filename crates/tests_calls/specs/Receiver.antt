@@ -1,4 +1,4 @@
--- What holds of a receiver with its heap, whatever it was asked.
+-- The code's own: what holds of a receiver with its heap, whatever it was asked.
 use Rattle.std.specs.Prelude.{◌≡◌, ℕ, ◌+◌, ◌*◌, ◌≤◌}
 use Rattle.mrpc_base.specs.Heap.{Heap}
 use Rattle.mrpc_table.specs.Valid.{IsValid}

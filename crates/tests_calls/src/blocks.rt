@@ -4,7 +4,7 @@ use receive_heap::Extents;
 use std::alloc::Global;
 use std::process::Abort;
 
-/// The orders of eight blocks.
+// The orders of eight blocks.
 const ORDERS: u32 = 40320;
 
 // Eight blocks of two words, which fill a heap.

@@ -7,13 +7,13 @@ use std::sync::atomic::{AtomicBool, AtomicU64, Ordering};
 use std::sync::{Mutex, Wait};
 use std::thread;
 
-/// How many turns a call waits at most for what is to come.
+// How many turns a call waits at most for what is to come.
 const TURNS: u64 = 10_000_000;
 
-/// How many turns a call lasts for which others are to wait.
+// How many turns a call lasts for which others are to wait.
 const LONG: u64 = 100_000;
 
-/// How many calls in a row there are for one connection at most.
+// How many calls in a row there are for one connection at most.
 const MOST_IN_A_ROW: u64 = 10_000_000;
 
 /// Whether a count rises above a value within so many turns, in each of which the processor is given away.
@@ -93,7 +93,7 @@ impl Gate for CountingGate {
     }
 }
 
-/// The calls of a gate, by the connections that they were for.
+// The calls of a gate, by the connections that they were for.
 #[derive(Drop)]
 struct Calls {
     conns: Vec<u32>,

@@ -13,7 +13,7 @@ use std::process::Abort;
 use std::sync::Wait;
 use std::thread::Threads;
 
-/// The keys of the whole, which each scenario begins with.
+// The keys of the whole, which each scenario begins with.
 const TOP: &str = "mrpc = 1\nservice = \"S\"\nschema = \"\"\"\nsyntax = \"proto3\";\n\
     message M { uint64 a = 1; }\nservice S { rpc Get (M) returns (M); }\n\"\"\"\n";
 

@@ -11,7 +11,7 @@ use std::process::Abort;
 use std::sync::Wait;
 use std::thread::Threads;
 
-/// Two clients, each of which calls an echo once.
+// Two clients, each of which calls an echo once.
 const TWO_CALLS: &str =
     "app = [{conn = 1, role = \"client\", program = [\"store 2 150\", \"submit 0 2\"]},\n\
     {conn = 2, role = \"echo\"}, {conn = 4, role = \"echo\"},\n\
@@ -65,7 +65,7 @@ fn one_worker_gives_rounds_in_turn(rt: HostRuntime) {
     assert_turns(&rt, rt.alloc());
 }
 
-/// A client and an echo of weights 3 and 1.
+// A client and an echo of weights 3 and 1.
 const WEIGHTED: &str =
     "weighted = true\napp = [{conn = 1, role = \"client\", weight = 3, program = []},\n\
     {conn = 2, role = \"echo\"}]\nlink = [{a = 1, b = 2}]\n";

@@ -11,7 +11,7 @@ use mrpc_base::{Sink, write_all};
 use mrpc_table::{Bytes, Memory};
 use std::alloc::Global;
 
-/// How many bytes of a line of the input are shown beside its fault.
+// How many bytes of a line of the input are shown beside its fault.
 const WIDTH: usize = 100;
 
 /// Writes the line of a fault at a place or on a line, and on `error` what stands against the text there.

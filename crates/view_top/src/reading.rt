@@ -10,7 +10,7 @@ use std::alloc::{AllocError, Global};
 /// The most bytes that an input may have.
 pub(crate) const INPUT_LIMIT: usize = 16_777_216;
 
-/// How many bytes are asked for in one read, at the most.
+// How many bytes are asked for in one read, at the most.
 const PIECE: usize = 65_536;
 
 /// How reading an input ended.

@@ -81,7 +81,7 @@ fn show_input<S: Source, K: Sink, E: Sink>(
     }
 }
 
-/// A view of the program.
+// A view of the program.
 #[derive(Clone, Copy)]
 enum View {
     Frames,

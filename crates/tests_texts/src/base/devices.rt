@@ -1,3 +1,5 @@
+//! Devices in memory: sources, sinks, links, words with races, and tickets.
+
 use crate::discard;
 use mrpc_base::{
     Came, Got, Handed, Link, MemLink, MemSink, MemSource, PlainTickets, PlainWords, Room, Sink,

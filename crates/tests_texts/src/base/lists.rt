@@ -1,3 +1,5 @@
+//! Lists that grow.
+
 use mrpc_table::Bytes;
 use std::alloc::Global;
 use std::process::Abort;

@@ -1,3 +1,5 @@
+//! The wheel of connections: visits by weight, connections that leave, and faults of weights.
+
 use crate::discard;
 use mrpc_base::ReadyOrder;
 use qos_order::{Account, Ending, Weight, WeightFault, Weighted, Weights, Wheel};

@@ -1,3 +1,5 @@
+//! Totals that are added up, and their text.
+
 use crate::discard;
 use std::alloc::Global;
 use std::process::Abort;

@@ -1,3 +1,5 @@
+//! Frames that a link writes into its sink.
+
 use crate::discard;
 use frame_transport::ByteLink;
 use mrpc_base::{Came, Handed, Link, MemSink};

@@ -1,3 +1,5 @@
+//! Two tables whose texts are compared, under a hello of version 1.
+
 use crate::discard;
 use crate::tables::texts::table;
 use mrpc_table::Name;

@@ -1,3 +1,5 @@
+//! Tables: their text, read and written, and a tree that fits one.
+
 ghost use Rattle.mrpc_table.specs.Valid.{IsValid};
 
 use crate::discard;

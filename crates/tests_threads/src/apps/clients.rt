@@ -1,4 +1,5 @@
-// Clients: one call, and the stop flag at each place where a client waits.
+//! Clients: one call, and the stop flag at each place where a client waits.
+
 ghost use Rattle.app_program.specs.Programs.{IsClientProgram};
 ghost use Rattle.tests_threads.specs.declared.apps.port.TheConstants.{WORDS};
 

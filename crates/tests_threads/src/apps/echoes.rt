@@ -1,4 +1,5 @@
-// Echoes: one reply, a request whose copy has too many loads, and the stop flag.
+//! Echoes: one reply, a request whose copy has too many loads, and the stop flag.
+
 ghost use Rattle.std.specs.Prelude.{◌≤◌};
 
 use crate::apps::port::{CLOSED, Giving, Taking, open};

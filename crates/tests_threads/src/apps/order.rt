@@ -1,4 +1,5 @@
-// An echo beside a service that stores to a block as soon as it is given back: what a reply says was copied before.
+//! An echo beside a service that stores to a block as soon as it is given back: what a reply says was copied before.
+
 use crate::apps::port::{App, Giving, Taking, open};
 use std::alloc::Global;
 use std::process::Abort;

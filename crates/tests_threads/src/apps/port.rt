@@ -1,4 +1,5 @@
-// A port, taken apart: the application's side, what the service gives through it, and what it takes.
+//! A port, taken apart: the application's side, what the service gives through it, and what it takes.
+
 ghost use Rattle.std.specs.Prelude.{◌≡◌, ◌≤◌, []};
 ghost use Rattle.app_program.specs.Programs.{IsClientProgram, IsServerProgram};
 ghost use Rattle.descriptor_ring.specs.Rings.{IsOf};

@@ -1,4 +1,5 @@
-// Programs of a few lines.
+//! Programs of a few lines.
+
 ghost use Rattle.std.specs.Prelude.{◌≡◌, ◌≤◌, ◌+◌, All, length};
 ghost use Rattle.app_program.specs.Programs.{IsClientLine, IsClientProgram, IsServerProgram, line_stores, stores_of};
 ghost use Rattle.tests_threads.specs.declared.apps.port.TheConstants.{WORDS};

@@ -1,4 +1,5 @@
-// Servers.
+//! Servers.
+
 use crate::apps::port::{CLOSED, Taking, open};
 use crate::apps::programs::one_reply;
 use std::process::Abort;

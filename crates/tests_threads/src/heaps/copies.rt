@@ -1,4 +1,5 @@
-// Copies of a message to which a writer stores meanwhile.
+//! Copies of a message to which a writer stores meanwhile.
+
 use graph_copy::CopyResult;
 use graph_form::Reason;
 use mrpc_base::Stores;

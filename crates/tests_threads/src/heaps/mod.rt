@@ -1,4 +1,5 @@
-// What threads share: heaps, rings, quotas, and copies of what is stored meanwhile.
+//! What threads share: heaps, rings, quotas, and copies of what is stored meanwhile.
+
 mod copies;
 mod notes;
 mod quotas;

@@ -1,4 +1,5 @@
-// A heap, and the notes of what was stored to it.
+//! A heap, and the notes of what was stored to it.
+
 ghost use Rattle.std.specs.Prelude.{◌≡◌, []};
 
 use crate::discard;

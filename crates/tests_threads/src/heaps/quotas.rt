@@ -1,4 +1,5 @@
-// Quotas whose tickets are drawn from several seats.
+//! Quotas whose tickets are drawn from several seats.
+
 ghost use Rattle.std.specs.Prelude.{◌≡◌, ◌≤◌, ◌+◌, length};
 
 use crate::discard;

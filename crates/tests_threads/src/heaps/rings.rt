@@ -1,4 +1,5 @@
-// Rings of numbers and of descriptors, full, empty and closed. The program passes items from thread to thread.
+//! Rings of numbers and of descriptors, full, empty and closed. The program passes items from thread to thread.
+
 ghost use Rattle.std.specs.Prelude.{◌≡◌, ◌≤◌, ◌<◌, ◌+◌, [], length};
 ghost use Rattle.descriptor_ring.specs.Rings.{IsOf};
 

@@ -1,4 +1,5 @@
-// Queues and links between threads.
+//! Queues and links between threads.
+
 mod queues;
 mod talks;
 mod writers;

@@ -1,4 +1,5 @@
-// Queues, full and with places that are kept free.
+//! Queues, full and with places that are kept free.
+
 ghost use Rattle.std.specs.Prelude.{◌≡◌};
 ghost use Rattle.one_way_queue.specs.Ends.{producer_queue, consumer_queue, AreEnds};
 

@@ -1,4 +1,5 @@
-// A talk over a link of any kind.
+//! A talk over a link of any kind.
+
 use mrpc_base::{Came, Handed, Link};
 use std::sync::Wait;
 use std::thread;

@@ -1,4 +1,5 @@
-// A link over a queue, and the writer that passes its frames on.
+//! A link over a queue, and the writer that passes its frames on.
+
 ghost use Rattle.std.specs.Prelude.{◌≡◌};
 
 use crate::discard;

@@ -1,4 +1,5 @@
-// Pools of workers: a flag that is set, turns, and workers with nothing to do.
+//! Pools of workers: a flag that is set, turns, and workers with nothing to do.
+
 ghost use Rattle.std.specs.Prelude.{◌≡◌, ◌≤◌};
 
 use std::alloc::Global;

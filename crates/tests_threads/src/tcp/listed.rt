@@ -1,4 +1,5 @@
-// A link over a socket whose answers are listed.
+//! A link over a socket whose answers are listed.
+
 use crate::discard;
 use crate::tcp::listed_socket::ListedSocket;
 use mrpc_base::{Came, Handed, Link};

@@ -1,4 +1,5 @@
-// A socket in memory whose answers are listed.
+//! A socket in memory whose answers are listed.
+
 ghost use Rattle.std.specs.Prelude.{◌≡◌, ◌≢◌, ◌<◌, ◌≤◌, ◌++◌, [], length, take};
 ghost use Rattle.mrpc_base.specs.Linking.{OnCame, OnNoneCame};
 ghost use Rattle.tcp_fabric.specs.Sockets.{OnWrote, OnNoneWrote};

@@ -1,4 +1,5 @@
-// Links over TCP, and a link over a socket whose answers are listed.
+//! Links over TCP, and a link over a socket whose answers are listed.
+
 mod listed;
 mod listed_socket;
 mod over_tcp;

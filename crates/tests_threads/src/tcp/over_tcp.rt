@@ -1,4 +1,5 @@
-// Over the system's TCP.
+//! Over the system's TCP.
+
 use crate::discard;
 use mrpc_base::{Came, Fabric, Handed, Link, OpenFault};
 use std::alloc::Global;
